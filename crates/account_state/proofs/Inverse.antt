@@ -1,0 +1,181 @@
+-- A state that passes every check is the written form of its reading.
+-- Assumes nothing.
+use mathlib.Core.Path.{_≡_, refl, sym, ap, _∙_}
+use mathlib.Core.List.{List, [], _∷_, _++_, append-assoc, append-nil}
+use Prim.Native.Nat.{ℕ, zero, suc, _+_, _^_, _≤_, _<_}
+use native.Mathlib.Omega.{arith}
+use borrow.Author.Tests.{leb-true, eqb-true}
+use lib.ListN.{length, take, drop, length-append, take-append-drop}
+use lib.Seq.{take-length}
+use Rattle.octets.specs.Le.{numberAt, Bytes}
+use Rattle.octets.specs.Table.{numbers, numbersAt}
+use Rattle.octets.proofs.LeLaws.{number-lt, bytes-drop}
+use Rattle.octets.proofs.TableLaws.{table-back}
+use Rattle.octets.proofs.Parts.{join, part-length}
+use Rattle.protocol.specs.Rows.{Hold}
+use Rattle.protocol.proofs.Hold.{hold-split}
+use Rattle.account_state.specs.Reading.{EntryReading, StateReading, stateMagic, entrySize, entryHead, entryLengths, entryBytes, entriesBytes, headNumbers, stateHead, stateBytes, lengthOf, slotOf, keyLengthOf, auxLengthOf, entryOf, entriesOf, stateReading, EntryTyped, EntriesTyped, StateTyped}
+use Rattle.account_state.specs.State.{headRows, layoutRows, fieldRows, entryRows, entriesRows, behind, endRows, tailRows, stateRows}
+
+-- what an entry that passes says of its lengths
+record Lengths (e : List ℕ) : Type 0 where
+  sum : lengthOf e ≡ 48 + keyLengthOf e + auxLengthOf e
+  inside : lengthOf e ≤ length e
+
+lengths : (e : List ℕ) (least : ℕ) → Hold (entryRows e least) → Lengths e
+unfolding entryRows layoutRows
+lengths e least h = record { sum = eqb-true _ _ (h .1 .0); inside = leb-true _ _ (h .1 .1 .0) }
+
+module _ (e : List ℕ) (b : Bytes e) (z : Lengths e) where
+  abbrev k : ℕ
+  k = keyLengthOf e
+
+  abbrev a : ℕ
+  a = auxLengthOf e
+
+  -- an entry's bytes, from its fields
+  entry-back : entryBytes (entryOf e) ≡ take (lengthOf e) e
+  unfolding entryBytes entryOf entryHead entryLengths numbersAt
+  entry-back =
+      let s = z .sum in
+      let i = z .inside in
+      let head = table-back (2 ∷ 2 ∷ 2 ∷ 2 ∷ 2 ∷ 1 ∷ 1 ∷ []) e 0 b (omega arith) in
+      let tail = table-back (2 ∷ 2 ∷ []) e 44 b (omega arith) in
+      rw (
+        part-length e 48 k (omega arith),
+        part-length e (48 + k) a (omega arith),
+        ← s,
+        head,
+        tail,
+        join e 0 12 32 12 refl,
+        join e 0 44 4 44 refl,
+        join e 0 48 k 48 refl,
+        join e 0 (48 + k) a (48 + k) (omega arith),
+      )
+      (ap (λ (n : ℕ). take n e) (sym s))
+
+  entry-typed : EntryTyped (entryOf e)
+  unfolding entryOf
+  entry-typed =
+      let s = z .sum in
+      let i = z .inside in
+      let lk = part-length e 48 k (omega arith) in
+      let la = part-length e (48 + k) a (omega arith) in
+      let small = number-lt e 0 2 b in
+      record {
+        slot = number-lt e 2 2 b;
+        algorithm = number-lt e 4 2 b;
+        capabilities = number-lt e 6 2 b;
+        weight = number-lt e 8 2 b;
+        hashType = number-lt e 10 1 b;
+        abi = number-lt e 11 1 b;
+        codeHash = part-length e 12 32 (omega arith);
+        size = omega arith;
+      }
+
+-- entries that pass are written back, and what follows them is left
+entries-back : (n : ℕ) (e : List ℕ) (least : ℕ) → Bytes e → Hold (entriesRows n e least)
+    → (entriesBytes (entriesOf n e) ++ behind n e ≡ e) × EntriesTyped (entriesOf n e)
+unfolding entriesBytes entriesOf entriesRows behind
+entries-back zero e least b h = (refl, tt)
+entries-back (suc n) e least b h =
+    let p = hold-split (entryRows e least) _ h in
+    let z = lengths e least (p .0) in
+    let r = entries-back n (drop (lengthOf e) e) _ (bytes-drop (lengthOf e) e b) (p .1) in
+    (append-assoc (entryBytes (entryOf e)) _ _ ∙ rw (r .0, entry-back e b z) (take-append-drop (lengthOf e) e), (entry-typed e b z, r .1))
+
+-- and each of their keys has 32 bytes
+abbrev pub Keys : List EntryReading → Type 0
+Keys [] = Unit {0}
+Keys (e ∷ es) = (length (e .key) ≡ 32) × Keys es
+
+entry-key : (e : List ℕ) (least : ℕ) → Hold (entryRows e least) → length (entryOf e .key) ≡ 32
+unfolding entryOf entryRows fieldRows
+entry-key e least h =
+    let z = lengths e least h in
+    let s = z .sum in
+    let i = z .inside in
+    let k : keyLengthOf e ≡ 32 = eqb-true _ _ (hold-split (layoutRows e least) (fieldRows e) h .1 .1 .1 .1 .1 .1 .0) in
+    part-length e 48 (keyLengthOf e) (omega arith) ∙ k
+
+entries-keys : (n : ℕ) (e : List ℕ) (least : ℕ) → Hold (entriesRows n e least) → Keys (entriesOf n e)
+unfolding entriesOf entriesRows
+entries-keys zero e least h = tt
+entries-keys (suc n) e least h =
+    let p = hold-split (entryRows e least) (entriesRows n (drop (lengthOf e) e) (slotOf e + 1)) h in
+    (entry-key e least (p .0), entries-keys n (drop (lengthOf e) e) (slotOf e + 1) (p .1))
+
+pub length-entries : (n : ℕ) (e : List ℕ) → length (entriesOf n e) ≡ n
+unfolding entriesOf
+length-entries zero e = refl
+length-entries (suc n) e = ap suc (length-entries n (drop (lengthOf e) e))
+
+-- what a header that passes says
+record Head (s : List ℕ) : Type 0 where
+  present : 32 ≤ length s
+  magic : numberAt s 0 4 ≡ stateMagic
+  version : numberAt s 4 1 ≡ 1
+  size : numberAt s 6 2 ≡ 32
+  zeroByte : numberAt s 23 1 ≡ 0
+
+head : (s : List ℕ) → Hold (headRows s) → Head s
+unfolding headRows
+head s h =
+    record {
+      present = leb-true _ _ (h .0);
+      magic = eqb-true _ _ (h .1 .1 .0);
+      version = eqb-true _ _ (h .1 .1 .1 .0);
+      size = eqb-true _ _ (h .1 .1 .1 .1 .1 .0);
+      zeroByte = eqb-true _ _ (h .1 .1 .1 .1 .1 .1 .0);
+    }
+
+nothing : (l : List ℕ) → length l ≡ 0 → l ≡ []
+nothing [] e = refl
+nothing (x ∷ l) e = absurd (omega arith)
+
+module _ (s : List ℕ) (b : Bytes s) (h : Hold (stateRows s)) where
+  abbrev n : ℕ
+  n = numberAt s 22 1
+
+  pub parts : Hold (headRows s) × (Hold (entriesRows n (drop 32 s) 0) × Hold (tailRows s n (drop 32 s)))
+  unfolding stateRows
+  parts = let p = hold-split (headRows s) _ h in (p .0, hold-split (entriesRows n (drop 32 s) 0) _ (p .1))
+
+  -- no byte follows the last entry
+  no-tail : behind n (drop 32 s) ≡ []
+  unfolding tailRows endRows
+  no-tail = nothing _ (eqb-true _ 0 (parts .1 .1 .0))
+
+  pub state-back : stateBytes (stateReading s) ≡ s
+  unfolding stateBytes stateReading stateHead headNumbers numbersAt
+  state-back =
+      let z = head s (parts .0) in
+      let l = z .present in
+      let r = entries-back n (drop 32 s) 0 (bytes-drop 32 s b) (parts .1 .0) in
+      let t = rw (z .magic, z .version, z .size, z .zeroByte) at (table-back (4 ∷ 1 ∷ 1 ∷ 2 ∷ 8 ∷ 2 ∷ 2 ∷ 2 ∷ 1 ∷ 1 ∷ 8 ∷ []) s 0 b (omega arith)) in
+      let e : entriesBytes (entriesOf n (drop 32 s)) ≡ drop 32 s = sym (append-nil _) ∙ (rw no-tail at (r .0)) in
+      rw (length-entries n (drop 32 s), t, e) (take-append-drop 32 s)
+
+  pub state-keys : Keys (stateReading s .entries)
+  unfolding stateReading
+  state-keys = entries-keys n (drop 32 s) 0 (parts .1 .0)
+
+  -- its length and its count stay within their limits
+  pub state-limits : (length s ≤ 16384) × (length (stateReading s .entries) ≤ 16)
+  unfolding headRows stateReading
+  state-limits =
+      (leb-true _ _ (parts .0 .1 .0), rw (length-entries n (drop 32 s)) (leb-true _ _ (parts .0 .1 .1 .1 .1 .1 .1 .1 .1 .0)))
+
+  pub state-typed : StateTyped (stateReading s)
+  unfolding stateReading
+  state-typed =
+      record {
+        flags = number-lt s 5 1 b;
+        sequence = number-lt s 8 8 b;
+        spend = number-lt s 16 2 b;
+        rotate = number-lt s 18 2 b;
+        recovery = number-lt s 20 2 b;
+        since = number-lt s 24 8 b;
+        count = rw (length-entries n (drop 32 s)) (number-lt s 22 1 b);
+        entries = entries-back n (drop 32 s) 0 (bytes-drop 32 s b) (parts .1 .0) .1;
+      }

@@ -1,0 +1,5 @@
+pub mod WalkLaws
+pub mod StateLaws
+pub mod Inverse
+pub mod Unique
+pub mod Theorem

@@ -1,0 +1,170 @@
+-- The walk over the entries: a step checks one entry, and what is left to walk gives the whole.
+-- Assumes nothing.
+use mathlib.Core.Path.{_≡_, refl, sym, ap, _∙_}
+use mathlib.Core.Bool.{Bool, true, false, cond}
+use mathlib.Core.List.{List, _++_}
+use Prim.Native.Nat.{ℕ, suc, _+_, _-_, _*_, _≤_, _<_}
+use native.Mathlib.Nat.{add-assoc, zero-add, add-zero}
+use native.Mathlib.Omega.{arith}
+use borrow.Author.Tests.{leb-true}
+use lib.ListN.{length, drop, length-drop}
+use lib.Seq.{drop-drop}
+use Rattle.octets.specs.Le.{numberAt, Bytes}
+use Rattle.octets.proofs.LeLaws.{number-lt, bytes-drop}
+use Rattle.protocol.specs.Policy.{hasCapability}
+use Rattle.protocol.specs.Rows.{decide}
+use Rattle.protocol.specs.declared.error.ProtocolError.{ProtocolError}
+use Rattle.protocol.specs.declared.check.Check.{Check}
+use Rattle.protocol.specs.declared.check.Check.the-variants.{Passed, Failed}
+use Rattle.protocol.proofs.Hold.{passed-hold, decide-append, decide-failed, hold-split}
+use Rattle.account_state.specs.Reading.{lengthOf, slotOf, entryOf, entriesOf, shareOf, weightOf}
+use Rattle.account_state.specs.State.{layoutRows, entryRows, entriesRows, behind, entryAt, firstEntry, cursorBehind, stepAnswer, entryStep, summaryOf}
+use Rattle.account_state.specs.Walk.{withEntry, Light}
+use Rattle.account_state.specs.declared.entry.AuthenticatorEntry.{AuthenticatorEntry}
+use Rattle.account_state.specs.declared.entry.EntryCursor.{EntryCursor}
+use Rattle.account_state.specs.declared.entry.EntryStep.{EntryStep}
+use Rattle.account_state.specs.declared.entry.EntryStep.the-variants.{Entry, Refused}
+use Rattle.account_state.specs.declared.walk.StateSummary.{StateSummary}
+
+-- an entry that passes is present, and its length stays inside
+pub record Present (e : List ℕ) : Type 0 where
+  pub head : 48 ≤ length e
+  pub whole : lengthOf e ≤ length e
+
+pub entry-present : (e : List ℕ) (least : ℕ) → decide Passed (entryRows e least) ≡ Passed → Present e
+unfolding entryRows layoutRows
+entry-present e least h =
+    let z = passed-hold _ h in
+    record { head = leb-true _ _ (z .0); whole = leb-true _ _ (z .1 .1 .0) }
+
+pub entry-room : (s : List ℕ) (at least : ℕ) → decide Passed (entryRows (drop at s) least) ≡ Passed → at + 48 ≤ length s
+entry-room s at least h =
+    let p = entry-present (drop at s) least h in
+    let l : length (drop at s) ≡ length s - at = length-drop at s in
+    omega arith
+
+-- one entry, and the rest of them
+pub rows-passed : (n : ℕ) (e : List ℕ) (least : ℕ) → decide Passed (entryRows e least) ≡ Passed
+    → decide Passed (entriesRows (suc n) e least) ≡ decide Passed (entriesRows n (drop (lengthOf e) e) (slotOf e + 1))
+unfolding entriesRows
+rows-passed n e least h = decide-append Passed (entryRows e least) _ ∙ rw h
+
+pub rows-failed : (n : ℕ) (e : List ℕ) (least : ℕ) (x : ProtocolError) → decide Passed (entryRows e least) ≡ Failed x
+    → decide Passed (entriesRows (suc n) e least) ≡ Failed x
+unfolding entriesRows
+rows-failed n e least x h = decide-append Passed (entryRows e least) _ ∙ rw h (decide-failed _ x)
+
+-- what a step says
+step-passed : (k : Check) (a b : AuthenticatorEntry) (c d : EntryCursor) → stepAnswer k a c ≡ Entry b d → (k ≡ Passed) × (a ≡ b) × (c ≡ d)
+unfolding stepAnswer
+step-passed Passed a b c d h = (refl, cc, cc)
+step-passed (Failed e) a b c d h = absurd (let z : _≡_ {A = ℕ} 0 1 = cc in omega arith)
+
+step-failed : (k : Check) (a : AuthenticatorEntry) (c : EntryCursor) (x : ProtocolError) → stepAnswer k a c ≡ Refused x → k ≡ Failed x
+unfolding stepAnswer
+step-failed Passed a c x h = absurd (let z : _≡_ {A = ℕ} 0 1 = cc in omega arith)
+step-failed (Failed e) a c x h = cc
+
+pub entry-passed : (s : List ℕ) (c : EntryCursor) (e : AuthenticatorEntry) (d : EntryCursor) → entryStep s c ≡ Entry e d
+    → (decide Passed (entryRows (drop (c .offset) s) (c .least)) ≡ Passed) × (entryAt s (c .offset) ≡ e) × (cursorBehind s (c .offset) ≡ d)
+unfolding entryStep
+entry-passed s c e d h = step-passed _ _ _ _ _ h
+
+pub entry-failed : (s : List ℕ) (c : EntryCursor) (x : ProtocolError) → entryStep s c ≡ Refused x
+    → decide Passed (entryRows (drop (c .offset) s) (c .least)) ≡ Failed x
+unfolding entryStep
+entry-failed s c x h = step-failed _ _ _ x h
+
+-- what is left to walk gives the whole
+pub record Walking (s : List ℕ) (count left : ℕ) (c : EntryCursor) (t : StateSummary) : Type 0 where
+  pub rows : decide Passed (entriesRows left (drop (c .offset) s) (c .least)) ≡ decide Passed (entriesRows count (drop 32 s) 0)
+  pub tail : behind left (drop (c .offset) s) ≡ behind count (drop 32 s)
+  pub spend : t .«spend_weight» + weightOf 1 (entriesOf left (drop (c .offset) s)) ≡ weightOf 1 (entriesOf count (drop 32 s))
+  pub rotate : t .«rotate_weight» + weightOf 2 (entriesOf left (drop (c .offset) s)) ≡ weightOf 2 (entriesOf count (drop 32 s))
+  pub recovery : t .«recovery_weight» + weightOf 4 (entriesOf left (drop (c .offset) s)) ≡ weightOf 4 (entriesOf count (drop 32 s))
+  pub inside : c .offset ≤ length s
+  pub light : Light left t
+
+pub walking-first : (s : List ℕ) (count : ℕ) → 32 ≤ length s → count ≤ 16
+    → Walking s count count firstEntry (record { «spend_weight» = 0; «rotate_weight» = 0; «recovery_weight» = 0 })
+walking-first s count h k =
+    record {
+      rows = refl;
+      tail = refl;
+      spend = zero-add _;
+      rotate = zero-add _;
+      recovery = zero-add _;
+      inside = h;
+      light = record { spend = omega arith; rotate = omega arith; recovery = omega arith };
+    }
+
+-- every entry is walked
+pub walking-done : (s : List ℕ) (count left : ℕ) (c : EntryCursor) (t : StateSummary) → left ≡ 0 → Walking s count left c t
+    → (Passed ≡ decide Passed (entriesRows count (drop 32 s) 0)) × (length s - c .offset ≡ length (behind count (drop 32 s))) × (t ≡ summaryOf (entriesOf count (drop 32 s)))
+unfolding entriesRows behind entriesOf weightOf summaryOf decide
+walking-done s count left c t e w =
+    let r : Passed ≡ decide Passed (entriesRows count (drop 32 s) 0) = rw e at (w .rows) in
+    let b : drop (c .offset) s ≡ behind count (drop 32 s) = rw e at (w .tail) in
+    let x : t .«spend_weight» ≡ weightOf 1 (entriesOf count (drop 32 s)) = sym (add-zero _) ∙ (rw e at (w .spend)) in
+    let y : t .«rotate_weight» ≡ weightOf 2 (entriesOf count (drop 32 s)) = sym (add-zero _) ∙ (rw e at (w .rotate)) in
+    let z : t .«recovery_weight» ≡ weightOf 4 (entriesOf count (drop 32 s)) = sym (add-zero _) ∙ (rw e at (w .recovery)) in
+    (r, sym (length-drop (c .offset) s) ∙ ap length b, rw (← x, ← y, ← z))
+
+share-le : (b c w : ℕ) → shareOf b c w ≤ w
+unfolding shareOf
+share-le b c w = go (hasCapability c b)
+  where
+    go : (t : Bool) → cond t w 0 ≤ w
+    go true = omega arith
+    go false = omega arith
+
+module _ (s : List ℕ) (count left : ℕ) (c : EntryCursor) (t : StateSummary) (pos : 0 < left) (w : Walking s count left c t) where
+  abbrev one : left ≡ suc (left - 1)
+  one = omega arith
+
+  -- a refused entry refuses the whole
+  pub walking-failed : (x : ProtocolError) → entryStep s c ≡ Refused x → decide Passed (entriesRows count (drop 32 s) 0) ≡ Failed x
+  walking-failed x h =
+      sym (w .rows) ∙ (ap (λ (n : ℕ). decide Passed (entriesRows n (drop (c .offset) s) (c .least))) one
+      ∙ rows-failed (left - 1) (drop (c .offset) s) (c .least) x (entry-failed s c x h))
+
+  -- the weights with an entry's added
+  share-next : (bit sum : ℕ) → sum + weightOf bit (entriesOf left (drop (c .offset) s)) ≡ weightOf bit (entriesOf count (drop 32 s))
+      → sum + shareOf bit (entryAt s (c .offset) .capabilities) (entryAt s (c .offset) .weight)
+      + weightOf bit (entriesOf (left - 1) (drop (lengthOf (drop (c .offset) s)) (drop (c .offset) s))) ≡ weightOf bit (entriesOf count (drop 32 s))
+  unfolding weightOf entriesOf entryOf entryAt
+  share-next bit sum h =
+      add-assoc sum _ _ ∙ (sym (ap (λ (n : ℕ). sum + weightOf bit (entriesOf n (drop (c .offset) s))) one) ∙ h)
+
+  light-next : Bytes s → Light (left - 1) (withEntry t (entryAt s (c .offset)))
+  unfolding withEntry entryAt
+  light-next b =
+      let l = w .light in
+      let n : numberAt (drop (c .offset) s) 8 2 < 65536 = number-lt (drop (c .offset) s) 8 2 (bytes-drop (c .offset) s b) in
+      let m : 65535 * left ≡ 65535 * (left - 1) + 65535 = omega arith in
+      let x = share-le 1 (numberAt (drop (c .offset) s) 6 2) (numberAt (drop (c .offset) s) 8 2) in
+      let y = share-le 2 (numberAt (drop (c .offset) s) 6 2) (numberAt (drop (c .offset) s) 8 2) in
+      let z = share-le 4 (numberAt (drop (c .offset) s) 6 2) (numberAt (drop (c .offset) s) 8 2) in
+      record { spend = omega arith; rotate = omega arith; recovery = omega arith }
+
+  walking-behind : Bytes s → decide Passed (entryRows (drop (c .offset) s) (c .least)) ≡ Passed
+      → Walking s count (left - 1) (cursorBehind s (c .offset)) (withEntry t (entryAt s (c .offset)))
+  unfolding cursorBehind withEntry behind
+  walking-behind b h =
+      let p = entry-present (drop (c .offset) s) (c .least) h in
+      let n : length (drop (c .offset) s) ≡ length s - c .offset = length-drop (c .offset) s in
+      record {
+        rows = rw (← drop-drop (lengthOf (drop (c .offset) s)) (c .offset) s)
+            (sym (ap (λ (n : ℕ). decide Passed (entriesRows n (drop (c .offset) s) (c .least))) one ∙ rows-passed (left - 1) (drop (c .offset) s) (c .least) h) ∙ w .rows);
+        tail = rw (← drop-drop (lengthOf (drop (c .offset) s)) (c .offset) s) (sym (ap (λ (n : ℕ). behind n (drop (c .offset) s)) one) ∙ w .tail);
+        spend = rw (← drop-drop (lengthOf (drop (c .offset) s)) (c .offset) s) (share-next 1 (t .«spend_weight») (w .spend));
+        rotate = rw (← drop-drop (lengthOf (drop (c .offset) s)) (c .offset) s) (share-next 2 (t .«rotate_weight») (w .rotate));
+        recovery = rw (← drop-drop (lengthOf (drop (c .offset) s)) (c .offset) s) (share-next 4 (t .«recovery_weight») (w .recovery));
+        inside = omega arith;
+        light = light-next b;
+      }
+
+  pub walking-next : Bytes s → (e : AuthenticatorEntry) (d : EntryCursor) → entryStep s c ≡ Entry e d → Walking s count (left - 1) d (withEntry t e)
+  walking-next b e d h =
+      let z = entry-passed s c e d h in
+      rw (← z .1, ← z .2) (walking-behind b (z .0))

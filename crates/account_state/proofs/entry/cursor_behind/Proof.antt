@@ -1,0 +1,23 @@
+-- `account_state::entry::cursor_behind` meets its contract: each field as it is read. Assumes nothing.
+use Rattle.account_state.specs.State.{cursorBehind}
+use borrow.Author.Needs.{needs}
+use Rattle.account_state.proofs.entry.cursor_behind.Statement.{statement}
+use Rattle.account_state.proofs.entry.cursor_behind.Tie as tie
+
+returns : tie.Need-returns
+unfolding cursorBehind
+returns c =
+    rw (c .u16-at2 .ensures, c .before .u16-at .ensures, c .before .before .rest .ensures)
+
+pub cursor-behind-spec : {M : Type 1} → statement M
+cursor-behind-spec =
+    tie.close
+    (tie.spec
+    (λ c κs. search needs)
+    (λ c κs. search needs)
+    (λ c. search needs)
+    (λ c. search needs)
+    (λ c κs. search needs)
+    (λ c. search needs)
+    (λ c. search needs)
+    returns)

@@ -1,0 +1,19 @@
+-- `account_state::header::StateHeader::parse` meets its contract: by what the checks find. Assumes nothing.
+use mathlib.Core.Path.{sym, _∙_}
+use Rattle.account_state.specs.State.{headerAnswer, readHeader}
+use borrow.Author.Needs.{needs}
+use Rattle.account_state.proofs.header.StateHeader.parse.Statement.{statement}
+use Rattle.account_state.proofs.header.StateHeader.parse.Tie as tie
+
+returns : tie.Need-returns
+unfolding readHeader headerAnswer
+returns c = rw (sym (c .before .before .before .check-head .ensures) ∙ c .before .error .given .1)
+
+returns-2 : tie.Need-returns-2
+unfolding readHeader headerAnswer
+returns-2 c = rw (c .header-at .ensures, sym (c .before .before .before .check-head .ensures) ∙ c .before .enum-told .given .1)
+
+pub parse-spec : {M : Type 1} → statement M
+parse-spec =
+    tie.close
+    (tie.spec (λ c κs. search needs) (λ c. search needs) (λ c. search needs) (λ c κs. search needs) returns returns-2)

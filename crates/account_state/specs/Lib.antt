@@ -1,0 +1,3 @@
+pub mod Reading
+pub mod State
+pub mod Walk

@@ -1,0 +1,159 @@
+-- The reading of an account state: every field but fixed bytes, lengths and the count; and its written form.
+use mathlib.Core.Path.{_≡_}
+use Prim.Native.Nat.{ℕ, zero, suc, _+_, _^_, _<_}
+use mathlib.Core.Bool.{cond}
+use mathlib.Core.List.{List, [], _∷_, _++_}
+use lib.ListN.{length, take, drop}
+use Rattle.octets.specs.Le.{numberAt}
+use Rattle.octets.specs.Table.{Number, numbers}
+use Rattle.protocol.specs.Policy.{hasCapability}
+
+pub record EntryReading : Type 0 where
+  pub slot : ℕ
+  pub algorithm : ℕ
+  pub capabilities : ℕ
+  pub weight : ℕ
+  pub hashType : ℕ
+  pub abi : ℕ
+  pub codeHash : List ℕ
+  pub key : List ℕ
+  pub aux : List ℕ
+
+pub record StateReading : Type 0 where
+  pub flags : ℕ
+  pub sequence : ℕ
+  pub spend : ℕ
+  pub rotate : ℕ
+  pub recovery : ℕ
+  pub since : ℕ
+  pub entries : List EntryReading
+
+-- "CKAS"
+abbrev pub stateMagic : ℕ
+stateMagic = 0x53414b43
+
+-- 01: "Each entry: entry length, slot, algorithm, capabilities, weight (u16 each), hash type, ABI (one byte each), code hash
+-- (32 bytes), key length, aux length (u16 each), key, aux." Entry length is 48 + key + aux.
+abbrev pub entrySize : EntryReading → ℕ
+entrySize e = 48 + length (e .key) + length (e .aux)
+
+unfoldable pub entryHead : EntryReading → List Number
+entryHead e =
+    record { width = 2; value = entrySize e }
+    ∷ record { width = 2; value = e .slot }
+    ∷ record { width = 2; value = e .algorithm }
+    ∷ record { width = 2; value = e .capabilities }
+    ∷ record { width = 2; value = e .weight }
+    ∷ record { width = 1; value = e .hashType }
+    ∷ record { width = 1; value = e .abi }
+    ∷ []
+
+unfoldable pub entryLengths : EntryReading → List Number
+entryLengths e = record { width = 2; value = length (e .key) } ∷ record { width = 2; value = length (e .aux) } ∷ []
+
+unfoldable pub entryBytes : EntryReading → List ℕ
+entryBytes e = numbers (entryHead e) ++ e .codeHash ++ numbers (entryLengths e) ++ e .key ++ e .aux
+
+unfoldable pub entriesBytes : List EntryReading → List ℕ
+entriesBytes [] = []
+entriesBytes (e ∷ es) = entryBytes e ++ entriesBytes es
+
+-- 01: "State header, 32 bytes: `CKAS`, version 1, flags, length 32 (u16), sequence (u64), spend, rotate and recovery thresholds
+-- (u16 each), count, 0, recovery_since (u64)."
+unfoldable pub headNumbers : ℕ → ℕ → ℕ → ℕ → ℕ → ℕ → ℕ → List Number
+headNumbers flags sequence spend rotate recovery count since =
+    record { width = 4; value = stateMagic }
+    ∷ record { width = 1; value = 1 }
+    ∷ record { width = 1; value = flags }
+    ∷ record { width = 2; value = 32 }
+    ∷ record { width = 8; value = sequence }
+    ∷ record { width = 2; value = spend }
+    ∷ record { width = 2; value = rotate }
+    ∷ record { width = 2; value = recovery }
+    ∷ record { width = 1; value = count }
+    ∷ record { width = 1; value = 0 }
+    ∷ record { width = 8; value = since }
+    ∷ []
+
+unfoldable pub stateHead : StateReading → List Number
+stateHead r = headNumbers (r .flags) (r .sequence) (r .spend) (r .rotate) (r .recovery) (length (r .entries)) (r .since)
+
+unfoldable pub stateBytes : StateReading → List ℕ
+stateBytes r = numbers (stateHead r) ++ entriesBytes (r .entries)
+
+-- the fields of the entry at the front of the bytes
+abbrev pub lengthOf : List ℕ → ℕ
+lengthOf e = numberAt e 0 2
+
+abbrev pub slotOf : List ℕ → ℕ
+slotOf e = numberAt e 2 2
+
+abbrev pub keyLengthOf : List ℕ → ℕ
+keyLengthOf e = numberAt e 44 2
+
+abbrev pub auxLengthOf : List ℕ → ℕ
+auxLengthOf e = numberAt e 46 2
+
+unfoldable pub entryOf : List ℕ → EntryReading
+entryOf e =
+    record {
+      slot = slotOf e;
+      algorithm = numberAt e 4 2;
+      capabilities = numberAt e 6 2;
+      weight = numberAt e 8 2;
+      hashType = numberAt e 10 1;
+      abi = numberAt e 11 1;
+      codeHash = take 32 (drop 12 e);
+      key = take (keyLengthOf e) (drop 48 e);
+      aux = take (auxLengthOf e) (drop (48 + keyLengthOf e) e);
+    }
+
+-- n entries one behind another
+unfoldable pub entriesOf : ℕ → List ℕ → List EntryReading
+entriesOf zero e = []
+entriesOf (suc n) e = entryOf e ∷ entriesOf n (drop (lengthOf e) e)
+
+unfoldable pub stateReading : List ℕ → StateReading
+stateReading s =
+    record {
+      flags = numberAt s 5 1;
+      sequence = numberAt s 8 8;
+      spend = numberAt s 16 2;
+      rotate = numberAt s 18 2;
+      recovery = numberAt s 20 2;
+      since = numberAt s 24 8;
+      entries = entriesOf (numberAt s 22 1) (drop 32 s);
+    }
+
+-- the weight of the entries that have a capability
+unfoldable pub shareOf : ℕ → ℕ → ℕ → ℕ
+shareOf bit capabilities weight = cond (hasCapability capabilities bit) weight 0
+
+unfoldable pub weightOf : ℕ → List EntryReading → ℕ
+weightOf bit [] = 0
+weightOf bit (e ∷ es) = shareOf bit (e .capabilities) (e .weight) + weightOf bit es
+
+-- readings whose fields, lengths and count are values of their types
+pub record EntryTyped (e : EntryReading) : Type 0 where
+  pub slot : e .slot < 2 ^ 16
+  pub algorithm : e .algorithm < 2 ^ 16
+  pub capabilities : e .capabilities < 2 ^ 16
+  pub weight : e .weight < 2 ^ 16
+  pub hashType : e .hashType < 2 ^ 8
+  pub abi : e .abi < 2 ^ 8
+  pub codeHash : length (e .codeHash) ≡ 32
+  pub size : entrySize e < 2 ^ 16
+
+abbrev pub EntriesTyped : List EntryReading → Type 0
+EntriesTyped [] = Unit {0}
+EntriesTyped (e ∷ es) = EntryTyped e × EntriesTyped es
+
+pub record StateTyped (r : StateReading) : Type 0 where
+  pub flags : r .flags < 2 ^ 8
+  pub sequence : r .sequence < 2 ^ 64
+  pub spend : r .spend < 2 ^ 16
+  pub rotate : r .rotate < 2 ^ 16
+  pub recovery : r .recovery < 2 ^ 16
+  pub since : r .since < 2 ^ 64
+  pub count : length (r .entries) < 2 ^ 8
+  pub entries : EntriesTyped (r .entries)

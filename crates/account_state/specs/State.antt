@@ -1,0 +1,178 @@
+-- The checks of an account state, in document 01's order, and what its readers give.
+use Prim.Native.Nat.{ℕ, zero, suc, _+_, _%_}
+use mathlib.Core.Bool.{Bool, cond}
+use mathlib.Core.List.{List, [], _∷_, _++_}
+use lib.ListN.{length, drop}
+use lib.Dec.{leb, eqb}
+use Rattle.octets.specs.Le.{numberAt}
+use Rattle.protocol.specs.Errors.{errorNumber}
+use Rattle.protocol.specs.Policy.{isSupportedAlgorithm}
+use Rattle.protocol.specs.Rows.{Row, row, decide}
+use Rattle.protocol.specs.declared.error.ProtocolError.the-variants.{InvalidState, InvalidVerifierRef, UnsupportedVersion, UnsupportedAlgorithm, UnsatisfiableThreshold}
+use Rattle.protocol.specs.declared.check.Check.{Check}
+use Rattle.protocol.specs.declared.check.Check.the-variants.{Passed, Failed}
+use Rattle.account_state.specs.Reading.{EntryReading, stateMagic, lengthOf, slotOf, keyLengthOf, auxLengthOf, entriesOf, weightOf}
+use Rattle.account_state.specs.declared.header.StateHeader.{StateHeader}
+use Rattle.account_state.specs.declared.header.StateHeaderAnswer.{StateHeaderAnswer}
+use Rattle.account_state.specs.declared.header.StateHeaderAnswer.the-variants as header
+use Rattle.account_state.specs.declared.entry.AuthenticatorEntry.{AuthenticatorEntry}
+use Rattle.account_state.specs.declared.entry.EntryCursor.{EntryCursor}
+use Rattle.account_state.specs.declared.entry.EntryStep.{EntryStep}
+use Rattle.account_state.specs.declared.entry.EntryStep.the-variants as step
+use Rattle.account_state.specs.declared.walk.StateSummary.{StateSummary}
+use Rattle.account_state.specs.declared.StateAnswer.{StateAnswer}
+use Rattle.account_state.specs.declared.StateAnswer.the-variants as answer
+
+-- 01, State header: "Checks in order: length 32 to 16,384 (21), magic (21), version (32), flags above 3 (21), header length (21),
+-- byte 23 (21), count 1 to 16 (21)."
+unfoldable pub headRows : List ℕ → List Row
+headRows s =
+    row (leb 32 (length s)) InvalidState
+    ∷ row (leb (length s) 16384) InvalidState
+    ∷ row (eqb (numberAt s 0 4) stateMagic) InvalidState
+    ∷ row (eqb (numberAt s 4 1) 1) UnsupportedVersion
+    ∷ row (leb (numberAt s 5 1) 3) InvalidState
+    ∷ row (eqb (numberAt s 6 2) 32) InvalidState
+    ∷ row (eqb (numberAt s 23 1) 0) InvalidState
+    ∷ row (leb 1 (numberAt s 22 1)) InvalidState
+    ∷ row (leb (numberAt s 22 1) 16) InvalidState
+    ∷ []
+
+-- 01, each entry: "Order: 48 bytes present, entry length equal to 48 + key + aux, entry inside the state, slot above its
+-- predecessor, weight not 0 and capabilities at most 0x000F (all 21); hash type at most 1 (0 names a dep by data hash, 1 by type
+-- hash) and ABI 1 (30); algorithm 0x0001, 0x0101, 0x0102, 0x0103 or 0x0201 (33); key of 32 bytes and aux not empty (21)."
+-- e is the state from the entry on, and least is one above the slot of its predecessor.
+unfoldable pub layoutRows : List ℕ → ℕ → List Row
+layoutRows e least =
+    row (leb 48 (length e)) InvalidState
+    ∷ row (eqb (lengthOf e) (48 + keyLengthOf e + auxLengthOf e)) InvalidState
+    ∷ row (leb (lengthOf e) (length e)) InvalidState
+    ∷ row (leb least (slotOf e)) InvalidState
+    ∷ []
+
+unfoldable pub fieldRows : List ℕ → List Row
+fieldRows e =
+    row (leb 1 (numberAt e 8 2)) InvalidState
+    ∷ row (leb (numberAt e 6 2) 0x000f) InvalidState
+    ∷ row (leb (numberAt e 10 1) 1) InvalidVerifierRef
+    ∷ row (eqb (numberAt e 11 1) 1) InvalidVerifierRef
+    ∷ row (isSupportedAlgorithm (numberAt e 4 2)) UnsupportedAlgorithm
+    ∷ row (eqb (keyLengthOf e) 32) InvalidState
+    ∷ row (leb 1 (auxLengthOf e)) InvalidState
+    ∷ []
+
+unfoldable pub entryRows : List ℕ → ℕ → List Row
+entryRows e least = layoutRows e least ++ fieldRows e
+
+unfoldable pub entriesRows : ℕ → List ℕ → ℕ → List Row
+entriesRows zero e least = []
+entriesRows (suc n) e least = entryRows e least ++ entriesRows n (drop (lengthOf e) e) (slotOf e + 1)
+
+-- what follows n entries
+unfoldable pub behind : ℕ → List ℕ → List ℕ
+behind zero e = e
+behind (suc n) e = behind n (drop (lengthOf e) e)
+
+-- 01: "With flag 1 set the same holds for recovery. With flag 1 clear, a recovery threshold or recovery_since other than 0 is 21."
+unfoldable pub recoveryRows : List ℕ → ℕ → List Row
+recoveryRows s weight =
+    cond (eqb (numberAt s 5 1 % 2) 1)
+    (row (leb 1 (numberAt s 20 2)) UnsatisfiableThreshold ∷ row (leb (numberAt s 20 2) weight) UnsatisfiableThreshold ∷ [])
+    (row (eqb (numberAt s 20 2) 0) InvalidState ∷ row (eqb (numberAt s 24 8) 0) InvalidState ∷ [])
+
+-- 01: "After the last entry no byte follows (21). Then: spend or rotate threshold 0 or above the weight of its holders is 38."
+unfoldable pub endRows : List ℕ → ℕ → ℕ → ℕ → ℕ → List Row
+endRows s tail spend rotate recovery =
+    row (eqb tail 0) InvalidState
+    ∷ row (leb 1 (numberAt s 16 2)) UnsatisfiableThreshold
+    ∷ row (leb 1 (numberAt s 18 2)) UnsatisfiableThreshold
+    ∷ row (leb (numberAt s 16 2) spend) UnsatisfiableThreshold
+    ∷ row (leb (numberAt s 18 2) rotate) UnsatisfiableThreshold
+    ∷ recoveryRows s recovery
+
+-- all checks of a state; spend, rotate and recovery are capability bits 1, 2 and 4
+unfoldable pub tailRows : List ℕ → ℕ → List ℕ → List Row
+tailRows s n e =
+    endRows s (length (behind n e)) (weightOf 1 (entriesOf n e)) (weightOf 2 (entriesOf n e)) (weightOf 4 (entriesOf n e))
+
+unfoldable pub stateRows : List ℕ → List Row
+stateRows s = headRows s ++ (entriesRows (numberAt s 22 1) (drop 32 s) 0 ++ tailRows s (numberAt s 22 1) (drop 32 s))
+
+unfoldable pub stateFault : List ℕ → Check
+stateFault s = decide Passed (stateRows s)
+
+-- what the header's reader gives
+unfoldable pub headerOf : List ℕ → StateHeader
+headerOf s =
+    record {
+      flags = numberAt s 5 1;
+      sequence = numberAt s 8 8;
+      «spend_threshold» = numberAt s 16 2;
+      «rotate_threshold» = numberAt s 18 2;
+      «recovery_threshold» = numberAt s 20 2;
+      «authenticator_count» = numberAt s 22 1;
+      «recovery_since» = numberAt s 24 8;
+    }
+
+unfoldable pub headerAnswer : Check → StateHeader → StateHeaderAnswer
+headerAnswer Passed h = header.Header h
+headerAnswer (Failed e) h = header.Refused e
+
+unfoldable pub readHeader : List ℕ → StateHeaderAnswer
+readHeader s = headerAnswer (decide Passed (headRows s)) (headerOf s)
+
+-- what a step gives: the entry at a place of the state, its parts by their places, and the cursor behind it
+unfoldable pub entryAt : List ℕ → ℕ → AuthenticatorEntry
+entryAt s at =
+    record {
+      slot = slotOf (drop at s);
+      «algorithm_id» = numberAt (drop at s) 4 2;
+      capabilities = numberAt (drop at s) 6 2;
+      weight = numberAt (drop at s) 8 2;
+      «verifier_hash_type» = numberAt (drop at s) 10 1;
+      «verifier_abi» = numberAt (drop at s) 11 1;
+      «verifier_code_hash» = at + 12;
+      «key_id» = at + 48;
+      «key_len» = keyLengthOf (drop at s);
+      aux = at + 48 + keyLengthOf (drop at s);
+      «aux_len» = auxLengthOf (drop at s);
+    }
+
+-- the first entry follows the header, and any slot may be its own
+abbrev pub firstEntry : EntryCursor
+firstEntry = record { offset = 32; least = 0 }
+
+unfoldable pub cursorBehind : List ℕ → ℕ → EntryCursor
+cursorBehind s at = record { offset = at + lengthOf (drop at s); least = slotOf (drop at s) + 1 }
+
+unfoldable pub stepAnswer : Check → AuthenticatorEntry → EntryCursor → EntryStep
+stepAnswer Passed e c = step.Entry e c
+stepAnswer (Failed x) e c = step.Refused x
+
+unfoldable pub entryStep : List ℕ → EntryCursor → EntryStep
+entryStep s c =
+    stepAnswer (decide Passed (entryRows (drop (c .offset) s) (c .least))) (entryAt s (c .offset)) (cursorBehind s (c .offset))
+
+-- what the state's reader gives
+unfoldable pub summaryOf : List EntryReading → StateSummary
+summaryOf es = record { «spend_weight» = weightOf 1 es; «rotate_weight» = weightOf 2 es; «recovery_weight» = weightOf 4 es }
+
+unfoldable pub stateAnswer : Check → StateHeader → StateSummary → StateAnswer
+stateAnswer Passed h t = answer.Valid h t
+stateAnswer (Failed e) h t = answer.Refused e
+
+unfoldable pub readState : List ℕ → StateAnswer
+readState s = stateAnswer (stateFault s) (headerOf s) (summaryOf (entriesOf (numberAt s 22 1) (drop 32 s)))
+
+-- document 01's number of each answer, 0 where it is accepted
+abbrev pub headerNumber : StateHeaderAnswer → ℕ
+headerNumber (header.Header h) = 0
+headerNumber (header.Refused e) = errorNumber e
+
+abbrev pub stepNumber : EntryStep → ℕ
+stepNumber (step.Entry e c) = 0
+stepNumber (step.Refused x) = errorNumber x
+
+abbrev pub stateNumber : StateAnswer → ℕ
+stateNumber (answer.Valid h t) = 0
+stateNumber (answer.Refused e) = errorNumber e

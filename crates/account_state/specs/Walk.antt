@@ -1,0 +1,44 @@
+-- What the private walk over the entries gives: their weights and the count of bytes behind them, or the first refusal.
+use Prim.Native.Nat.{ℕ, _+_, _*_, _≤_}
+use mathlib.Core.List.{List}
+use lib.ListN.{length, drop}
+use Rattle.protocol.specs.Rows.{decide}
+use Rattle.protocol.specs.declared.check.Check.{Check}
+use Rattle.protocol.specs.declared.check.Check.the-variants.{Passed, Failed}
+use Rattle.account_state.specs.Reading.{entriesOf, shareOf}
+use Rattle.account_state.specs.State.{entriesRows, behind, endRows, summaryOf}
+use Rattle.account_state.specs.declared.entry.AuthenticatorEntry.{AuthenticatorEntry}
+use Rattle.account_state.specs.declared.walk.StateSummary.{StateSummary}
+use Rattle.account_state.specs.declared.walk.Walk.{Walk}
+use Rattle.account_state.specs.declared.walk.WalkAnswer.{WalkAnswer}
+use Rattle.account_state.specs.declared.walk.WalkAnswer.the-variants.{Walked, Refused}
+
+unfoldable pub walkAnswer : Check → Walk → WalkAnswer
+walkAnswer Passed w = Walked w
+walkAnswer (Failed e) w = Refused e
+
+unfoldable pub walkOf : ℕ → List ℕ → Walk
+walkOf n e = record { tail = length (behind n e); summary = summaryOf (entriesOf n e) }
+
+unfoldable pub walkEntries : ℕ → List ℕ → WalkAnswer
+walkEntries n e = walkAnswer (decide Passed (entriesRows n e 0)) (walkOf n e)
+
+-- what the checks after the last entry find
+unfoldable pub endFault : List ℕ → Walk → Check
+endFault s w =
+    decide Passed (endRows s (w .tail) (w .summary .«spend_weight») (w .summary .«rotate_weight») (w .summary .«recovery_weight»))
+
+-- the weights with one entry's added
+unfoldable pub withEntry : StateSummary → AuthenticatorEntry → StateSummary
+withEntry t e =
+    record {
+      «spend_weight» = t .«spend_weight» + shareOf 1 (e .capabilities) (e .weight);
+      «rotate_weight» = t .«rotate_weight» + shareOf 2 (e .capabilities) (e .weight);
+      «recovery_weight» = t .«recovery_weight» + shareOf 4 (e .capabilities) (e .weight);
+    }
+
+-- the weights have room for those of `left` entries more, of sixteen in all
+pub record Light (left : ℕ) (t : StateSummary) : Type 0 where
+  pub spend : t .«spend_weight» + 65535 * left ≤ 1048560
+  pub rotate : t .«rotate_weight» + 65535 * left ≤ 1048560
+  pub recovery : t .«recovery_weight» + 65535 * left ≤ 1048560

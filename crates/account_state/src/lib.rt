@@ -1,0 +1,90 @@
+// The account state: header, authenticator entries one by one, and the whole state validated.
+mod header; // header.rt
+mod entry; // entry.rt
+mod walk; // walk.rt
+
+use self::header::check_head;
+use self::header::header_at;
+use self::walk::Walk;
+use self::walk::WalkAnswer;
+use self::walk::walk_entries;
+use octets::u8_at;
+use octets::u16_at;
+use octets::u64_at;
+use protocol::Check;
+use protocol::ProtocolError;
+ghost use mathlib.Core.Path.{_≡_};
+ghost use Rattle.protocol.specs.Rows.{decide};
+ghost use Rattle.account_state.specs.State.{recoveryRows, headerOf, stateAnswer, readState};
+ghost use Rattle.account_state.specs.Walk.{endFault};
+pub use self::entry::AuthenticatorEntry;
+pub use self::entry::EntryCursor;
+pub use self::entry::EntryStep;
+pub use self::entry::next_entry;
+pub use self::header::StateHeader;
+pub use self::header::StateHeaderAnswer;
+pub use self::walk::StateSummary;
+
+pub enum StateAnswer {
+    Valid(StateHeader, StateSummary),
+    Refused(ProtocolError),
+}
+
+fn check_recovery(state: &[u8], check: Check, weight: u32) -> Check
+    ensures { λ r. ⌜ r ≡ decide check (recoveryRows (now (state .entry)) weight) ⌝ }
+{
+    let unmet = ProtocolError::UnsatisfiableThreshold;
+    let invalid = ProtocolError::InvalidState;
+    let threshold = u16_at(state, 20);
+    if u8_at(state, 5) % 2 == 1 {
+        check
+            .require(1 <= threshold, unmet)
+            .require(threshold as u32 <= weight, unmet)
+    } else {
+        check
+            .require(threshold == 0, invalid)
+            .require(u64_at(state, 24) == 0, invalid)
+    }
+}
+
+// The checks after the last entry.
+fn check_end(state: &[u8], walk: Walk) -> Check
+    ensures { λ r. ⌜ r ≡ endFault (now (state .entry)) walk ⌝ }
+{
+    let unmet = ProtocolError::UnsatisfiableThreshold;
+    let spend = u16_at(state, 16);
+    let rotate = u16_at(state, 18);
+    let summary = walk.summary;
+    let check = Check::Passed
+        .require(walk.tail == 0, ProtocolError::InvalidState)
+        .require(1 <= spend, unmet)
+        .require(1 <= rotate, unmet)
+        .require(spend as u32 <= summary.spend_weight, unmet)
+        .require(rotate as u32 <= summary.rotate_weight, unmet);
+    check_recovery(state, check, summary.recovery_weight)
+}
+
+// The answer once every entry passed.
+fn state_end(state: &[u8], walk: Walk) -> StateAnswer
+    ensures { λ r. ⌜ r ≡ stateAnswer (endFault (now (state .entry)) walk) (headerOf (now (state .entry))) (walk .summary) ⌝ }
+{
+    match check_end(state, walk) {
+        Check::Failed(error) => StateAnswer::Refused(error),
+        Check::Passed => {
+            let summary = walk.summary;
+            StateAnswer::Valid(header_at(state), summary)
+        }
+    }
+}
+
+pub fn validate_state(state: &[u8]) -> StateAnswer
+    ensures { λ r. ⌜ r ≡ readState (now (state .entry)) ⌝ }
+{
+    match check_head(state) {
+        Check::Failed(error) => StateAnswer::Refused(error),
+        Check::Passed => match walk_entries(state, u8_at(state, 22)) {
+            WalkAnswer::Refused(error) => StateAnswer::Refused(error),
+            WalkAnswer::Walked(walk) => state_end(state, walk),
+        },
+    }
+}

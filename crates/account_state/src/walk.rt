@@ -1,0 +1,79 @@
+// The walk over all entries: their weights by capability, and how many bytes follow them.
+use crate::entry::AuthenticatorEntry;
+use crate::entry::EntryCursor;
+use crate::entry::EntryStep;
+use crate::entry::next_entry;
+use protocol::ProtocolError;
+ghost use mathlib.Core.Path.{_≡_};
+ghost use Prim.Native.Nat.{_+_, _≤_, _<_};
+ghost use lib.ListN.{length, drop};
+ghost use Rattle.account_state.specs.Reading.{shareOf};
+ghost use Rattle.account_state.specs.Walk.{Light, withEntry, walkEntries};
+
+pub struct StateSummary {
+    pub spend_weight: u32,
+    pub rotate_weight: u32,
+    pub recovery_weight: u32,
+}
+
+pub(crate) struct Walk {
+    pub tail: usize,
+    pub summary: StateSummary,
+}
+
+pub(crate) enum WalkAnswer {
+    Walked(Walk),
+    Refused(ProtocolError),
+}
+
+// The weight that an entry adds to a capability.
+fn share(bit: u16, capabilities: u16, weight: u16) -> u32
+    requires { ⌜ 0 < bit ⌝ }
+    ensures { λ r. ⌜ (r ≡ shareOf bit capabilities weight) × (r < 65536) ⌝ }
+{
+    if capabilities / bit % 2 == 1 {
+        weight as u32
+    } else {
+        0
+    }
+}
+
+fn with_entry(summary: StateSummary, entry: AuthenticatorEntry) -> StateSummary
+    requires { ⌜ Light 1 summary ⌝ }
+    ensures { λ r. ⌜ r ≡ withEntry summary entry ⌝ }
+{
+    let capabilities = entry.capabilities;
+    let weight = entry.weight;
+    StateSummary {
+        spend_weight: summary.spend_weight + share(1, capabilities, weight),
+        rotate_weight: summary.rotate_weight + share(2, capabilities, weight),
+        recovery_weight: summary.recovery_weight + share(4, capabilities, weight),
+    }
+}
+
+pub(crate) fn walk_entries(state: &[u8], count: u8) -> WalkAnswer
+    requires { ⌜ (32 ≤ length (now state)) × (count ≤ 16) ⌝ }
+    ensures { λ r. ⌜ r ≡ walkEntries count (drop 32 (now (state .entry))) ⌝ }
+{
+    let mut cursor = EntryCursor::first();
+    let mut summary = StateSummary {
+        spend_weight: 0,
+        rotate_weight: 0,
+        recovery_weight: 0,
+    };
+    let mut left = count;
+    while 0 < left {
+        match next_entry(state, cursor) {
+            EntryStep::Refused(error) => return WalkAnswer::Refused(error),
+            EntryStep::Entry(entry, next) => {
+                summary = with_entry(summary, entry);
+                cursor = next;
+            }
+        }
+        left -= 1;
+    }
+    WalkAnswer::Walked(Walk {
+        tail: state.len() - cursor.offset,
+        summary,
+    })
+}

@@ -1,0 +1,72 @@
+-- Slices that agree: the state that they say has the length that they say, and the writer's rows come down to the state's own.
+-- Assumes nothing.
+use mathlib.Core.Path.{_≡_, refl, sym, ap, _∙_}
+use mathlib.Core.List.{List, _∷_, [], _++_, append-assoc}
+use Prim.Native.Nat.{ℕ, _+_, _*_, _≤_}
+use native.Mathlib.Omega.{arith}
+use borrow.Author.Tests.{leb-true, eqb-true}
+use lib.Dec.{leb}
+use lib.ListN.{length, length-append}
+use Rattle.octets.specs.Le.{Bytes}
+use Rattle.octets.specs.Table.{numbers}
+use Rattle.protocol.specs.Rows.{Row, row, decide, Hold}
+use Rattle.protocol.specs.Write.{writeFault, writeAnswer, afterWrite}
+use Rattle.protocol.specs.declared.check.WriteAnswer.the-variants.{Refused}
+use Rattle.protocol.specs.declared.error.ProtocolError.{ProtocolError}
+use Rattle.protocol.specs.declared.error.ProtocolError.the-variants.{BufferTooShort}
+use Rattle.protocol.specs.declared.check.Check.the-variants.{Passed, Failed}
+use Rattle.protocol.proofs.Hold.{decide-append, decide-failed, hold-passed}
+use Rattle.account_state.specs.Reading.{StateReading, stateHead, stateBytes}
+use Rattle.account_state.specs.State.{stateRows}
+use Rattle.account_state_writer.specs.Writer.{entryCount, entriesFrom, neededBytes, stateTotal, sliceRows, encodeRows, stateFrom, validWritten, validStored, stateWritten, stateStored}
+use Rattle.account_state_writer.proofs.Lent.{length-all, length-head, length-entries}
+
+-- what the rows say
+pub record Agreed (fields bytes : List ℕ) : Type 0 where
+  pub needed : neededBytes (entryCount fields) fields ≡ length bytes
+  pub count : entryCount fields ≤ 255
+  pub total : 32 + 14 * entryCount fields + length bytes ≤ 16384
+
+pub agreed : (fields bytes : List ℕ) → Hold (sliceRows fields bytes) → Agreed fields bytes
+unfolding sliceRows stateTotal
+agreed fields bytes h =
+    record { needed = eqb-true _ _ (h .1 .0); count = leb-true _ _ (h .1 .1 .0); total = leb-true _ _ (h .1 .1 .1 .0) }
+
+module _ (flags sequence spend rotate recovery since : ℕ) (fields bytes : List ℕ) where
+  abbrev r : StateReading
+  r = stateFrom flags sequence spend rotate recovery since fields bytes
+
+  pub length-state : Bytes bytes → neededBytes (entryCount fields) fields ≡ length bytes → length (stateBytes r) ≡ stateTotal fields bytes
+  unfolding stateBytes stateHead stateFrom stateTotal
+  length-state b n =
+      let e = length-all (entryCount fields) fields bytes b (omega arith) in
+      rw (length-append, length-head, e) (omega arith)
+
+-- a refusal of the slices is the writer's
+pub slices-failed : (r : StateReading) (fields bytes : List ℕ) (total room : ℕ) (e : ProtocolError) → decide Passed (sliceRows fields bytes) ≡ Failed e
+    → writeFault (encodeRows r fields bytes) total room ≡ Failed e
+unfolding writeFault encodeRows
+slices-failed r fields bytes total room e h =
+    ap (decide Passed) (append-assoc (sliceRows fields bytes) (stateRows (stateBytes r)) _)
+    ∙ (decide-append Passed (sliceRows fields bytes) _ ∙ rw h (decide-failed _ e))
+
+-- else the state decides
+pub slices-passed : (r : StateReading) (fields bytes : List ℕ) (total room : ℕ) → decide Passed (sliceRows fields bytes) ≡ Passed
+    → writeFault (encodeRows r fields bytes) total room ≡ writeFault (stateRows (stateBytes r)) total room
+unfolding writeFault encodeRows
+slices-passed r fields bytes total room h =
+    ap (decide Passed) (append-assoc (sliceRows fields bytes) (stateRows (stateBytes r)) _)
+    ∙ (decide-append Passed (sliceRows fields bytes) _ ∙ rw h)
+
+-- what is written is what the writer's definition says
+pub agreed-written : (r : StateReading) (fields bytes out : List ℕ) → decide Passed (sliceRows fields bytes) ≡ Passed → length (stateBytes r) ≡ stateTotal fields bytes
+    → (validWritten (stateBytes r) out ≡ stateWritten r fields bytes out) × (validStored (stateBytes r) out ≡ stateStored r fields bytes out)
+unfolding validWritten validStored stateWritten stateStored
+agreed-written r fields bytes out h n =
+    (rw (n, slices-passed r fields bytes (stateTotal fields bytes) (length out) h), rw (n, slices-passed r fields bytes (stateTotal fields bytes) (length out) h))
+
+pub refused-written : (r : StateReading) (fields bytes out : List ℕ) (e : ProtocolError) → decide Passed (sliceRows fields bytes) ≡ Failed e
+    → (Refused e ≡ stateWritten r fields bytes out) × (out ≡ stateStored r fields bytes out)
+unfolding stateWritten stateStored writeAnswer afterWrite
+refused-written r fields bytes out e h =
+    (rw (slices-failed r fields bytes (stateTotal fields bytes) (length out) e h), rw (slices-failed r fields bytes (stateTotal fields bytes) (length out) e h))

@@ -1,0 +1,161 @@
+-- The lent slices, entry by entry: how many bytes they need, and what the bytes of an entry are.
+-- Assumes nothing.
+use mathlib.Core.Path.{_≡_, refl, sym, ap, _∙_}
+use mathlib.Core.Bool.{Bool, true, false}
+use mathlib.Core.List.{List, [], _∷_, _++_, append-assoc, append-nil}
+use Prim.Native.Nat.{ℕ, zero, suc, _+_, _-_, _*_, _≤_, _<_}
+use native.Mathlib.Omega.{arith}
+use borrow.Author.Tests.{eq-eqb, ne-eqb, eqb-true, eqb-false}
+use lib.Dec.{eqb}
+use lib.ListN.{length, take, drop, getD, length-append, length-drop}
+use lib.Seq.{drop-drop, getD-drop, sets}
+use Rattle.octets.specs.Le.{numberAt, toLe, Bytes}
+use Rattle.octets.specs.Table.{Number, numbers}
+use Rattle.octets.proofs.TableLaws.{number-back, storeNumbers, numbers-stored, length-numbers}
+use Rattle.octets.proofs.LeLaws.{length-to, bytes-drop}
+use Rattle.octets.proofs.Parts.{join, part-length}
+use Rattle.octets.proofs.Stores.{sets-append}
+use Rattle.account_state.specs.Reading.{EntryReading, entrySize, entryHead, entryLengths, entryBytes, entriesBytes, headNumbers}
+use Rattle.account_state_writer.specs.Writer.{auxOf, entryFrom, fieldNumbers, entriesFrom, neededBytes}
+
+-- a test of equality, by what decides it
+eqb-by : (a b c d : ℕ) (t : Bool) → eqb a b ≡ t → (a ≡ b → c ≡ d) → ((a ≡ b → ⊥) → c ≡ d → ⊥) → t ≡ eqb c d
+eqb-by a b c d true e f g = sym (eq-eqb c d (f (eqb-true a b e)))
+eqb-by a b c d false e f g = sym (ne-eqb c d (g (eqb-false a b e)))
+
+pub eqb-turn : (a b : ℕ) → eqb a b ≡ eqb b a
+eqb-turn a b = eqb-by a b b a (eqb a b) refl sym (λ n e. n (sym e))
+
+eqb-less : (n a b : ℕ) → n ≤ b → eqb (n + a) b ≡ eqb a (b - n)
+eqb-less n a b h = eqb-by (n + a) b a (b - n) (eqb (n + a) b) refl (λ e. omega arith) (λ d e. d (omega arith))
+
+-- the entries from the i-th on
+module _ (fields : List ℕ) (count i : ℕ) (h : i < count) where
+  abbrev one : count - i ≡ suc (count - (i + 1))
+  one = omega arith
+
+  behind : drop 5 (drop (5 * i) fields) ≡ drop (5 * (i + 1)) fields
+  behind =
+      let e : 5 * i + 5 ≡ 5 * (i + 1) = omega arith in
+      drop-drop 5 (5 * i) fields ∙ ap (λ (n : ℕ). drop n fields) e
+
+  aux-at : auxOf (drop (5 * i) fields) ≡ getD fields (5 * i + 4) 0
+  aux-at = getD-drop (5 * i) fields 4 0
+
+  pub needed-turn : neededBytes (count - i) (drop (5 * i) fields) ≡ 66 + getD fields (5 * i + 4) 0 + neededBytes (count - (i + 1)) (drop (5 * (i + 1)) fields)
+  unfolding neededBytes
+  needed-turn = rw (one, behind, aux-at)
+
+  pub entries-turn : (bytes : List ℕ) (from : ℕ)
+      → entriesFrom (count - i) (drop (5 * i) fields) (drop from bytes)
+      ≡ entryFrom (drop (5 * i) fields) (drop from bytes)
+      ∷ entriesFrom (count - (i + 1)) (drop (5 * (i + 1)) fields) (drop (from + (66 + getD fields (5 * i + 4) 0)) bytes)
+  unfolding entriesFrom
+  entries-turn bytes from = rw (one, behind, aux-at, drop-drop (66 + getD fields (5 * i + 4) 0) from bytes)
+
+  -- a turn of the loop that counts the bytes down
+  pub left-turn : (left : ℕ) → 66 + getD fields (5 * i + 4) 0 ≤ left
+      → eqb (neededBytes (count - (i + 1)) (drop (5 * (i + 1)) fields)) (left - (66 + getD fields (5 * i + 4) 0)) ≡ eqb (neededBytes (count - i) (drop (5 * i) fields)) left
+  left-turn left k = sym (rw needed-turn (eqb-less (66 + getD fields (5 * i + 4) 0) _ left k))
+
+  pub left-short : (left : ℕ) → left < 66 + getD fields (5 * i + 4) 0 → false ≡ eqb (neededBytes (count - i) (drop (5 * i) fields)) left
+  left-short left k =
+      let e = needed-turn in
+      let never : neededBytes (count - i) (drop (5 * i) fields) ≡ left → ⊥ = λ q. omega arith in
+      sym (ne-eqb _ _ never)
+
+pub needed-none : (n : ℕ) (fields : List ℕ) → n ≡ 0 → neededBytes n fields ≡ 0
+unfolding neededBytes
+needed-none n fields e = rw e
+
+pub entries-none : (n : ℕ) (fields bytes : List ℕ) → n ≡ 0 → entriesBytes (entriesFrom n fields bytes) ≡ []
+unfolding entriesFrom entriesBytes
+entries-none n fields bytes e = rw e
+
+-- the bytes of an entry: its numbers, 34 bytes as they are lent, two lengths, and the key and aux as they are lent
+module _ (fields bytes : List ℕ) (b : Bytes bytes) (h : 66 + auxOf fields ≤ length bytes) where
+  abbrev a : ℕ
+  a = auxOf fields
+
+  abbrev lengths : List Number
+  lengths = record { width = 2; value = 32 } ∷ record { width = 2; value = a } ∷ []
+
+  pub entry-form : entryBytes (entryFrom fields bytes) ≡ numbers (fieldNumbers fields) ++ (take 34 bytes ++ (numbers lengths ++ take (32 + a) (drop 34 bytes)))
+  unfolding entryBytes entryFrom entryHead entryLengths fieldNumbers numbers
+  entry-form =
+      rw (
+        part-length bytes 34 32 (omega arith),
+        part-length bytes 66 a (omega arith),
+        number-back bytes 0 1 b (omega arith),
+        number-back bytes 1 1 b (omega arith),
+        ← join bytes 34 32 a 66 refl,
+        ← join bytes 0 2 32 2 refl,
+        ← join bytes 0 1 1 1 refl,
+      )
+      (simp append-assoc)
+
+  length-fields : length (numbers (fieldNumbers fields)) ≡ 10
+  unfolding fieldNumbers
+  length-fields = length-numbers (fieldNumbers fields)
+
+  pub length-entry : length (entryBytes (entryFrom fields bytes)) ≡ 80 + a
+  length-entry =
+      let m : length (take 34 bytes) ≡ 34 = part-length bytes 0 34 (omega arith) in
+      let k : length (take (32 + a) (drop 34 bytes)) ≡ 32 + a = part-length bytes 34 (32 + a) (omega arith) in
+      rw (entry-form, length-append, length-fields, length-append, m, length-append, length-numbers lengths, k) (omega arith)
+
+  -- stored part by part
+  pub entry-stored : (l : List ℕ) (at : ℕ)
+      → sets (sets (sets (sets (sets l at (numbers (fieldNumbers fields))) (at + 10) (take 34 bytes)) (at + 44) (toLe 2 32)) (at + 46) (toLe 2 a)) (at + 48) (take (32 + a) (drop 34 bytes))
+      ≡ sets l at (entryBytes (entryFrom fields bytes))
+  unfolding numbers
+  entry-stored l at =
+      let n : length (numbers (fieldNumbers fields)) ≡ 10 = length-fields in
+      let m : length (take 34 bytes) ≡ 34 = part-length bytes 0 34 (omega arith) in
+      let f = numbers (fieldNumbers fields) in
+      let d = take (32 + a) (drop 34 bytes) in
+      let e : numbers lengths ≡ toLe 2 32 ++ toLe 2 a = ap (λ (x : List ℕ). toLe 2 32 ++ x) (append-nil (toLe 2 a)) in
+      rw (
+        sets-append (sets (sets l at f) (at + 10) (take 34 bytes)) (at + 44) (toLe 2 32) (toLe 2 a) (at + 46) (rw (length-to 2 32) (omega arith)),
+        sets-append (sets (sets l at f) (at + 10) (take 34 bytes)) (at + 44) (toLe 2 32 ++ toLe 2 a) d (at + 48) (rw (length-append, length-to 2 32, length-to 2 a) (omega arith)),
+        sets-append (sets l at f) (at + 10) (take 34 bytes) ((toLe 2 32 ++ toLe 2 a) ++ d) (at + 44) (rw m (omega arith)),
+        sets-append l at f (take 34 bytes ++ ((toLe 2 32 ++ toLe 2 a) ++ d)) (at + 10) (rw n refl),
+      )
+      (ap (sets l at) (sym (entry-form ∙ ap (λ (x : List ℕ). f ++ (take 34 bytes ++ (x ++ d))) e)))
+
+-- a turn of the loop that stores the entries
+pub entries-next : (fields bytes : List ℕ) (count i at from : ℕ) (out after whole : List ℕ) → i < count → Bytes bytes
+    → from + (66 + getD fields (5 * i + 4) 0) ≤ length bytes
+    → after ≡ sets out at (entryBytes (entryFrom (drop (5 * i) fields) (drop from bytes)))
+    → sets out at (entriesBytes (entriesFrom (count - i) (drop (5 * i) fields) (drop from bytes))) ≡ whole
+    → sets after (at + (80 + getD fields (5 * i + 4) 0)) (entriesBytes (entriesFrom (count - (i + 1)) (drop (5 * (i + 1)) fields) (drop (from + (66 + getD fields (5 * i + 4) 0)) bytes))) ≡ whole
+unfolding entriesBytes
+entries-next fields bytes count i at from out after whole h b room stored left =
+    let f = drop (5 * i) fields in
+    let g = drop from bytes in
+    let x : auxOf f ≡ getD fields (5 * i + 4) 0 = getD-drop (5 * i) fields 4 0 in
+    let l : length g ≡ length bytes - from = length-drop from bytes in
+    let n : length (entryBytes (entryFrom f g)) ≡ 80 + auxOf f = length-entry f g (bytes-drop from bytes b) (omega arith) in
+    rw (stored, sets-append out at (entryBytes (entryFrom f g)) _ (at + (80 + getD fields (5 * i + 4) 0)) (rw n (omega arith)))
+    (ap (sets out at) (ap entriesBytes (sym (entries-turn fields count i h bytes from))) ∙ left)
+
+pub length-entries : (n : ℕ) (fields bytes : List ℕ) → length (entriesFrom n fields bytes) ≡ n
+unfolding entriesFrom
+length-entries zero fields bytes = refl
+length-entries (suc n) fields bytes = ap suc (length-entries n (drop 5 fields) (drop (66 + auxOf fields) bytes))
+
+-- the length of what is written
+pub length-all : (n : ℕ) (fields bytes : List ℕ) → Bytes bytes → neededBytes n fields ≤ length bytes
+    → length (entriesBytes (entriesFrom n fields bytes)) ≡ 14 * n + neededBytes n fields
+unfolding entriesFrom entriesBytes neededBytes
+length-all zero fields bytes b h = refl
+length-all (suc n) fields bytes b h =
+    let g = drop (66 + auxOf fields) bytes in
+    let l : length g ≡ length bytes - (66 + auxOf fields) = length-drop (66 + auxOf fields) bytes in
+    let e : length (entryBytes (entryFrom fields bytes)) ≡ 80 + auxOf fields = length-entry fields bytes b (omega arith) in
+    let r = length-all n (drop 5 fields) g (bytes-drop (66 + auxOf fields) bytes b) (omega arith) in
+    rw (length-append, e, r) (omega arith)
+
+pub length-head : (flags sequence spend rotate recovery count since : ℕ) → length (numbers (headNumbers flags sequence spend rotate recovery count since)) ≡ 32
+unfolding headNumbers
+length-head flags sequence spend rotate recovery count since = length-numbers (headNumbers flags sequence spend rotate recovery count since)

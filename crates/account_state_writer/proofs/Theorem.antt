@@ -1,0 +1,136 @@
+-- The writer, lent the slices of an accepted state's reading, writes the state back or refuses a buffer that is too short with 5.
+-- Assumes nothing.
+use mathlib.Core.Path.{_≡_, refl, sym, ap, _∙_}
+use mathlib.Core.Bool.{true}
+use mathlib.Core.List.{List, [], _∷_, _++_, append-assoc}
+use Prim.Native.Nat.{ℕ, zero, suc, _+_, _*_, _/_, _%_, _≤_}
+use native.Mathlib.Omega.{arith}
+use borrow.Author.Tests.{eq-eqb, le-leb}
+use lib.Dec.{leb, eqb}
+use lib.ListN.{length, take, drop, getD, length-append}
+use lib.Seq.{drop-at, take-at}
+use Rattle.octets.specs.Le.{numberAt, Bytes}
+use Rattle.octets.specs.Table.{numbers}
+use Rattle.octets.proofs.TableLaws.{length-numbers}
+use Rattle.octets.proofs.LeLaws.{number-one}
+use Rattle.octets.proofs.Parts.{part-back}
+use Rattle.protocol.specs.Rows.{Hold}
+use Rattle.protocol.specs.Reading.{WritesBack}
+use Rattle.protocol.proofs.Hold.{hold-append}
+use Rattle.protocol.proofs.Back.{writes-back}
+use Rattle.account_state.specs.Reading.{EntryReading, StateReading, EntryTyped, EntriesTyped, entryHead, entryLengths, entryBytes, entriesBytes, stateHead, stateBytes, stateReading}
+use Rattle.account_state.specs.State.{stateRows}
+use Rattle.account_state.proofs.Inverse.{Keys, state-back, state-typed, state-keys, state-limits}
+use Rattle.account_state_writer.specs.Writer.{auxOf, entryFrom, entriesFrom, neededBytes, entryCount, stateTotal, sliceRows, encodeRows, stateFrom, stateWritten, stateStored, fieldsOf, bytesOf}
+use Rattle.account_state_writer.proofs.Lent.{length-head}
+
+-- the first entry's part of the bytes
+module _ (e : EntryReading) (es : List EntryReading) (y : EntryTyped e) (k : length (e .key) ≡ 32) where
+  abbrev s : List ℕ
+  s = bytesOf (e ∷ es)
+
+  abbrev h : List ℕ
+  h = e .hashType ∷ e .abi ∷ []
+
+  hash-lent : take 32 (drop 2 s) ≡ e .codeHash
+  unfolding bytesOf
+  hash-lent = part-back s h (e .codeHash) (e .key ++ (e .aux ++ bytesOf es)) 2 32 refl refl (y .codeHash)
+
+  key-lent : take 32 (drop 34 s) ≡ e .key
+  unfolding bytesOf
+  key-lent =
+      part-back s (h ++ e .codeHash) (e .key) (e .aux ++ bytesOf es) 34 32 (simp append-assoc) (simp length-append (omega (arith, y .codeHash))) k
+
+  aux-lent : take (length (e .aux)) (drop 66 s) ≡ e .aux
+  unfolding bytesOf
+  aux-lent =
+      part-back s (h ++ (e .codeHash ++ e .key)) (e .aux) (bytesOf es) 66 _ (simp append-assoc) (simp length-append (omega (arith, y .codeHash, k))) refl
+
+  rest-lent : drop (66 + length (e .aux)) s ≡ bytesOf es
+  unfolding bytesOf
+  rest-lent =
+      let q : s ≡ (h ++ (e .codeHash ++ (e .key ++ e .aux))) ++ bytesOf es = simp append-assoc in
+      rw q (drop-at (h ++ (e .codeHash ++ (e .key ++ e .aux))) (bytesOf es) (66 + length (e .aux)) (simp length-append (omega (arith, y .codeHash, k))))
+
+  entry-lent : entryFrom (fieldsOf (e ∷ es)) s ≡ e
+  unfolding entryFrom fieldsOf bytesOf
+  entry-lent = rw (number-one s 0, number-one s 1, hash-lent, key-lent, aux-lent)
+
+  length-lent : length s ≡ 66 + length (e .aux) + length (bytesOf es)
+  unfolding bytesOf
+  length-lent = simp length-append (omega (arith, y .codeHash, k))
+
+entries-lent : (es : List EntryReading) → EntriesTyped es → Keys es → entriesFrom (length es) (fieldsOf es) (bytesOf es) ≡ es
+unfolding entriesFrom fieldsOf bytesOf
+entries-lent [] y k = refl
+entries-lent (e ∷ es) y k = rw (entry-lent e es (y .0) (k .0), rest-lent e es (y .0) (k .0), entries-lent es (y .1) (k .1))
+
+needed-lent : (es : List EntryReading) → EntriesTyped es → Keys es → neededBytes (length es) (fieldsOf es) ≡ length (bytesOf es)
+unfolding neededBytes fieldsOf bytesOf
+needed-lent [] y k = refl
+needed-lent (e ∷ es) y k = rw (needed-lent es (y .1) (k .1)) (sym (length-lent e es (y .0) (k .0)))
+
+length-fields : (es : List EntryReading) → length (fieldsOf es) ≡ 5 * length es
+unfolding fieldsOf
+length-fields [] = refl
+length-fields (e ∷ es) = let r = length-fields es in omega arith
+
+-- an entry's numbers take 14 bytes more in the state than in the slices
+length-written : (es : List EntryReading) → EntriesTyped es → Keys es → length (entriesBytes es) ≡ 14 * length es + length (bytesOf es)
+unfolding entriesBytes entryBytes entryHead entryLengths bytesOf
+length-written [] y k = refl
+length-written (e ∷ es) y k =
+    let r = length-written es (y .1) (k .1) in
+    let n : length (numbers (entryHead e)) ≡ 12 = length-numbers (entryHead e) in
+    let m : length (numbers (entryLengths e)) ≡ 4 = length-numbers (entryLengths e) in
+    simp length-append (omega (arith, r, n, m, y .0 .codeHash, k .0))
+
+module _ (s : List ℕ) (b : Bytes s) (h : Hold (stateRows s)) where
+  abbrev r : StateReading
+  r = stateReading s
+
+  abbrev fields : List ℕ
+  fields = fieldsOf (r .entries)
+
+  abbrev bytes : List ℕ
+  bytes = bytesOf (r .entries)
+
+  count : entryCount fields ≡ length (r .entries)
+  unfolding entryCount
+  count = let l = length-fields (r .entries) in omega arith
+
+  -- the slices say the reading
+  pub state-lent : stateFrom (r .flags) (r .sequence) (r .spend) (r .rotate) (r .recovery) (r .since) fields bytes ≡ r
+  unfolding stateFrom
+  state-lent = rw (count, entries-lent (r .entries) (state-typed s b h .entries) (state-keys s b h))
+
+  total : stateTotal fields bytes ≡ length s
+  unfolding stateTotal stateBytes stateHead
+  total =
+      let n : length (numbers (stateHead r)) ≡ 32 = length-head (r .flags) (r .sequence) (r .spend) (r .rotate) (r .recovery) (length (r .entries)) (r .since) in
+      let w = length-written (r .entries) (state-typed s b h .entries) (state-keys s b h) in
+      let l : length (numbers (stateHead r)) + length (entriesBytes (r .entries)) ≡ length s = sym (length-append (numbers (stateHead r)) (entriesBytes (r .entries))) ∙ ap length (state-back s b h) in
+      rw count (omega arith)
+
+  slices-hold : Hold (sliceRows fields bytes)
+  unfolding sliceRows
+  slices-hold =
+      let l = length-fields (r .entries) in
+      let t = total in
+      let m = state-limits s b h in
+      let n = needed-lent (r .entries) (state-typed s b h .entries) (state-keys s b h) in (
+        eq-eqb (length fields % 5) 0 (omega arith),
+        (
+          eq-eqb (neededBytes (entryCount fields) fields) (length bytes) (rw count n),
+          (le-leb (entryCount fields) 255 (rw count (omega arith)), (le-leb (stateTotal fields bytes) 16384 (omega arith), tt)),
+        ),
+      )
+
+  rows-hold : Hold (encodeRows r fields bytes)
+  unfolding encodeRows
+  rows-hold = hold-append (sliceRows fields bytes) (stateRows (stateBytes r)) slices-hold (rw (state-back s b h) h)
+
+  -- The writer, lent these slices, writes the state back.
+  pub state-writes-back : WritesBack (stateWritten r fields bytes) (stateStored r fields bytes) s
+  unfolding stateWritten stateStored
+  state-writes-back = writes-back (encodeRows r fields bytes) (stateBytes r) (stateTotal fields bytes) s rows-hold (state-back s b h) total

@@ -1,0 +1,110 @@
+-- The writer of account states: host/src/lib.rs, `encode_state`, over lent slices of numbers and bytes.
+-- `fields` has five numbers for each entry: slot, algorithm, capabilities, weight, length of aux. `bytes` has each entry's hash
+-- type, ABI, code hash (32 bytes), key (32 bytes) and aux, end to end.
+use Prim.Native.Nat.{ℕ, zero, suc, _+_, _*_, _/_, _%_}
+use mathlib.Core.List.{List, [], _∷_, _++_}
+use lib.Dec.{leb, eqb}
+use lib.ListN.{length, take, drop, getD}
+use Rattle.octets.specs.Le.{numberAt}
+use Rattle.octets.specs.Table.{Number}
+use Rattle.protocol.specs.Rows.{Row, row}
+use Rattle.protocol.specs.Write.{writeFault, writeAnswer, afterWrite}
+use Rattle.protocol.specs.declared.error.ProtocolError.the-variants.{InvalidState, SlicesDisagree}
+use Rattle.protocol.specs.declared.check.WriteAnswer.{WriteAnswer}
+use Rattle.account_state.specs.Reading.{EntryReading, StateReading, stateBytes}
+use Rattle.account_state.specs.State.{stateRows}
+
+-- the length of the aux of the first entry
+abbrev pub auxOf : List ℕ → ℕ
+auxOf fields = getD fields 4 0
+
+unfoldable pub entryFrom : List ℕ → List ℕ → EntryReading
+entryFrom fields bytes =
+    record {
+      slot = getD fields 0 0;
+      algorithm = getD fields 1 0;
+      capabilities = getD fields 2 0;
+      weight = getD fields 3 0;
+      hashType = numberAt bytes 0 1;
+      abi = numberAt bytes 1 1;
+      codeHash = take 32 (drop 2 bytes);
+      key = take 32 (drop 34 bytes);
+      aux = take (auxOf fields) (drop 66 bytes);
+    }
+
+-- the first five numbers of an entry's layout, whose key has 32 bytes
+unfoldable pub fieldNumbers : List ℕ → List Number
+fieldNumbers fields =
+    record { width = 2; value = 80 + auxOf fields }
+    ∷ record { width = 2; value = getD fields 0 0 }
+    ∷ record { width = 2; value = getD fields 1 0 }
+    ∷ record { width = 2; value = getD fields 2 0 }
+    ∷ record { width = 2; value = getD fields 3 0 }
+    ∷ []
+
+unfoldable pub entriesFrom : ℕ → List ℕ → List ℕ → List EntryReading
+entriesFrom zero fields bytes = []
+entriesFrom (suc n) fields bytes = entryFrom fields bytes ∷ entriesFrom n (drop 5 fields) (drop (66 + auxOf fields) bytes)
+
+-- how many bytes n entries have
+unfoldable pub neededBytes : ℕ → List ℕ → ℕ
+neededBytes zero fields = 0
+neededBytes (suc n) fields = 66 + auxOf fields + neededBytes n (drop 5 fields)
+
+unfoldable pub entryCount : List ℕ → ℕ
+entryCount fields = length fields / 5
+
+-- an entry takes 14 bytes more in the state than in `bytes`: its numbers
+unfoldable pub stateTotal : List ℕ → List ℕ → ℕ
+stateTotal fields bytes = 32 + 14 * entryCount fields + length bytes
+
+-- 01: "slices that don't agree with each other are 7, before all else"; then, as in the Rust, a count that fits its byte and a
+-- state of at most 16,384 bytes
+unfoldable pub sliceRows : List ℕ → List ℕ → List Row
+sliceRows fields bytes =
+    row (eqb (length fields % 5) 0) SlicesDisagree
+    ∷ row (eqb (neededBytes (entryCount fields) fields) (length bytes)) SlicesDisagree
+    ∷ row (leb (entryCount fields) 255) InvalidState
+    ∷ row (leb (stateTotal fields bytes) 16384) InvalidState
+    ∷ []
+
+-- the Rust validates the state that it wrote
+unfoldable pub encodeRows : StateReading → List ℕ → List ℕ → List Row
+encodeRows r fields bytes = sliceRows fields bytes ++ stateRows (stateBytes r)
+
+unfoldable pub stateFrom : ℕ → ℕ → ℕ → ℕ → ℕ → ℕ → List ℕ → List ℕ → StateReading
+stateFrom flags sequence spend rotate recovery since fields bytes =
+    record {
+      flags = flags;
+      sequence = sequence;
+      spend = spend;
+      rotate = rotate;
+      recovery = recovery;
+      since = since;
+      entries = entriesFrom (entryCount fields) fields bytes;
+    }
+
+-- bytes that are a valid state are written as they are
+unfoldable pub validWritten : List ℕ → List ℕ → WriteAnswer
+validWritten s out = writeAnswer (writeFault (stateRows s) (length s) (length out)) (length s)
+
+unfoldable pub validStored : List ℕ → List ℕ → List ℕ
+validStored s out = afterWrite (writeFault (stateRows s) (length s) (length out)) s out
+
+-- what the writer answers and leaves
+unfoldable pub stateWritten : StateReading → List ℕ → List ℕ → List ℕ → WriteAnswer
+stateWritten r fields bytes out =
+    writeAnswer (writeFault (encodeRows r fields bytes) (stateTotal fields bytes) (length out)) (stateTotal fields bytes)
+
+unfoldable pub stateStored : StateReading → List ℕ → List ℕ → List ℕ → List ℕ
+stateStored r fields bytes out =
+    afterWrite (writeFault (encodeRows r fields bytes) (stateTotal fields bytes) (length out)) (stateBytes r) out
+
+-- the slices that say a list of entries
+unfoldable pub fieldsOf : List EntryReading → List ℕ
+fieldsOf [] = []
+fieldsOf (e ∷ es) = e .slot ∷ e .algorithm ∷ e .capabilities ∷ e .weight ∷ length (e .aux) ∷ fieldsOf es
+
+unfoldable pub bytesOf : List EntryReading → List ℕ
+bytesOf [] = []
+bytesOf (e ∷ es) = (e .hashType ∷ e .abi ∷ []) ++ (e .codeHash ++ (e .key ++ (e .aux ++ bytesOf es)))

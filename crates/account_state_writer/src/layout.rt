@@ -1,0 +1,109 @@
+// The layout of a state, filled from the lent slices.
+use octets::part;
+use octets::rest;
+use octets::store_bytes;
+use octets::store_number;
+use protocol::ACCOUNT_STATE_MAGIC;
+ghost use mathlib.Core.Path.{_≡_};
+ghost use Prim.Native.Nat.{_+_, _*_, _≤_};
+ghost use lib.ListN.{length};
+ghost use lib.Seq.{sets};
+ghost use Rattle.octets.specs.Table.{numbers};
+ghost use Rattle.account_state.specs.Reading.{headNumbers, stateBytes, entryBytes, entriesBytes};
+ghost use Rattle.account_state_writer.specs.Writer.{auxOf, fieldNumbers, entryFrom, entriesFrom, neededBytes, entryCount, stateFrom};
+
+fn store_head(
+    out: &mut [u8],
+    flags: u8,
+    sequence: u64,
+    spend: u16,
+    rotate: u16,
+    recovery: u16,
+    count: u8,
+    since: u64,
+)
+    ensures { λ _. ⌜ now (out .exit) ≡ sets (now (out .entry)) 0 (numbers (headNumbers flags sequence spend rotate recovery count since)) ⌝ }
+{
+    store_number(out, 0, 4, ACCOUNT_STATE_MAGIC as u64);
+    store_number(out, 4, 1, 1);
+    store_number(out, 5, 1, flags as u64);
+    store_number(out, 6, 2, 32);
+    store_number(out, 8, 8, sequence);
+    store_number(out, 16, 2, spend as u64);
+    store_number(out, 18, 2, rotate as u64);
+    store_number(out, 20, 2, recovery as u64);
+    store_number(out, 22, 1, count as u64);
+    store_number(out, 23, 1, 0);
+    store_number(out, 24, 8, since);
+}
+
+// The first five numbers of an entry, from its five fields.
+fn store_fields(out: &mut [u8], at: usize, fields: &[u16])
+    requires { ⌜ (at ≤ 16384) × (5 ≤ length (now fields)) ⌝ }
+    ensures { λ _. ⌜ now (out .exit) ≡ sets (now (out .entry)) at (numbers (fieldNumbers (now (fields .entry)))) ⌝ }
+{
+    store_number(out, at, 2, 80 + fields[4] as u64);
+    store_number(out, at + 2, 2, fields[0] as u64);
+    store_number(out, at + 4, 2, fields[1] as u64);
+    store_number(out, at + 6, 2, fields[2] as u64);
+    store_number(out, at + 8, 2, fields[3] as u64);
+}
+
+// The entry at the front of the slices.
+fn store_entry(out: &mut [u8], at: usize, fields: &[u16], bytes: &[u8])
+    requires { ⌜ (at ≤ 16384) × ((5 ≤ length (now fields)) × (66 + auxOf (now fields) ≤ length (now bytes))) ⌝ }
+    ensures { λ _. ⌜ now (out .exit) ≡ sets (now (out .entry)) at (entryBytes (entryFrom (now (fields .entry)) (now (bytes .entry)))) ⌝ }
+{
+    let aux = fields[4] as usize;
+    store_fields(out, at, fields);
+    store_bytes(out, at + 10, part(bytes, 0, 34));
+    store_number(out, at + 44, 2, 32);
+    store_number(out, at + 46, 2, aux as u64);
+    store_bytes(out, at + 48, part(bytes, 34, 32 + aux));
+}
+
+fn store_entries(out: &mut [u8], fields: &[u16], bytes: &[u8], count: usize)
+    requires { ⌜ (5 * count ≤ length (now fields)) × ((neededBytes count (now fields) ≡ length (now bytes)) × (32 + 14 * count + length (now bytes) ≤ 16384)) ⌝ }
+    ensures { λ _. ⌜ now (out .exit) ≡ sets (now (out .entry)) 32 (entriesBytes (entriesFrom count (now (fields .entry)) (now (bytes .entry)))) ⌝ }
+{
+    let mut i: usize = 0;
+    let mut at: usize = 32;
+    let mut from: usize = 0;
+    while i < count {
+        let start = 5 * i;
+        let aux = fields[start + 4] as usize;
+        store_entry(out, at, &fields[start..], rest(bytes, from));
+        at += 80 + aux;
+        from += 66 + aux;
+        i += 1;
+    }
+}
+
+// The whole state, from the front of the buffer.
+pub(crate) fn store_state(
+    flags: u8,
+    sequence: u64,
+    spend: u16,
+    rotate: u16,
+    recovery: u16,
+    since: u64,
+    fields: &[u16],
+    bytes: &[u8],
+    out: &mut [u8],
+)
+    requires { ⌜ (entryCount (now fields) ≤ 255) × ((neededBytes (entryCount (now fields)) (now fields) ≡ length (now bytes)) × (32 + 14 * entryCount (now fields) + length (now bytes) ≤ 16384)) ⌝ }
+    ensures { λ _. ⌜ now (out .exit) ≡ sets (now (out .entry)) 0 (stateBytes (stateFrom flags sequence spend rotate recovery since (now (fields .entry)) (now (bytes .entry)))) ⌝ }
+{
+    let count = fields.len() / 5;
+    store_head(
+        out,
+        flags,
+        sequence,
+        spend,
+        rotate,
+        recovery,
+        count as u8,
+        since,
+    );
+    store_entries(out, fields, bytes, count);
+}

@@ -1,0 +1,80 @@
+// The writer of account states, from lent slices of numbers and bytes. The state is made in a local buffer, validated there, and
+// copied out only where nothing refuses it.
+mod slices; // slices.rt
+mod layout; // layout.rt
+mod valid; // valid.rt
+
+use self::layout::store_state;
+use self::slices::check_slices;
+use self::valid::write_valid;
+use protocol::ACCOUNT_STATE_MAX_LEN;
+use protocol::Check;
+use protocol::WriteAnswer;
+ghost use mathlib.Core.Path.{_≡_};
+ghost use lib.ListN.{length};
+ghost use Rattle.protocol.specs.Rows.{Hold};
+ghost use Rattle.account_state.specs.Reading.{stateBytes};
+ghost use Rattle.account_state_writer.specs.Writer.{stateFrom, sliceRows, stateTotal, validWritten, validStored, stateWritten, stateStored};
+
+// The state that the slices say, where they agree and it is not too long.
+fn encode_agreed(
+    flags: u8,
+    sequence: u64,
+    spend: u16,
+    rotate: u16,
+    recovery: u16,
+    since: u64,
+    fields: &[u16],
+    bytes: &[u8],
+    out: &mut [u8],
+) -> WriteAnswer
+    requires { ⌜ Hold (sliceRows (now fields) (now bytes)) ⌝ }
+    ensures { λ r. ⌜ r ≡ validWritten (stateBytes (stateFrom flags sequence spend rotate recovery since (now (fields .entry)) (now (bytes .entry)))) (now (out .entry)) ⌝ }
+    ensures { λ _. ⌜ now (out .exit) ≡ validStored (stateBytes (stateFrom flags sequence spend rotate recovery since (now (fields .entry)) (now (bytes .entry)))) (now (out .entry)) ⌝ }
+{
+    let total = 32 + 14 * (fields.len() / 5) + bytes.len();
+    let mut state = [0u8; ACCOUNT_STATE_MAX_LEN];
+    store_state(
+        flags,
+        sequence,
+        spend,
+        rotate,
+        recovery,
+        since,
+        fields,
+        bytes,
+        &mut state,
+    );
+    write_valid(&state[0..total], out)
+}
+
+// Writes the state to the front of `out` and answers its length. A refused writer writes nothing.
+pub fn encode_state(
+    flags: u8,
+    sequence: u64,
+    spend: u16,
+    rotate: u16,
+    recovery: u16,
+    since: u64,
+    fields: &[u16],
+    bytes: &[u8],
+    out: &mut [u8],
+) -> WriteAnswer
+    ensures { λ r. ⌜ r ≡ stateWritten (stateFrom flags sequence spend rotate recovery since (now (fields .entry)) (now (bytes .entry))) (now (fields .entry)) (now (bytes .entry)) (now (out .entry)) ⌝ }
+    ensures { λ _. ⌜ now (out .exit) ≡ stateStored (stateFrom flags sequence spend rotate recovery since (now (fields .entry)) (now (bytes .entry))) (now (fields .entry)) (now (bytes .entry)) (now (out .entry)) ⌝ }
+{
+    match check_slices(fields, bytes) {
+        Check::Failed(error) => WriteAnswer::Refused(error),
+        Check::Passed => encode_agreed(
+            flags,
+            sequence,
+            spend,
+            rotate,
+            recovery,
+            since,
+            fields,
+            bytes,
+            out,
+        ),
+    }
+}

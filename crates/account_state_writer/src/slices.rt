@@ -1,0 +1,45 @@
+// The checks of the lent slices: that they agree with each other, and that their state is not too long.
+use octets::fits;
+use protocol::ACCOUNT_STATE_MAX_LEN;
+use protocol::Check;
+use protocol::ProtocolError;
+ghost use mathlib.Core.Path.{_≡_};
+ghost use lib.Dec.{eqb};
+ghost use Rattle.protocol.specs.Rows.{decide};
+ghost use Rattle.protocol.specs.declared.check.Check.the-variants.{Passed};
+ghost use Rattle.account_state_writer.specs.Writer.{neededBytes, entryCount, sliceRows};
+
+// Whether the entries' bytes are `len` in all. What is left of `len` falls with each entry, so that no sum grows beyond it.
+fn bytes_agree(fields: &[u16], len: usize) -> bool
+    ensures { λ r. ⌜ r ≡ eqb (neededBytes (entryCount (now (fields .entry))) (now (fields .entry))) len ⌝ }
+{
+    let count = fields.len() / 5;
+    let mut i: usize = 0;
+    let mut left = len;
+    while i < count {
+        let needed = 66 + fields[5 * i + 4] as usize;
+        if left < needed {
+            return false;
+        }
+        left -= needed;
+        i += 1;
+    }
+    left == 0
+}
+
+pub(crate) fn check_slices(fields: &[u16], bytes: &[u8]) -> Check
+    ensures { λ r. ⌜ r ≡ decide Passed (sliceRows (now (fields .entry)) (now (bytes .entry))) ⌝ }
+{
+    let count = fields.len() / 5;
+    Check::Passed
+        .require(fields.len() % 5 == 0, ProtocolError::SlicesDisagree)
+        .require(
+            bytes_agree(fields, bytes.len()),
+            ProtocolError::SlicesDisagree,
+        )
+        .require(count <= 255, ProtocolError::InvalidState)
+        .require(
+            fits(ACCOUNT_STATE_MAX_LEN, 32 + 14 * count, bytes.len()),
+            ProtocolError::InvalidState,
+        )
+}

@@ -1,0 +1,119 @@
+-- An accepted witness lock is the written form of its reading.
+-- Assumes nothing.
+use mathlib.Core.Path.{_≡_, refl, ap, _∙_}
+use mathlib.Core.Bool.{true}
+use mathlib.Core.List.{List, [], _∷_, _++_, append-assoc, append-nil}
+use Prim.Native.Nat.{ℕ, zero, suc, _+_, _≤_}
+use native.Mathlib.Nat.{add-assoc}
+use native.Mathlib.Omega.{arith}
+use borrow.Author.Tests.{leb-true, eqb-true}
+use lib.ListN.{length, take, drop}
+use lib.Seq.{take-add, take-all}
+use Rattle.octets.specs.Le.{numberAt, Bytes}
+use Rattle.octets.specs.Lists.{joined}
+use Rattle.octets.specs.Table.{numbers, numbersAt}
+use Rattle.octets.proofs.LeLaws.{number-lt}
+use Rattle.octets.proofs.TableLaws.{table-back}
+use Rattle.octets.proofs.Parts.{part-length, join}
+use Rattle.protocol.specs.Policy.{isOperation}
+use Rattle.protocol.specs.Rows.{Hold}
+use Rattle.protocol.proofs.Hold.{hold-split}
+use Rattle.account_witness.specs.Header.{witnessMagic, headerRows, headerTable}
+use Rattle.account_witness.specs.Walk.{proofRows, proofAt, proofsRows}
+use Rattle.account_witness.specs.Witness.{witnessRows}
+use Rattle.account_witness.specs.Reading.{proofTable, proofBytes, proofsBytes, witnessBytes, proofReading, proofReadings, witnessReading, ProofTyped, ProofsTyped, WitnessTyped}
+use Rattle.account_witness.proofs.WalkLaws.{ProofHolds, proof-holds}
+
+-- what the rows of a witness lock say
+pub record WitnessHolds (s : List ℕ) : Type 0 where
+  pub present : 16 ≤ length s
+  pub most : length s ≤ 131072
+  pub magic : numberAt s 0 4 ≡ witnessMagic
+  pub version : numberAt s 4 1 ≡ 1
+  pub operation : isOperation (numberAt s 5 1) ≡ true
+  pub zeros : numberAt s 7 1 ≡ 0
+  pub count : numberAt s 6 1 ≤ 16
+  pub proofs : Hold (proofsRows s (numberAt s 6 1) 16 0)
+
+pub witness-holds : (s : List ℕ) → Hold (witnessRows s) → WitnessHolds s
+unfolding witnessRows headerRows
+witness-holds s h =
+    record {
+      present = leb-true _ _ (h .0);
+      most = leb-true _ _ (h .1 .0);
+      magic = eqb-true _ _ (h .1 .1 .0);
+      version = eqb-true _ _ (h .1 .1 .1 .0);
+      operation = h .1 .1 .1 .1 .0;
+      zeros = eqb-true _ _ (h .1 .1 .1 .1 .1 .0);
+      count = leb-true _ _ (h .1 .1 .1 .1 .1 .1 .0);
+      proofs = h .1 .1 .1 .1 .1 .1 .1;
+    }
+
+-- the rows of one proof, and of those behind it
+pub proofs-split : (s : List ℕ) (n off least : ℕ) → Hold (proofsRows s (suc n) off least)
+    → ProofHolds s off least × Hold (proofsRows s n (off + 8 + numberAt s (off + 4) 4) (numberAt s off 2 + 1))
+unfolding proofsRows
+proofs-split s n off least h = let z = hold-split (proofRows s off least) _ h in (proof-holds s off least (z .0), z .1)
+
+pub proofs-end : (s : List ℕ) (off least : ℕ) → Hold (proofsRows s 0 off least) → off ≡ length s
+unfolding proofsRows
+proofs-end s off least h = eqb-true _ _ (h .0)
+
+pub length-readings : (s : List ℕ) (n off : ℕ) → length (proofReadings s n off) ≡ n
+unfolding proofReadings
+length-readings s zero off = refl
+length-readings s (suc n) off = ap suc (length-readings s n _)
+
+module _ (s : List ℕ) (b : Bytes s) where
+  -- a proof is written back
+  proof-back : (off least : ℕ) → ProofHolds s off least
+      → proofBytes (proofReading s (proofAt s off)) ≡ take (8 + numberAt s (off + 4) 4) (drop off s)
+  unfolding proofBytes proofTable proofReading proofAt numbersAt
+  proof-back off least z =
+      let n = numberAt s (off + 4) 4 in
+      let i = z .inside in
+      let head = rw (z .zeros) at (simp add-assoc at (table-back (2 ∷ 2 ∷ 4 ∷ []) s off b (omega arith))) in
+      rw (part-length s (off + 8) n i, head, join s off 8 n (off + 8) refl)
+
+  proof-typed : (off least : ℕ) → ProofHolds s off least → ProofTyped (proofReading s (proofAt s off))
+  unfolding proofReading proofAt
+  proof-typed off least z =
+      record { slot = number-lt s off 2 b; len = rw (part-length s (off + 8) (numberAt s (off + 4) 4) (z .inside)) (number-lt s (off + 4) 4 b) }
+
+  -- n proofs are, to the end
+  proofs-back : (n off least : ℕ) → Hold (proofsRows s n off least) → take off s ++ proofsBytes (proofReadings s n off) ≡ s
+  unfolding proofReadings proofsBytes joined
+  proofs-back zero off least h =
+      let e : off ≡ length s = proofs-end s off least h in
+      append-nil (take off s) ∙ take-all off s (omega arith)
+  proofs-back (suc n) off least h =
+      let z = proofs-split s n off least h in
+      rw (proof-back off least (z .0), ← append-assoc, ← take-add off (8 + numberAt s (off + 4) 4) s, ← add-assoc) (proofs-back n _ _ (z .1))
+
+  proofs-typed : (n off least : ℕ) → Hold (proofsRows s n off least) → ProofsTyped (proofReadings s n off)
+  unfolding proofReadings
+  proofs-typed zero off least h = tt
+  proofs-typed (suc n) off least h =
+      let z = proofs-split s n off least h in
+      (proof-typed off least (z .0), proofs-typed n _ _ (z .1))
+
+  header-back : WitnessHolds s → numbers (headerTable (numberAt s 5 1) (numberAt s 6 1) (numberAt s 8 8)) ≡ take 16 s
+  unfolding headerTable numbersAt
+  header-back z = rw (z .magic, z .version, z .zeros) at (table-back (4 ∷ 1 ∷ 1 ∷ 1 ∷ 1 ∷ 8 ∷ []) s 0 b (z .present))
+
+  -- the whole is
+  pub witness-back : Hold (witnessRows s) → witnessBytes (witnessReading s) ≡ s
+  unfolding witnessBytes witnessReading
+  witness-back h =
+      let z = witness-holds s h in
+      rw (length-readings s (numberAt s 6 1) 16, header-back z) (proofs-back (numberAt s 6 1) 16 0 (z .proofs))
+
+  pub witness-typed : Hold (witnessRows s) → WitnessTyped (witnessReading s)
+  unfolding witnessReading
+  witness-typed h =
+      record {
+        operation = number-lt s 5 1 b;
+        sequence = number-lt s 8 8 b;
+        count = rw (length-readings s (numberAt s 6 1) 16) (number-lt s 6 1 b);
+        proofs = proofs-typed (numberAt s 6 1) 16 0 (witness-holds s h .proofs);
+      }

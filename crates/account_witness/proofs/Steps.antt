@@ -1,0 +1,90 @@
+-- The walk unrolled: the i-th step hands out the i-th proof of the reading, and the last cursor is at the end.
+-- Assumes nothing.
+use mathlib.Core.Path.{_≡_, refl}
+use mathlib.Core.List.{List, _∷_, _++_}
+use Prim.Native.Nat.{ℕ, zero, suc, _+_, _<_}
+use native.Mathlib.Nat.{add-zero, zero-add}
+use native.Mathlib.Omega.{arith}
+use lib.ListN.{length, getD}
+use Rattle.octets.specs.Le.{numberAt}
+use Rattle.protocol.specs.Rows.{Hold}
+use Rattle.protocol.proofs.Hold.{hold-split}
+use Rattle.account_witness.specs.declared.walk.Proof.{Proof}
+use Rattle.account_witness.specs.declared.walk.ProofCursor.{ProofCursor}
+use Rattle.account_witness.specs.declared.walk.ProofStep.the-variants.{Next}
+use Rattle.account_witness.specs.Walk.{proofRows, proofAt, cursorBehind, proofStep, cursorAt, proofsRows}
+use Rattle.account_witness.specs.Witness.{witnessRows}
+use Rattle.account_witness.specs.Reading.{ProofReading, proofReading, proofReadings, witnessReading}
+use Rattle.account_witness.proofs.Accepted.{step-accepted}
+use Rattle.account_witness.proofs.WalkLaws.{step-next}
+use Rattle.account_witness.proofs.Inverse.{witness-holds, proofs-end}
+
+-- the rows of suc n proofs: those of the proof at the cursor, then those of n proofs from the next cursor on
+pub rows-unrolled : (s : List ℕ) (n k : ℕ)
+    → proofsRows s (suc n) (cursorAt s k .offset) (cursorAt s k .least)
+    ≡ proofRows s (cursorAt s k .offset) (cursorAt s k .least) ++ proofsRows s n (cursorAt s (suc k) .offset) (cursorAt s (suc k) .least)
+unfolding proofsRows cursorAt cursorBehind
+rows-unrolled s n k = refl
+
+-- and so their readings
+pub readings-unrolled : (s : List ℕ) (n k : ℕ)
+    → proofReadings s (suc n) (cursorAt s k .offset) ≡ proofReading s (proofAt s (cursorAt s k .offset)) ∷ proofReadings s n (cursorAt s (suc k) .offset)
+unfolding proofReadings cursorAt cursorBehind
+readings-unrolled s n k = refl
+
+-- the i-th of n readings is that of the proof at the cursor after i proofs, whatever the bytes
+readings-from : (s : List ℕ) (d : ProofReading) (n k i : ℕ) → i < n
+    → getD (proofReadings s n (cursorAt s k .offset)) i d ≡ proofReading s (proofAt s (cursorAt s (k + i) .offset))
+readings-from s d zero k i h = absurd (omega arith)
+readings-from s d (suc n) k zero h = rw (readings-unrolled s n k, add-zero k)
+readings-from s d (suc n) k (suc i) h =
+    let e : k + suc i ≡ suc k + i = omega arith in
+    let l : i < n = omega arith in
+    rw (readings-unrolled s n k, e) (readings-from s d n (suc k) i l)
+
+pub reading-at : (s : List ℕ) (d : ProofReading) (i : ℕ) → i < numberAt s 6 1
+    → getD (witnessReading s .proofs) i d ≡ proofReading s (proofAt s (cursorAt s i .offset))
+unfolding witnessReading cursorAt
+reading-at s d i h = rw zero-add at (readings-from s d (numberAt s 6 1) 0 i h)
+
+-- where the rows of n proofs hold, so do those of each,
+rows-from : (s : List ℕ) (n k i : ℕ) → Hold (proofsRows s n (cursorAt s k .offset) (cursorAt s k .least)) → i < n
+    → Hold (proofRows s (cursorAt s (k + i) .offset) (cursorAt s (k + i) .least))
+rows-from s zero k i h l = absurd (omega arith)
+rows-from s (suc n) k zero h l =
+    rw (add-zero k) (hold-split (proofRows s (cursorAt s k .offset) (cursorAt s k .least)) _ (rw (rows-unrolled s n k) at h) .0)
+rows-from s (suc n) k (suc i) h l =
+    let e : k + suc i ≡ suc k + i = omega arith in
+    let m : i < n = omega arith in
+    rw e (rows-from s n (suc k) i (hold-split (proofRows s (cursorAt s k .offset) (cursorAt s k .least)) _ (rw (rows-unrolled s n k) at h) .1) m)
+
+-- and the cursor after n proofs is at the end
+end-from : (s : List ℕ) (n k : ℕ) → Hold (proofsRows s n (cursorAt s k .offset) (cursorAt s k .least)) → cursorAt s (k + n) .offset ≡ length s
+end-from s zero k h = rw (add-zero k) (proofs-end s _ _ h)
+end-from s (suc n) k h =
+    let e : k + suc n ≡ suc k + n = omega arith in
+    rw e (end-from s n (suc k) (hold-split (proofRows s (cursorAt s k .offset) (cursorAt s k .least)) _ (rw (rows-unrolled s n k) at h) .1))
+
+-- a step that goes on from the cursor after i proofs hands out the proof there, and comes to the cursor after the next
+pub step-on : (s : List ℕ) (i : ℕ) (p : Proof) (d : ProofCursor) → proofStep s (cursorAt s i) ≡ Next p d
+    → (proofAt s (cursorAt s i .offset) ≡ p) × (cursorAt s (suc i) ≡ d)
+unfolding cursorAt
+step-on s i p d h = let z = step-next s (cursorAt s i) p d h in (z .1, z .2)
+
+-- the i-th step of an accepted witness lock goes on, with the i-th proof of the reading
+pub record HandsOut (s : List ℕ) (i : ℕ) : Type 0 where
+  pub step : proofStep s (cursorAt s i) ≡ Next (proofAt s (cursorAt s i .offset)) (cursorAt s (suc i))
+  pub reading : (d : ProofReading) → getD (witnessReading s .proofs) i d ≡ proofReading s (proofAt s (cursorAt s i .offset))
+
+pub steps : (s : List ℕ) → Hold (witnessRows s) → (i : ℕ) → i < numberAt s 6 1 → HandsOut s i
+unfolding cursorAt
+steps s h i l =
+    record {
+      step = step-accepted s (cursorAt s i) .1 (rw zero-add at (rows-from s (numberAt s 6 1) 0 i (witness-holds s h .proofs) l));
+      reading = λ d. reading-at s d i l;
+    }
+
+-- after them the cursor is at the end
+pub steps-end : (s : List ℕ) → Hold (witnessRows s) → cursorAt s (numberAt s 6 1) .offset ≡ length s
+unfolding cursorAt
+steps-end s h = rw zero-add at (end-from s (numberAt s 6 1) 0 (witness-holds s h .proofs))

@@ -1,0 +1,94 @@
+-- A step and the walk: what the rows of a proof say, what a step tells, and the rows that are left after it.
+-- Assumes nothing.
+use mathlib.Core.Path.{_≡_, refl, ap, _∙_}
+use mathlib.Core.Bool.{Bool, true}
+use mathlib.Core.List.{List}
+use Prim.Native.Nat.{ℕ, suc, _+_, _-_, _≤_, _<_}
+use native.Mathlib.Omega.{arith}
+use borrow.Author.Tests.{leb-true, eqb-true}
+use lib.Dec.{eqb}
+use lib.ListN.{length}
+use Rattle.octets.specs.Le.{numberAt}
+use Rattle.protocol.specs.Rows.{row, _▷_, decide, Hold}
+use Rattle.protocol.specs.declared.error.ProtocolError.{ProtocolError}
+use Rattle.protocol.specs.declared.error.ProtocolError.the-variants.{InvalidWitness}
+use Rattle.protocol.specs.declared.check.Check.{Check}
+use Rattle.protocol.specs.declared.check.Check.the-variants.{Passed, Failed}
+use Rattle.protocol.proofs.Hold.{decide-append, decide-failed}
+use Rattle.account_witness.specs.declared.walk.Proof.{Proof}
+use Rattle.account_witness.specs.declared.walk.ProofCursor.{ProofCursor}
+use Rattle.account_witness.specs.declared.walk.ProofStep.the-variants.{Next, Refused}
+use Rattle.account_witness.specs.Walk.{proofRows, proofAt, cursorBehind, stepAnswer, proofStep, proofsRows}
+
+-- a row that passes decides nothing
+pub row-passed : (b : Bool) (e : ProtocolError) → b ≡ true → Passed ▷ row b e ≡ Passed
+unfolding _▷_
+row-passed b e h = rw h
+
+-- what the rows of a proof say
+pub record ProofHolds (s : List ℕ) (off least : ℕ) : Type 0 where
+  pub zeros : numberAt s (off + 2) 2 ≡ 0
+  pub inside : off + 8 + numberAt s (off + 4) 4 ≤ length s
+  pub some : 1 ≤ numberAt s (off + 4) 4
+  pub above : least ≤ numberAt s off 2
+
+pub proof-holds : (s : List ℕ) (off least : ℕ) → Hold (proofRows s off least) → ProofHolds s off least
+unfolding proofRows
+proof-holds s off least h =
+    record {
+      zeros = eqb-true _ _ (h .1 .0);
+      inside = leb-true _ _ (h .1 .1 .0);
+      some = leb-true _ _ (h .1 .1 .1 .0);
+      above = leb-true _ _ (h .1 .1 .1 .1 .0);
+    }
+
+answer-next : (k : Check) (p q : Proof) (c d : ProofCursor) → stepAnswer k p c ≡ Next q d → (k ≡ Passed) × (p ≡ q) × (c ≡ d)
+unfolding stepAnswer
+answer-next Passed p q c d h = (refl, cc, cc)
+answer-next (Failed e) p q c d h = absurd (let z : _≡_ {A = ℕ} 0 1 = cc in omega arith)
+
+answer-refused : (k : Check) (p : Proof) (c : ProofCursor) (e : ProtocolError) → stepAnswer k p c ≡ Refused e → k ≡ Failed e
+unfolding stepAnswer
+answer-refused Passed p c e h = absurd (let z : _≡_ {A = ℕ} 0 1 = cc in omega arith)
+answer-refused (Failed x) p c e h = cc
+
+-- a step that goes on: every row of the proof passed, and the cursor is behind it
+pub step-next : (s : List ℕ) (c : ProofCursor) (p : Proof) (d : ProofCursor) → proofStep s c ≡ Next p d
+    → (decide Passed (proofRows s (c .offset) (c .least)) ≡ Passed) × (proofAt s (c .offset) ≡ p) × (cursorBehind s (c .offset) ≡ d)
+unfolding proofStep
+step-next s c p d h = answer-next _ _ _ _ _ h
+
+-- a step that does not: the refusal of the rows
+pub step-refused : (s : List ℕ) (c : ProofCursor) (e : ProtocolError) → proofStep s c ≡ Refused e
+    → decide Passed (proofRows s (c .offset) (c .least)) ≡ Failed e
+unfolding proofStep
+step-refused s c e h = answer-refused _ _ _ _ h
+
+-- a proof's rows, and then those of the proofs behind it
+pub walk-more : (s : List ℕ) (left off least : ℕ) → 0 < left
+    → decide Passed (proofsRows s left off least)
+    ≡ decide (decide Passed (proofRows s off least)) (proofsRows s (left - 1) (off + 8 + numberAt s (off + 4) 4) (numberAt s off 2 + 1))
+unfolding proofsRows
+walk-more s left off least p =
+    let l : left ≡ suc (left - 1) = omega arith in
+    ap (λ (n : ℕ). decide Passed (proofsRows s n off least)) l ∙ decide-append Passed (proofRows s off least) _
+
+-- after a step the rows that are left decide
+pub walk-next : (s : List ℕ) (left : ℕ) (c d : ProofCursor) (p : Proof) → 0 < left → proofStep s c ≡ Next p d
+    → decide Passed (proofsRows s left (c .offset) (c .least)) ≡ decide Passed (proofsRows s (left - 1) (d .offset) (d .least))
+unfolding cursorBehind
+walk-next s left c d p l h =
+    let z = step-next s c p d h in
+    walk-more s left (c .offset) (c .least) l ∙ rw (z .0, ← z .2)
+
+-- a step that is refused decides
+pub walk-refused : (s : List ℕ) (left : ℕ) (c : ProofCursor) (e : ProtocolError) → 0 < left → proofStep s c ≡ Refused e
+    → decide Passed (proofsRows s left (c .offset) (c .least)) ≡ Failed e
+walk-refused s left c e l h =
+    walk-more s left (c .offset) (c .least) l ∙ rw (step-refused s c e h) (decide-failed _ e)
+
+-- behind the last proof the end is left
+pub walk-none : (s : List ℕ) (left off least : ℕ) → left ≡ 0
+    → decide Passed (proofsRows s left off least) ≡ Passed ▷ row (eqb off (length s)) InvalidWitness
+unfolding proofsRows decide
+walk-none s left off least e = rw e

@@ -1,0 +1,43 @@
+-- `account_witness::walk::check_proof` meets its contract: the first row holds, and the others are the calls, last to first. Assumes nothing.
+use Rattle.protocol.specs.Rows.{decide}
+use borrow.Author.Tests.{le-leb}
+use Rattle.account_witness.specs.Walk.{proofRows}
+use Rattle.account_witness.proofs.WalkLaws.{row-passed}
+use borrow.Author.Needs.{needs}
+use Rattle.account_witness.proofs.walk.check_proof.Statement.{statement}
+use Rattle.account_witness.proofs.walk.check_proof.Tie as tie
+
+returns : tie.Need-returns
+unfolding proofRows decide
+returns c =
+    let c1 = c .before .before .before .before in
+    rw (
+      row-passed _ _ (le-leb _ _ (c1 .before .before .before .before .before .pre)),
+      c .require4 .ensures,
+      c .before .require3 .ensures,
+      c .before .before .require2 .ensures,
+      c .before .before .before .fits2 .ensures,
+      c1 .require .ensures,
+      c1 .before .u16-at2 .ensures,
+      c1 .before .before .u32-at .ensures,
+      c1 .before .before .before .u16-at .ensures,
+    )
+
+pub check-proof-spec : {M : Type 1} → statement M
+check-proof-spec =
+    tie.close
+    (tie.spec
+    (λ c κs. search needs)
+    (λ c. search needs)
+    (λ c. search needs)
+    (λ c κs. search needs)
+    (λ c. search needs)
+    (λ c. search needs)
+    (λ c κs. search needs)
+    (λ c κs. search needs)
+    (λ c. search needs)
+    (λ c κs. search needs)
+    (λ c κs. search needs)
+    (λ c κs. search needs)
+    (λ c κs. search needs)
+    returns)

@@ -1,0 +1,61 @@
+-- 01, Witness lock: "16 to 131,072 bytes; `CKAW`, version 1, operation 1 to 3, proof count, 0, sequence (u64). Every fault is
+-- 22, version too."
+use Prim.Native.Nat.{ℕ}
+use mathlib.Core.List.{List, [], _∷_}
+use lib.Dec.{leb, eqb}
+use lib.ListN.{length}
+use Rattle.octets.specs.Le.{numberAt}
+use Rattle.octets.specs.Table.{Number}
+use Rattle.protocol.specs.Errors.{errorNumber}
+use Rattle.protocol.specs.Policy.{isOperation}
+use Rattle.protocol.specs.Rows.{Row, row, decide}
+use Rattle.protocol.specs.declared.error.ProtocolError.the-variants.{InvalidWitness}
+use Rattle.protocol.specs.declared.check.Check.{Check}
+use Rattle.protocol.specs.declared.check.Check.the-variants.{Passed, Failed}
+use Rattle.account_witness.specs.declared.header.AccountWitnessHeader.{AccountWitnessHeader}
+use Rattle.account_witness.specs.declared.header.WitnessHeaderAnswer.{WitnessHeaderAnswer}
+use Rattle.account_witness.specs.declared.header.WitnessHeaderAnswer.the-variants.{Header, Refused}
+
+-- `CKAW` as a number
+abbrev pub witnessMagic : ℕ
+witnessMagic = 0x57414b43
+
+unfoldable pub headerRows : List ℕ → List Row
+headerRows s =
+    row (leb 16 (length s)) InvalidWitness
+    ∷ row (leb (length s) 131072) InvalidWitness
+    ∷ row (eqb (numberAt s 0 4) witnessMagic) InvalidWitness
+    ∷ row (eqb (numberAt s 4 1) 1) InvalidWitness
+    ∷ row (isOperation (numberAt s 5 1)) InvalidWitness
+    ∷ row (eqb (numberAt s 7 1) 0) InvalidWitness
+    ∷ []
+
+unfoldable pub headerFault : List ℕ → Check
+headerFault s = decide Passed (headerRows s)
+
+unfoldable pub headerAt : List ℕ → AccountWitnessHeader
+headerAt s = record { operation = numberAt s 5 1; «proof_count» = numberAt s 6 1; «state_sequence» = numberAt s 8 8 }
+
+unfoldable pub headerAnswer : Check → AccountWitnessHeader → WitnessHeaderAnswer
+headerAnswer Passed h = Header h
+headerAnswer (Failed e) h = Refused e
+
+-- 01: "Counts 17 to 255 pass `parse_witness_header`"
+unfoldable pub readHeader : List ℕ → WitnessHeaderAnswer
+readHeader s = headerAnswer (headerFault s) (headerAt s)
+
+-- the layout
+unfoldable pub headerTable : ℕ → ℕ → ℕ → List Number
+headerTable operation count sequence =
+    record { width = 4; value = witnessMagic }
+    ∷ record { width = 1; value = 1 }
+    ∷ record { width = 1; value = operation }
+    ∷ record { width = 1; value = count }
+    ∷ record { width = 1; value = 0 }
+    ∷ record { width = 8; value = sequence }
+    ∷ []
+
+-- document 01's number of the answer
+abbrev pub headerNumber : WitnessHeaderAnswer → ℕ
+headerNumber (Header h) = 0
+headerNumber (Refused e) = errorNumber e

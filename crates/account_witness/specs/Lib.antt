@@ -1,0 +1,4 @@
+pub mod Header
+pub mod Walk
+pub mod Witness
+pub mod Reading

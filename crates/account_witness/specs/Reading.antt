@@ -1,0 +1,60 @@
+-- The reading of a witness lock, every field but fixed bytes, lengths and counts, and its written form.
+use Prim.Native.Nat.{ℕ, zero, suc, _+_, _^_, _<_}
+use mathlib.Core.List.{List, [], _∷_, _++_, map}
+use lib.ListN.{length, take, drop}
+use Rattle.octets.specs.Le.{numberAt}
+use Rattle.octets.specs.Lists.{joined}
+use Rattle.octets.specs.Table.{Number, numbers}
+use Rattle.account_witness.specs.declared.walk.Proof.{Proof}
+use Rattle.account_witness.specs.Header.{headerTable}
+use Rattle.account_witness.specs.Walk.{proofAt}
+
+pub record ProofReading : Type 0 where
+  pub slot : ℕ
+  pub bytes : List ℕ
+
+pub record WitnessReading : Type 0 where
+  pub operation : ℕ
+  pub sequence : ℕ
+  pub proofs : List ProofReading
+
+-- 01, Proof: "slot (u16), two zero bytes, length (u32, not 0), bytes"
+unfoldable pub proofTable : ℕ → ℕ → List Number
+proofTable slot len = record { width = 2; value = slot } ∷ record { width = 2; value = 0 } ∷ record { width = 4; value = len } ∷ []
+
+unfoldable pub proofBytes : ProofReading → List ℕ
+proofBytes p = numbers (proofTable (p .slot) (length (p .bytes))) ++ p .bytes
+
+unfoldable pub proofsBytes : List ProofReading → List ℕ
+proofsBytes ps = joined (map proofBytes ps)
+
+unfoldable pub witnessBytes : WitnessReading → List ℕ
+witnessBytes r = numbers (headerTable (r .operation) (length (r .proofs)) (r .sequence)) ++ proofsBytes (r .proofs)
+
+-- the reading of s: that of a proof whose place the walk hands out, of n proofs from `off` on, and of the whole
+unfoldable pub proofReading : List ℕ → Proof → ProofReading
+proofReading s p = record { slot = p .slot; bytes = take (p .len) (drop (p .start) s) }
+
+unfoldable pub proofReadings : List ℕ → ℕ → ℕ → List ProofReading
+proofReadings s zero off = []
+proofReadings s (suc n) off =
+    proofReading s (proofAt s off) ∷ proofReadings s n (off + 8 + numberAt s (off + 4) 4)
+
+unfoldable pub witnessReading : List ℕ → WitnessReading
+witnessReading s =
+    record { operation = numberAt s 5 1; sequence = numberAt s 8 8; proofs = proofReadings s (numberAt s 6 1) 16 }
+
+-- numbers, lengths and the count fit their fields
+pub record ProofTyped (p : ProofReading) : Type 0 where
+  pub slot : p .slot < 256 ^ 2
+  pub len : length (p .bytes) < 256 ^ 4
+
+abbrev pub ProofsTyped : List ProofReading → Type 0
+ProofsTyped [] = Unit {0}
+ProofsTyped (p ∷ ps) = ProofTyped p × ProofsTyped ps
+
+pub record WitnessTyped (r : WitnessReading) : Type 0 where
+  pub operation : r .operation < 256 ^ 1
+  pub sequence : r .sequence < 256 ^ 8
+  pub count : length (r .proofs) < 256 ^ 1
+  pub proofs : ProofsTyped (r .proofs)

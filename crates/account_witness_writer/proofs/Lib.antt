@@ -1,0 +1,4 @@
+pub mod EncodeLaws
+pub mod Lent
+pub mod Written
+pub mod Theorem

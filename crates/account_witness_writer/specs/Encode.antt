@@ -1,0 +1,85 @@
+-- The writer of witness locks. Proofs are lent as slices: a slot and a length for each, and the bytes of all proofs end to end.
+use Prim.Native.Nat.{ℕ, _+_, _*_}
+use mathlib.Core.Bool.{Bool, true}
+use mathlib.Core.List.{List, [], _∷_, map}
+use lib.Dec.{leb, eqb}
+use lib.ListN.{length, take, drop}
+use Rattle.octets.specs.Lists.{both, joined}
+use Rattle.protocol.specs.Policy.{isOperation}
+use Rattle.protocol.specs.Rows.{Row, row}
+use Rattle.protocol.specs.Write.{writeFault, writeAnswer, afterWrite}
+use Rattle.protocol.specs.declared.error.ProtocolError.the-variants.{SlicesDisagree, InvalidOperation, InvalidWitness}
+use Rattle.protocol.specs.declared.check.Check.{Check}
+use Rattle.protocol.specs.declared.check.WriteAnswer.{WriteAnswer}
+use Rattle.account_witness.specs.Reading.{ProofReading, WitnessReading, witnessBytes}
+
+unfoldable pub sum : List ℕ → ℕ
+sum [] = 0
+sum (n ∷ ns) = n + sum ns
+
+-- the proofs that the slices lend: each takes its length of the bytes that are left
+unfoldable pub proofsFrom : List ℕ → List ℕ → List ℕ → List ProofReading
+proofsFrom [] lengths bytes = []
+proofsFrom (slot ∷ slots) [] bytes = []
+proofsFrom (slot ∷ slots) (len ∷ lengths) bytes =
+    record { slot = slot; bytes = take len bytes } ∷ proofsFrom slots lengths (drop len bytes)
+
+unfoldable pub readingFrom : ℕ → ℕ → List ℕ → List ℕ → List ℕ → WitnessReading
+readingFrom operation sequence slots lengths bytes =
+    record { operation = operation; sequence = sequence; proofs = proofsFrom slots lengths bytes }
+
+-- no proof is empty
+unfoldable pub filled : List ℕ → Bool
+filled [] = true
+filled (len ∷ lengths) = both (leb 1 len) (filled lengths)
+
+-- "slots rise strictly", from `least` on
+unfoldable pub rising : ℕ → List ℕ → Bool
+rising least [] = true
+rising least (slot ∷ slots) = both (leb least slot) (rising (slot + 1) slots)
+
+-- the length of the written form
+abbrev pub encodeTotal : List ℕ → List ℕ → ℕ
+encodeTotal slots bytes = 16 + (8 * length slots + length bytes)
+
+-- 01, Proof and Witness lock: "length (u32, not 0)", "16 to 131,072 bytes", "slots rise strictly"
+unfoldable pub lentRows : List ℕ → List ℕ → List ℕ → List Row
+lentRows slots lengths bytes =
+    row (filled lengths) InvalidWitness
+    ∷ row (leb (encodeTotal slots bytes) 131072) InvalidWitness
+    ∷ row (rising 0 slots) InvalidWitness
+    ∷ []
+
+-- 01: "slices that don't agree with each other are 7, before all else. Then writers refuse as in the Rust"; "Operation outside
+-- 1 to 3 is 37 in them."
+unfoldable pub encodeRows : ℕ → List ℕ → List ℕ → List ℕ → List Row
+encodeRows operation slots lengths bytes =
+    row (eqb (length slots) (length lengths)) SlicesDisagree
+    ∷ row (eqb (sum lengths) (length bytes)) SlicesDisagree
+    ∷ row (isOperation operation) InvalidOperation
+    ∷ row (leb (length slots) 16) InvalidWitness
+    ∷ lentRows slots lengths bytes
+
+-- 01: "then with 5 if the buffer is short"
+unfoldable pub encodeFault : ℕ → List ℕ → List ℕ → List ℕ → ℕ → Check
+encodeFault operation slots lengths bytes room =
+    writeFault (encodeRows operation slots lengths bytes) (encodeTotal slots bytes) room
+
+-- what the writer answers, and the buffer afterwards
+unfoldable pub witnessWritten : ℕ → List ℕ → List ℕ → List ℕ → List ℕ → WriteAnswer
+witnessWritten operation slots lengths bytes out =
+    writeAnswer (encodeFault operation slots lengths bytes (length out)) (encodeTotal slots bytes)
+
+unfoldable pub witnessStored : ℕ → ℕ → List ℕ → List ℕ → List ℕ → List ℕ → List ℕ
+witnessStored operation sequence slots lengths bytes out =
+    afterWrite (encodeFault operation slots lengths bytes (length out)) (witnessBytes (readingFrom operation sequence slots lengths bytes)) out
+
+-- the slices that lend these proofs
+unfoldable pub slotsOf : List ProofReading → List ℕ
+slotsOf ps = map (λ (p : ProofReading). p .slot) ps
+
+unfoldable pub lengthsOf : List ProofReading → List ℕ
+lengthsOf ps = map (λ (p : ProofReading). length (p .bytes)) ps
+
+unfoldable pub bytesOf : List ProofReading → List ℕ
+bytesOf ps = joined (map (λ (p : ProofReading). p .bytes) ps)

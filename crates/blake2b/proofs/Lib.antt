@@ -1,0 +1,7 @@
+pub mod Table
+pub mod Written
+pub mod Bytes
+pub mod Padding
+pub mod Feed
+pub mod Whole
+pub mod Chain

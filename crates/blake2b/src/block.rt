@@ -1,0 +1,44 @@
+// The block that is being filled: its next place, how full it is, and where a run of bytes ends.
+use super::Blake2b;
+use super::compression::compress;
+use super::compression::message_words;
+ghost use mathlib.Core.Path.{_≡_};
+ghost use Prim.Native.Nat.{_+_, _-_, _%_, _≤_, _<_};
+ghost use Rattle.blake2b.specs.State.{waiting, flushedWords};
+
+// The place of the next byte.
+pub(crate) fn next_place(fed: u64) -> usize
+    ensures { λ r. ⌜ r ≡ fed % 128 ⌝ }
+{
+    fed as usize % Blake2b::BLOCK
+}
+
+// How many bytes of the block wait to be compressed.
+pub(crate) fn waiting_bytes(fed: u64) -> usize
+    ensures { λ r. ⌜ (r ≡ waiting fed) × (r ≤ 128) ⌝ }
+{
+    if fed == 0 {
+        return 0;
+    }
+    (fed - 1) as usize % Blake2b::BLOCK + 1
+}
+
+// Where the run that starts at `at` ends: with the data, or with the block.
+pub(crate) fn run_end(fed: u64, at: usize, len: usize) -> usize
+    requires { ⌜ at < len ⌝ }
+    ensures { λ r. ⌜ (at < r) × ((r ≤ len) × (fed % 128 + (r - at) ≤ 128)) ⌝ }
+{
+    let room = Blake2b::BLOCK - next_place(fed);
+    if len - at < room { len } else { at + room }
+}
+
+// The words once a full block is compressed.
+pub(crate) fn flush(h: [u64; 8], block: &[u8], fed: u64) -> [u64; 8]
+    ensures { λ r. ⌜ r ≡ flushedWords h (now (block .entry)) fed ⌝ }
+{
+    if waiting_bytes(fed) == Blake2b::BLOCK {
+        compress(h, message_words(block), fed, false)
+    } else {
+        h
+    }
+}

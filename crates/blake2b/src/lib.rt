@@ -1,0 +1,151 @@
+// BLAKE2b of RFC 7693, without a key: a hash state that is begun from a parameter block, fed and finished.
+mod compression; // compression.rt
+mod block; // block.rt
+
+use self::block::flush;
+use self::block::next_place;
+use self::block::run_end;
+use self::block::waiting_bytes;
+use self::compression::compress;
+use self::compression::message_words;
+ghost use mathlib.Core.Path.{_≡_};
+ghost use lib.ListN.{take};
+ghost use lib.Seq.{sets};
+ghost use Rattle.blake2b.specs.Rfc7693.{startWords, bytesOf, hashOf};
+ghost use Rattle.blake2b.specs.State.{begun, fedAll, finished, ckbParameters};
+
+// A hash state: the chained words, the block that is being filled, and the number of bytes fed.
+pub struct Blake2b {
+    h: [u64; 8],
+    block: [u8; Blake2b::BLOCK],
+    fed: u64,
+}
+
+// The start value xor the words of a parameter block.
+fn start_words(p: [u8; 64]) -> [u64; 8]
+    ensures { λ r. ⌜ r ≡ startWords p ⌝ }
+{
+    let iv = Blake2b::IV;
+    let mut h = [0u64; 8];
+    let mut i: usize = 0;
+    while i < 8 {
+        h[i] = iv[i] ^ octets::u64_at(&p, 8 * i);
+        i += 1;
+    }
+    h
+}
+
+// Stores the bytes of the words, as far as there is room.
+fn store_words(out: &mut [u8], h: [u64; 8])
+    ensures { λ _. ⌜ now (out .exit) ≡ sets (now (out .entry)) 0 (bytesOf h) ⌝ }
+{
+    let mut i: usize = 0;
+    while i < 8 {
+        octets::store_number(out, 8 * i, 8, h[i]);
+        i += 1;
+    }
+}
+
+impl Blake2b {
+    // The length of a block.
+    pub const BLOCK: usize = 128;
+
+    // The initialization vector.
+    pub const IV: [u64; 8] = [
+        0x6a09e667f3bcc908,
+        0xbb67ae8584caa73b,
+        0x3c6ef372fe94f82b,
+        0xa54ff53a5f1d36f1,
+        0x510e527fade682d1,
+        0x9b05688c2b3e6c1f,
+        0x1f83d9abfb41bd6b,
+        0x5be0cd19137e2179,
+    ];
+
+    // A state that nothing was fed to, from a parameter block.
+    pub fn with_parameters(p: [u8; 64]) -> Self
+        ensures { λ r. ⌜ r ≡ begun p ⌝ }
+    {
+        let h = start_words(p);
+        Self {
+            h,
+            block: [0; Self::BLOCK],
+            fed: 0,
+        }
+    }
+
+    // A state for CKB's hash: 32 bytes out, fanout and depth 1, and the personal bytes.
+    pub fn new() -> Self
+        ensures { λ r. ⌜ r ≡ begun ckbParameters ⌝ }
+    {
+        let mut p = [0u8; 64];
+        p[0] = 32;
+        p[2] = 1;
+        p[3] = 1;
+        octets::store_bytes(&mut p, 48, b"ckb-default-hash");
+        Self::with_parameters(p)
+    }
+
+    // All of the data is fed. The loop works on locals, so that the state is not copied at each block.
+    pub fn update(mut self, data: &[u8]) -> Self
+        ensures { λ r. ⌜ r ≡ fedAll self (now («data» .entry)) ⌝ }
+    {
+        let mut h = self.h;
+        let mut block = self.block;
+        let mut fed = self.fed;
+        let mut at: usize = 0;
+        while at < data.len() {
+            let next = flush(h, &block, fed);
+            h = next;
+            let end = run_end(fed, at, data.len());
+            octets::store_bytes(&mut block, next_place(fed), &data[at..end]);
+            fed = std::num::wrapping_add_u64(fed, (end - at) as u64);
+            at = end;
+        }
+        self.h = h;
+        self.block = block;
+        self.fed = fed;
+        self
+    }
+
+    // The last block is filled up with zeros and compressed.
+    pub fn finish(mut self) -> Self
+        ensures { λ r. ⌜ r ≡ finished self ⌝ }
+    {
+        let h = self.h;
+        let mut block = self.block;
+        let fed = self.fed;
+        octets::store_bytes(&mut block, waiting_bytes(fed), &[0u8; Self::BLOCK]);
+        let next = compress(h, message_words(&block), fed, true);
+        self.h = next;
+        self.block = block;
+        self
+    }
+
+    // The first 32 bytes of the words: the digest of a finished state.
+    pub fn digest(self) -> [u8; 32]
+        ensures { λ r. ⌜ r ≡ take 32 (bytesOf (self .h)) ⌝ }
+    {
+        let h = self.h;
+        let mut out = [0u8; 32];
+        store_words(&mut out, h);
+        out
+    }
+
+    // All 64 bytes of the words.
+    pub fn bytes(self) -> [u8; 64]
+        ensures { λ r. ⌜ r ≡ bytesOf (self .h) ⌝ }
+    {
+        let h = self.h;
+        let mut out = [0u8; 64];
+        store_words(&mut out, h);
+        out
+    }
+}
+
+// CKB's hash of a slice.
+pub fn ckb_hash(data: &[u8]) -> [u8; 32]
+    ensures { λ r. ⌜ r ≡ hashOf ckbParameters (now («data» .entry)) 32 ⌝ }
+{
+    Blake2b::new().update(data).finish().digest()
+}

@@ -1,0 +1,2 @@
+// The functions that programs in other languages call.
+mod hash; // hash.rt

@@ -1,0 +1,72 @@
+-- 01, "Marked rows": those marked P, computed from the definitions, as rows of one theorem.
+use Prim.Native.Nat.{ℕ}
+use mathlib.Core.Path.{_≡_, refl}
+use mathlib.Core.List.{List, [], _∷_, _++_}
+use lib.ListN.{replicate}
+use Rattle.octets.specs.Le.{fromLe, numberAt}
+use Rattle.protocol.specs.Rows.{_▷_, decide}
+use Rattle.protocol.specs.Policy.{isSupportedAlgorithm, isOperation, hasCapability}
+use Rattle.protocol.specs.Args.{argsRows, argsFault, argsAnswer, readArgs, argsNumber}
+use Rattle.account_state.specs.Reading.{entryOf, entriesOf, shareOf, weightOf}
+use Rattle.account_state.specs.State.{headRows, layoutRows, fieldRows, entryRows, entriesRows, behind, recoveryRows, endRows, tailRows, stateRows, stateFault, headerOf, summaryOf, stateAnswer, readState, stateNumber}
+use Rattle.account_witness.specs.Header.{headerRows, headerAt}
+use Rattle.account_witness.specs.Walk.{proofRows, proofsRows}
+use Rattle.account_witness.specs.Witness.{witnessRows, witnessFault, witnessAnswer, readWitness, witnessNumber}
+use Rattle.public_key_proof.specs.Reader.{proofRows as keyProofRows, proofFault, placesAt, proofAnswer, readProof}
+use Rattle.public_key_proof.specs.declared.reader.PublicKeyProofAnswer.the-variants.{Proof, Refused}
+use Rattle.protocol.specs.declared.error.ProtocolError.the-variants.{InvalidProof}
+
+-- the smallest state, of 113 bytes: thresholds spend, 1, 0, and one entry of weight 1 and capabilities 3 whose aux is one byte
+unfoldable pub smallestState : ℕ → ℕ → ℕ → ℕ → List ℕ
+smallestState version flags spend since =
+    (67 ∷ 75 ∷ 65 ∷ 83 ∷ version ∷ flags ∷ 32 ∷ 0 ∷ [])
+    ++ replicate 8 0
+    ++ (spend ∷ 0 ∷ 1 ∷ 0 ∷ 0 ∷ 0 ∷ 1 ∷ 0 ∷ since ∷ [])
+    ++ replicate 7 0
+    ++ (81 ∷ 0 ∷ 0 ∷ 0 ∷ 1 ∷ 0 ∷ 3 ∷ 0 ∷ 1 ∷ 0 ∷ 0 ∷ 1 ∷ [])
+    ++ replicate 32 0
+    ++ (32 ∷ 0 ∷ 1 ∷ 0 ∷ [])
+    ++ replicate 32 0
+    ++ (1 ∷ [])
+
+-- a witness lock of 16 bytes, with no proof
+unfoldable pub emptyWitness : ℕ → List ℕ
+emptyWitness operation = (67 ∷ 75 ∷ 65 ∷ 87 ∷ 1 ∷ operation ∷ 0 ∷ 0 ∷ []) ++ replicate 8 0
+
+pub record MarkedRows : Type 0 where
+  -- "args of 32 bytes 20, of 33 starting 0x02 32"
+  pub args-of-32 : argsNumber (readArgs (replicate 32 1)) ≡ 20
+  pub args-version : argsNumber (readArgs (2 ∷ replicate 32 0)) ≡ 32
+  -- "state of 31 bytes 21"
+  pub state-of-31 : stateNumber (readState (replicate 31 0)) ≡ 21
+  -- "smallest state with thresholds 1, 1, 0 and weight 1, capabilities 3, accepted"
+  pub smallest : stateNumber (readState (smallestState 1 0 1 0)) ≡ 0
+  -- "spend threshold 2 there 38; version 2 32; recovery_since 1 there 21; flags 4 there 21"
+  pub spend-2 : stateNumber (readState (smallestState 1 0 2 0)) ≡ 38
+  pub version-2 : stateNumber (readState (smallestState 2 0 1 0)) ≡ 32
+  pub since-1 : stateNumber (readState (smallestState 1 0 1 1)) ≡ 21
+  pub flags-4 : stateNumber (readState (smallestState 1 4 1 0)) ≡ 21
+  -- "proof `01 01 00 01 00 aa bb` read, without `bb` 36"
+  pub proof-read : readProof (0x01 ∷ 0x01 ∷ 0x00 ∷ 0x01 ∷ 0x00 ∷ 0xaa ∷ 0xbb ∷ []) ≡ Proof (record { «public_key» = 5; «public_key_len» = 1; signature = 6; «signature_len» = 1 })
+  pub proof-short : readProof (0x01 ∷ 0x01 ∷ 0x00 ∷ 0x01 ∷ 0x00 ∷ 0xaa ∷ []) ≡ Refused InvalidProof
+  -- "16-byte witness lock with count 0 read, operation 4 22"
+  pub witness-empty : witnessNumber (readWitness (emptyWitness 1)) ≡ 0
+  pub witness-operation : witnessNumber (readWitness (emptyWitness 4)) ≡ 22
+
+pub marked-rows : MarkedRows
+unfolding fromLe numberAt _▷_ decide isSupportedAlgorithm isOperation hasCapability argsRows argsFault argsAnswer readArgs entryOf entriesOf shareOf weightOf headRows layoutRows fieldRows entryRows entriesRows behind recoveryRows endRows tailRows stateRows stateFault headerOf summaryOf stateAnswer readState headerRows headerAt proofRows proofsRows witnessRows witnessFault witnessAnswer readWitness keyProofRows proofFault placesAt proofAnswer readProof smallestState emptyWitness
+marked-rows =
+    record {
+      args-of-32 = refl;
+      args-version = refl;
+      state-of-31 = refl;
+      smallest = refl;
+      spend-2 = refl;
+      version-2 = refl;
+      since-1 = refl;
+      flags-4 = refl;
+      proof-read = refl;
+      proof-short = refl;
+      witness-empty = refl;
+      witness-operation = refl;
+    }

@@ -1,0 +1,6 @@
+pub mod LeLaws
+pub mod Stores
+pub mod TableLaws
+pub mod Parts
+pub mod Filled
+pub mod Same

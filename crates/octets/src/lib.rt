@@ -1,0 +1,17 @@
+// Bytes in slices: little-endian numbers, runs of stores, parts, equal slices. Every function is total: past the end
+// of a slice a read finds nothing and a store stores nothing.
+mod read; // read.rt
+mod store; // store.rt
+mod compare; // compare.rt
+
+pub use self::compare::same_bytes;
+pub use self::read::fits;
+pub use self::read::number_at;
+pub use self::read::part;
+pub use self::read::rest;
+pub use self::read::u8_at;
+pub use self::read::u16_at;
+pub use self::read::u32_at;
+pub use self::read::u64_at;
+pub use self::store::store_bytes;
+pub use self::store::store_number;

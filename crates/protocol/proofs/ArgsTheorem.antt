@@ -1,0 +1,47 @@
+-- Args: accepted exactly where every check passes, and then exactly one account has them as its args.
+-- Assumes nothing.
+use mathlib.Core.Path.{_≡_, refl, sym, ap, _∙_}
+use mathlib.Core.List.{List, [], _∷_}
+use mathlib.Core.Logic.{_↔_}
+use Prim.Native.Nat.{ℕ, suc, _≤_}
+use native.Mathlib.Omega.{arith}
+use borrow.Author.Tests.{eqb-true}
+use lib.Dec.{eqb}
+use lib.ListN.{length, take, drop, getD}
+use lib.Seq.{take-all}
+use Rattle.octets.specs.Le.{numberAt}
+use Rattle.octets.proofs.LeLaws.{number-one}
+use Rattle.protocol.specs.Rows.{decide, Hold}
+use Rattle.protocol.specs.Args.{argsRows, argsFault, argsAnswer, readArgs, argsBytes, accountOf}
+use Rattle.protocol.specs.Reading.{OneReading}
+use Rattle.protocol.specs.declared.check.Check.{Check}
+use Rattle.protocol.specs.declared.check.Check.the-variants.{Passed, Failed}
+use Rattle.protocol.specs.declared.args.ArgsAnswer.{ArgsAnswer}
+use Rattle.protocol.specs.declared.args.ArgsAnswer.the-variants.{Args, Refused}
+use Rattle.protocol.proofs.Hold.{passed-hold, hold-passed}
+
+refused-apart : (k : Check) → argsAnswer k ≡ Args (record { version = 1; «account_id» = 1 }) → k ≡ Passed
+unfolding argsAnswer
+refused-apart Passed h = refl
+refused-apart (Failed e) h = absurd (let z : _≡_ {A = ℕ} 0 1 = cc in omega arith)
+
+-- accepted exactly where every check passes
+pub reader-accepts : (s : List ℕ) → (readArgs s ≡ Args (record { version = 1; «account_id» = 1 })) ↔ Hold (argsRows s)
+unfolding readArgs argsFault argsAnswer
+reader-accepts s =
+    (λ h. passed-hold (argsRows s) (refused-apart (decide Passed (argsRows s)) h), λ h. rw (hold-passed (argsRows s) h))
+
+-- the one account
+pub args-one : (s : List ℕ) → Hold (argsRows s) → OneReading (λ (a : List ℕ). length a ≡ 32) argsBytes s (accountOf s)
+unfolding argsRows argsBytes accountOf
+args-one [] h = absurd (let e : 0 ≡ 33 = eqb-true 0 33 (h .0) in omega arith)
+args-one (b ∷ s) h =
+    let n : suc (length s) ≡ 33 = eqb-true (suc (length s)) 33 (h .0) in
+    let v : numberAt (b ∷ s) 0 1 ≡ 1 = eqb-true _ 1 (h .1 .0) in
+    let e : b ≡ 1 = sym (number-one (b ∷ s) 0) ∙ v in
+    let l : length s ≤ 32 = omega arith in
+    record {
+      typed = rw (take-all 32 s l) (omega arith);
+      written = rw (take-all 32 s l, e);
+      unique = λ a t w. ap (drop 1) w ∙ sym (take-all 32 s l);
+    }

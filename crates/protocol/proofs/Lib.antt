@@ -1,0 +1,4 @@
+pub mod Hold
+pub mod Back
+pub mod ArgsTheorem
+pub mod Outcome

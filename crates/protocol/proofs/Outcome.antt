@@ -1,0 +1,33 @@
+-- What a writer has answered and left, by what its checks found, for every format.
+-- Assumes nothing.
+use mathlib.Core.Path.{_≡_, sym, _∙_}
+use mathlib.Core.List.{List}
+use Prim.Native.Nat.{ℕ, _≤_}
+use lib.ListN.{length}
+use lib.Seq.{sets}
+use Rattle.octets.proofs.Stores.{sets-front}
+use Rattle.protocol.specs.Rows.{Row}
+use Rattle.protocol.specs.Write.{writeFault, writeAnswer, afterWrite}
+use Rattle.protocol.specs.declared.error.ProtocolError.{ProtocolError}
+use Rattle.protocol.specs.declared.check.Check.{Check}
+use Rattle.protocol.specs.declared.check.Check.the-variants.{Passed, Failed}
+use Rattle.protocol.specs.declared.check.WriteAnswer.the-variants.{Written, Refused}
+use Rattle.protocol.proofs.Back.{write-passed}
+
+module _ (rows : List Row) (total : ℕ) (out : List ℕ) (k : Check) (found : k ≡ writeFault rows total (length out)) where
+  -- a refusal is the answer, and the buffer is as it was
+  pub write-refused : (bytes : List ℕ) (e : ProtocolError) → k ≡ Failed e
+      → (Refused e ≡ writeAnswer (writeFault rows total (length out)) total) × (out ≡ afterWrite (writeFault rows total (length out)) bytes out)
+  unfolding writeAnswer afterWrite
+  write-refused bytes e h = (rw (sym found ∙ h), rw (sym found ∙ h))
+
+  -- without one there is room,
+  pub write-fits : k ≡ Passed → total ≤ length out
+  write-fits h = write-passed rows total (length out) (sym found ∙ h) .1
+
+  -- and once the bytes are stored from the front the answer is their length
+  pub write-done : (bytes after : List ℕ) → k ≡ Passed → length bytes ≡ total → after ≡ sets out 0 bytes
+      → (Written total ≡ writeAnswer (writeFault rows total (length out)) total) × (after ≡ afterWrite (writeFault rows total (length out)) bytes out)
+  unfolding writeAnswer afterWrite
+  write-done bytes after h n stored =
+      (rw (sym found ∙ h), rw (sym found ∙ h) (stored ∙ sets-front out bytes (rw n (write-fits h))))

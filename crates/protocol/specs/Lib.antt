@@ -1,0 +1,6 @@
+pub mod Errors
+pub mod Rows
+pub mod Policy
+pub mod Write
+pub mod Reading
+pub mod Args

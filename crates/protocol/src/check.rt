@@ -1,0 +1,44 @@
+// Rows of checks: the first that fails decides.
+use crate::error::ProtocolError;
+ghost use mathlib.Core.Path.{_≡_};
+ghost use Rattle.protocol.specs.Rows.{_▷_, row, _then_};
+
+// What a row of checks finds.
+pub enum Check {
+    Passed,
+    Failed(ProtocolError),
+}
+
+// What a writer answers: how many bytes it wrote, or its refusal.
+pub enum WriteAnswer {
+    Written(usize),
+    Refused(ProtocolError),
+}
+
+impl Check {
+    // One check more.
+    pub fn require(self, ok: bool, error: ProtocolError) -> Check
+        ensures { λ r. ⌜ r ≡ self ▷ row ok error ⌝ }
+    {
+        match self {
+            Check::Failed(first) => Check::Failed(first),
+            Check::Passed => {
+                if ok {
+                    Check::Passed
+                } else {
+                    Check::Failed(error)
+                }
+            }
+        }
+    }
+
+    // What a later row of checks finds counts where this one passed.
+    pub fn and(self, later: Check) -> Check
+        ensures { λ r. ⌜ r ≡ self then later ⌝ }
+    {
+        match self {
+            Check::Failed(first) => Check::Failed(first),
+            Check::Passed => later,
+        }
+    }
+}

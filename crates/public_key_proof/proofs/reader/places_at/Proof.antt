@@ -1,0 +1,20 @@
+-- `public_key_proof::reader::places_at` meets its contract: each length is its read. Assumes nothing.
+use Rattle.public_key_proof.specs.Reader.{placesAt}
+use borrow.Author.Needs.{needs}
+use Rattle.public_key_proof.proofs.reader.places_at.Statement.{statement}
+use Rattle.public_key_proof.proofs.reader.places_at.Tie as tie
+
+returns : tie.Need-returns
+unfolding placesAt
+returns c = rw (c .u16-at2 .ensures, c .before .u16-at .ensures)
+
+pub places-at-spec : {M : Type 1} → statement M
+places-at-spec =
+    tie.close
+    (tie.spec
+    (λ c κs. search needs)
+    (λ c. search needs)
+    (λ c. search needs)
+    (λ c κs. search needs)
+    (λ c. search needs)
+    returns)

@@ -1,0 +1,49 @@
+-- 01, Public-key proof: "1, key length, signature length (u16), both not 0, both parts, no more (36)." Its checks, and what
+-- its reader answers.
+use Prim.Native.Nat.{ℕ, _+_}
+use mathlib.Core.List.{List, [], _∷_}
+use lib.Dec.{eqb, leb, ltb}
+use lib.ListN.{length}
+use Rattle.octets.specs.Le.{numberAt}
+use Rattle.protocol.specs.Errors.{errorNumber}
+use Rattle.protocol.specs.Rows.{Row, row, decide}
+use Rattle.protocol.specs.declared.error.ProtocolError.the-variants.{InvalidProof}
+use Rattle.protocol.specs.declared.check.Check.{Check}
+use Rattle.protocol.specs.declared.check.Check.the-variants.{Passed, Failed}
+use Rattle.public_key_proof.specs.declared.reader.PublicKeyProof.{PublicKeyProof}
+use Rattle.public_key_proof.specs.declared.reader.PublicKeyProofAnswer.{PublicKeyProofAnswer}
+use Rattle.public_key_proof.specs.declared.reader.PublicKeyProofAnswer.the-variants.{Proof, Refused}
+
+unfoldable pub proofRows : List ℕ → List Row
+proofRows s =
+    row (leb 5 (length s)) InvalidProof
+    ∷ row (eqb (numberAt s 0 1) 1) InvalidProof
+    ∷ row (ltb 0 (numberAt s 1 2)) InvalidProof
+    ∷ row (ltb 0 (numberAt s 3 2)) InvalidProof
+    ∷ row (eqb (5 + numberAt s 1 2 + numberAt s 3 2) (length s)) InvalidProof
+    ∷ []
+
+unfoldable pub proofFault : List ℕ → Check
+proofFault s = decide Passed (proofRows s)
+
+-- the places of the key and the signature
+unfoldable pub placesAt : List ℕ → PublicKeyProof
+placesAt s =
+    record {
+      «public_key» = 5;
+      «public_key_len» = numberAt s 1 2;
+      signature = 5 + numberAt s 1 2;
+      «signature_len» = numberAt s 3 2;
+    }
+
+unfoldable pub proofAnswer : Check → PublicKeyProof → PublicKeyProofAnswer
+proofAnswer Passed p = Proof p
+proofAnswer (Failed e) p = Refused e
+
+unfoldable pub readProof : List ℕ → PublicKeyProofAnswer
+readProof s = proofAnswer (proofFault s) (placesAt s)
+
+-- document 01's number of the answer
+abbrev pub proofNumber : PublicKeyProofAnswer → ℕ
+proofNumber (Proof p) = 0
+proofNumber (Refused e) = errorNumber e

@@ -1,0 +1,38 @@
+-- What the writer of a public-key proof answers and leaves: 01, "Then writers refuse as in the Rust, then with 5 if the buffer
+-- is short".
+use Prim.Native.Nat.{ℕ, _+_}
+use mathlib.Core.List.{List, [], _∷_}
+use lib.Dec.{leb, ltb}
+use lib.ListN.{length}
+use Rattle.protocol.specs.Rows.{Row, row}
+use Rattle.protocol.specs.Write.{writeFault, writeAnswer, afterWrite}
+use Rattle.protocol.specs.declared.error.ProtocolError.the-variants.{InvalidProof, LengthOverflow}
+use Rattle.protocol.specs.declared.check.Check.{Check}
+use Rattle.protocol.specs.declared.check.WriteAnswer.{WriteAnswer}
+use Rattle.public_key_proof.specs.Reading.{ProofReading, proofBytes}
+
+-- 01, Public-key proof: "both not 0"; host: "The public-key proof writer gives 39 where a part exceeds 65,535 bytes." The Rust
+-- tests for an empty part first.
+unfoldable pub writerRows : ProofReading → List Row
+writerRows r =
+    row (ltb 0 (length (r .publicKey))) InvalidProof
+    ∷ row (ltb 0 (length (r .signature))) InvalidProof
+    ∷ row (leb (length (r .publicKey)) 65535) LengthOverflow
+    ∷ row (leb (length (r .signature)) 65535) LengthOverflow
+    ∷ []
+
+-- the length of the written form
+unfoldable pub proofTotal : ProofReading → ℕ
+proofTotal r = 5 + length (r .publicKey) + length (r .signature)
+
+-- what the writer's checks find, for a buffer of `room` bytes
+unfoldable pub proofRoom : ProofReading → ℕ → Check
+proofRoom r room = writeFault (writerRows r) (proofTotal r) room
+
+-- the writer's answer
+unfoldable pub proofWritten : ProofReading → List ℕ → WriteAnswer
+proofWritten r out = writeAnswer (proofRoom r (length out)) (proofTotal r)
+
+-- and the buffer afterwards
+unfoldable pub proofStored : ProofReading → List ℕ → List ℕ
+proofStored r out = afterWrite (proofRoom r (length out)) (proofBytes r) out

@@ -1,0 +1,56 @@
+// The reader of a public-key proof.
+use octets::u8_at;
+use octets::u16_at;
+use protocol::Check;
+use protocol::ProtocolError;
+ghost use mathlib.Core.Path.{_≡_};
+ghost use Rattle.public_key_proof.specs.Reader.{proofFault, placesAt, readProof};
+
+// Where the key and the signature begin, and how long they are.
+pub struct PublicKeyProof {
+    pub public_key: usize,
+    pub public_key_len: usize,
+    pub signature: usize,
+    pub signature_len: usize,
+}
+
+pub enum PublicKeyProofAnswer {
+    Proof(PublicKeyProof),
+    Refused(ProtocolError),
+}
+
+fn check_proof(proof: &[u8]) -> Check
+    ensures { λ r. ⌜ r ≡ proofFault (now (proof .entry)) ⌝ }
+{
+    let invalid = ProtocolError::InvalidProof;
+    let public_key_len = u16_at(proof, 1) as usize;
+    let signature_len = u16_at(proof, 3) as usize;
+    Check::Passed
+        .require(5 <= proof.len(), invalid)
+        .require(u8_at(proof, 0) == 1, invalid)
+        .require(0 < public_key_len, invalid)
+        .require(0 < signature_len, invalid)
+        .require(5 + public_key_len + signature_len == proof.len(), invalid)
+}
+
+fn places_at(proof: &[u8]) -> PublicKeyProof
+    ensures { λ r. ⌜ r ≡ placesAt (now (proof .entry)) ⌝ }
+{
+    let public_key_len = u16_at(proof, 1) as usize;
+    PublicKeyProof {
+        public_key: 5,
+        public_key_len: public_key_len,
+        signature: 5 + public_key_len,
+        signature_len: u16_at(proof, 3) as usize,
+    }
+}
+
+// The places of the key and the signature, or the refusal.
+pub fn parse_public_key_proof(proof: &[u8]) -> PublicKeyProofAnswer
+    ensures { λ r. ⌜ r ≡ readProof (now (proof .entry)) ⌝ }
+{
+    match check_proof(proof) {
+        Check::Failed(error) => PublicKeyProofAnswer::Refused(error),
+        Check::Passed => PublicKeyProofAnswer::Proof(places_at(proof)),
+    }
+}

@@ -1,0 +1,105 @@
+// Runs the rows that document 01 marks "Run" and that concern readers: slots 5, 5, and aux of 4,096 and 4,097 bytes in a state.
+use account_state::StateAnswer;
+use account_state::validate_state;
+use account_state_writer::encode_state;
+use account_witness::WitnessAnswer;
+use account_witness::validate_witness;
+use account_witness_writer::encode_witness;
+use protocol::WriteAnswer;
+use protocol::error_number;
+
+fn wide(x: u8) -> u64 {
+    x as u64
+}
+
+fn print_number(number: u8) {
+    io::print_decimal(1, wide(number));
+    io::write_all(1, b"\n");
+}
+
+fn state_number(state: &[u8]) -> u8 {
+    match validate_state(state) {
+        StateAnswer::Valid(_, _) => 0,
+        StateAnswer::Refused(error) => error_number(error),
+    }
+}
+
+fn witness_number(witness: &[u8]) -> u8 {
+    match validate_witness(witness) {
+        WitnessAnswer::Witness(_) => 0,
+        WitnessAnswer::Refused(error) => error_number(error),
+    }
+}
+
+fn write_number(answer: WriteAnswer) -> u8 {
+    match answer {
+        WriteAnswer::Written(_) => 0,
+        WriteAnswer::Refused(error) => error_number(error),
+    }
+}
+
+// Two entries of slots 5 and 6, with one byte of aux each, and then the second one's slot made 5.
+fn print_state_slots() {
+    let fields = [5u16, 1, 3, 1, 1, 6, 1, 3, 1, 1];
+    let mut bytes = [0u8; 134];
+    bytes[1] = 1;
+    bytes[68] = 1;
+    let mut state = [0u8; 194];
+    let written = encode_state(0, 7, 1, 1, 0, 0, &fields, &bytes, &mut state);
+    io::write_all(1, b"state, slots 5, 6: written ");
+    print_number(write_number(written));
+    io::write_all(1, b"state, slots 5, 6: ");
+    print_number(state_number(&state));
+    state[115] = 5;
+    io::write_all(1, b"state, slots 5, 5: ");
+    print_number(state_number(&state));
+}
+
+// Two proofs of one byte, of slots 5 and 6, and then the second one's slot made 5.
+fn print_witness_slots() {
+    let slots = [5u16, 6];
+    let lengths = [1u32, 1];
+    let bytes = [0xaau8, 0xbb];
+    let mut witness = [0u8; 34];
+    let written = encode_witness(1, 7, &slots, &lengths, &bytes, &mut witness);
+    io::write_all(1, b"witness lock, slots 5, 6: written ");
+    print_number(write_number(written));
+    io::write_all(1, b"witness lock, slots 5, 6: ");
+    print_number(witness_number(&witness));
+    witness[25] = 5;
+    io::write_all(1, b"witness lock, slots 5, 5: ");
+    print_number(witness_number(&witness));
+}
+
+// One entry with 4,096 bytes of aux.
+fn print_aux_4096() {
+    let fields = [1u16, 0x0101, 3, 1, 4096];
+    let mut bytes = [0u8; 4162];
+    bytes[1] = 1;
+    let mut state = [0u8; 4208];
+    let written = encode_state(0, 7, 1, 1, 0, 0, &fields, &bytes, &mut state);
+    io::write_all(1, b"state, aux 4096: written ");
+    print_number(write_number(written));
+    io::write_all(1, b"state, aux 4096: ");
+    print_number(state_number(&state));
+}
+
+// One entry with 4,097 bytes of aux.
+fn print_aux_4097() {
+    let fields = [1u16, 0x0101, 3, 1, 4097];
+    let mut bytes = [0u8; 4163];
+    bytes[1] = 1;
+    let mut state = [0u8; 4209];
+    let written = encode_state(0, 7, 1, 1, 0, 0, &fields, &bytes, &mut state);
+    io::write_all(1, b"state, aux 4097: written ");
+    print_number(write_number(written));
+    io::write_all(1, b"state, aux 4097: ");
+    print_number(state_number(&state));
+}
+
+fn main() {
+    print_state_slots();
+    print_witness_slots();
+    print_aux_4096();
+    print_aux_4097();
+}

@@ -1,0 +1,203 @@
+-- The reader and the writer of a request are inverse: an accepted request is the written form of its reading, and the
+-- written form of a reading within the writer's limits is accepted and read as that reading.
+-- Assumes nothing.
+use mathlib.Core.Path.{_≡_, refl, ap}
+use mathlib.Core.Bool.{true}
+use mathlib.Core.List.{List, [], _∷_, _++_, append-assoc, append-nil}
+use Prim.Native.Nat.{ℕ, _+_, _^_, _≤_, _<_}
+use native.Mathlib.Omega.{arith}
+use borrow.Author.Tests.{leb-true, eqb-true, le-leb, eq-eqb}
+use lib.ListN.{length, take, drop}
+use lib.Seq.{take-add, take-all}
+use Rattle.octets.specs.Le.{Bytes, numberAt}
+use Rattle.octets.specs.Table.{numbers, numbersAt, valueOf}
+use Rattle.octets.proofs.LeLaws.{number-lt}
+use Rattle.octets.proofs.TableLaws.{table-back, numbers-back}
+use Rattle.octets.proofs.Parts.{part-back, part-length}
+use Rattle.protocol.specs.Policy.{isOperation}
+use Rattle.protocol.specs.Rows.{Hold}
+use Rattle.protocol.proofs.Hold.{hold-append}
+use Rattle.verifier_request.specs.Reader.{verifierMagic, headRows, fieldRows, requestRows, fieldsAt}
+use Rattle.verifier_request.specs.Reading.{RequestReading, RequestTyped, readingOf, requestReading, requestHead, requestLengths, requestBytes}
+use Rattle.verifier_request.specs.Writer.{limitRows, writerRows, requestTotal}
+use Rattle.verifier_request.proofs.Form.{Sized, typed-sized, Head, Lengths, length-head, before-key, before-lengths, before-aux, before-proof, length-request}
+
+-- what the rows say of a request that passes them; that it has at most 69,728 bytes follows
+pub record Passes (s : List ℕ) : Type 0 where
+  pub header : 96 ≤ length s
+  pub magic : numberAt s 0 4 ≡ verifierMagic
+  pub abi : numberAt s 4 1 ≡ 1
+  pub flags : numberAt s 5 1 ≡ 0
+  pub headerLen : numberAt s 6 2 ≡ 96
+  pub operation : isOperation (numberAt s 12 1) ≡ true
+  pub zeros : numberAt s 14 2 ≡ 0
+  pub lastZeros : numberAt s 88 8 ≡ 0
+  pub aux : numberAt s 80 4 ≤ 4096
+  pub proof : numberAt s 84 4 ≤ 65536
+  pub sum : 96 + numberAt s 80 4 + numberAt s 84 4 ≡ length s
+
+pub passes : (s : List ℕ) → Hold (requestRows s) → Passes s
+unfolding requestRows headRows fieldRows
+passes s h =
+    let k = h .1 .1 .1 .1 .1 .1 in
+    record {
+      header = leb-true _ _ (h .0);
+      magic = eqb-true _ _ (h .1 .1 .0);
+      abi = eqb-true _ _ (h .1 .1 .1 .0);
+      flags = eqb-true _ _ (h .1 .1 .1 .1 .0);
+      headerLen = eqb-true _ _ (h .1 .1 .1 .1 .1 .0);
+      operation = k .0;
+      zeros = eqb-true _ _ (k .1 .0);
+      lastZeros = eqb-true _ _ (k .1 .1 .0);
+      aux = leb-true _ _ (k .1 .1 .1 .0);
+      proof = leb-true _ _ (k .1 .1 .1 .1 .0);
+      sum = eqb-true _ _ (k .1 .1 .1 .1 .1 .0);
+    }
+
+pub passes-hold : (s : List ℕ) → Passes s → Hold (requestRows s)
+unfolding requestRows headRows fieldRows
+passes-hold s z =
+    let most : length s ≤ 69728 = omega arith in
+    hold-append (headRows s) (fieldRows s)
+    (le-leb _ _ (z .header), (le-leb _ _ most, (eq-eqb _ _ (z .magic), (eq-eqb _ _ (z .abi), (eq-eqb _ _ (z .flags), (eq-eqb _ _ (z .headerLen), tt))))))
+    (z .operation, (eq-eqb _ _ (z .zeros), (eq-eqb _ _ (z .lastZeros), (le-leb _ _ (z .aux), (le-leb _ _ (z .proof), (eq-eqb _ _ (z .sum), tt))))))
+
+-- From the bytes to the reading and back.
+module _ (s : List ℕ) (b : Bytes s) (z : Passes s) where
+  head-back : numbers (requestHead (numberAt s 8 2) (numberAt s 10 2) (numberAt s 12 1) (numberAt s 13 1)) ≡ take 16 s
+  unfolding requestHead numbersAt
+  head-back =
+      rw (z .magic, z .abi, z .flags, z .headerLen, z .zeros) at
+      (table-back (4 ∷ 1 ∷ 1 ∷ 2 ∷ 2 ∷ 2 ∷ 1 ∷ 1 ∷ 2 ∷ []) s 0 b (omega arith))
+
+  lengths-back : numbers (requestLengths (numberAt s 80 4) (numberAt s 84 4)) ≡ take 16 (drop 80 s)
+  unfolding requestLengths numbersAt
+  lengths-back = rw (z .lastZeros) at (table-back (4 ∷ 4 ∷ 8 ∷ []) s 80 b (omega arith))
+
+  length-aux : length (take (numberAt s 80 4) (drop 96 s)) ≡ numberAt s 80 4
+  length-aux = part-length s 96 (numberAt s 80 4) (omega arith)
+
+  length-proof : length (take (numberAt s 84 4) (drop (96 + numberAt s 80 4) s)) ≡ numberAt s 84 4
+  length-proof = part-length s (96 + numberAt s 80 4) (numberAt s 84 4) (omega arith)
+
+  -- the request is the written form of its reading,
+  pub reading-written : requestBytes (requestReading s) ≡ s
+  unfolding requestBytes requestReading readingOf fieldsAt
+  reading-written =
+      let a = numberAt s 80 4 in
+      let p = numberAt s 84 4 in
+      rw (
+        length-aux,
+        length-proof,
+        head-back,
+        lengths-back,
+        ← take-add 16 32 s,
+        ← take-add 48 32 s,
+        ← take-add 80 16 s,
+        ← take-add 96 a s,
+        ← take-add (96 + a) p s,
+      )
+      (take-all (96 + a + p) s (omega arith))
+
+  -- whose fields are of their types,
+  pub reading-typed : RequestTyped (requestReading s)
+  unfolding requestReading readingOf fieldsAt
+  reading-typed =
+      record {
+        algorithm = number-lt s 8 2 b;
+        slot = number-lt s 10 2 b;
+        operation = number-lt s 12 1 b;
+        profile = number-lt s 13 1 b;
+        digest = part-length s 16 32 (omega arith);
+        key = part-length s 48 32 (omega arith);
+      }
+
+  -- which is within the writer's limits,
+  pub reading-limits : Hold (writerRows (requestReading s))
+  unfolding writerRows limitRows requestReading readingOf fieldsAt
+  reading-limits = rw (length-aux, length-proof) (z .operation, (le-leb _ _ (z .aux), (le-leb _ _ (z .proof), tt)))
+
+  -- and whose written form is as long as the request
+  pub reading-total : requestTotal (requestReading s) ≡ length s
+  unfolding requestTotal requestReading readingOf fieldsAt
+  reading-total = rw (length-aux, length-proof) (z .sum)
+
+-- From a reading to the bytes and back, where the parts' lengths fit their fields.
+module _ (r : RequestReading) (t : RequestTyped r) (small : requestTotal r < 2 ^ 32) where
+  sized : Sized r
+  sized = typed-sized r t
+
+  head-read : numbersAt (4 ∷ 1 ∷ 1 ∷ 2 ∷ 2 ∷ 2 ∷ 1 ∷ 1 ∷ 2 ∷ []) (requestBytes r) 0 ≡ requestHead (r .algorithm) (r .slot) (r .operation) (r .profile)
+  unfolding requestBytes requestHead
+  head-read =
+      numbers-back (requestHead (r .algorithm) (r .slot) (r .operation) (r .profile)) (requestBytes r) [] (r .digest ++ (r .key ++ (Lengths r ++ (r .aux ++ r .proof)))) 0
+      (omega arith)
+      (simp append-assoc)
+      refl
+
+  lengths-read : numbersAt (4 ∷ 4 ∷ 8 ∷ []) (requestBytes r) 80 ≡ requestLengths (length (r .aux)) (length (r .proof))
+  unfolding requestBytes requestLengths requestTotal
+  lengths-read =
+      numbers-back (requestLengths (length (r .aux)) (length (r .proof))) (requestBytes r) (Head r ++ r .digest ++ r .key) (r .aux ++ r .proof) 80
+      (omega arith)
+      (simp append-assoc)
+      (before-lengths r sized)
+
+  digest-read : take 32 (drop 16 (requestBytes r)) ≡ r .digest
+  unfolding requestBytes
+  digest-read =
+      part-back (requestBytes r) (Head r) (r .digest) (r .key ++ (Lengths r ++ (r .aux ++ r .proof))) 16 32 (simp append-assoc) (length-head r) (t .digest)
+
+  key-read : take 32 (drop 48 (requestBytes r)) ≡ r .key
+  unfolding requestBytes
+  key-read =
+      part-back (requestBytes r) (Head r ++ r .digest) (r .key) (Lengths r ++ (r .aux ++ r .proof)) 48 32 (simp append-assoc) (before-key r sized) (t .key)
+
+  aux-read : take (length (r .aux)) (drop 96 (requestBytes r)) ≡ r .aux
+  unfolding requestBytes
+  aux-read =
+      part-back (requestBytes r) (Head r ++ r .digest ++ r .key ++ Lengths r) (r .aux) (r .proof) 96 _ (simp append-assoc) (before-aux r sized) refl
+
+  proof-read : take (length (r .proof)) (drop (96 + length (r .aux)) (requestBytes r)) ≡ r .proof
+  unfolding requestBytes
+  proof-read =
+      part-back (requestBytes r) (Head r ++ r .digest ++ r .key ++ Lengths r ++ r .aux) (r .proof) [] (96 + length (r .aux)) _
+      (simp (append-assoc, append-nil))
+      (before-proof r sized)
+      refl
+
+  -- the written form is read as the reading,
+  pub written-reading : requestReading (requestBytes r) ≡ r
+  unfolding requestReading readingOf fieldsAt requestHead requestLengths numbersAt
+  written-reading =
+      let e₁ : numberAt (requestBytes r) 8 2 ≡ r .algorithm = ap (valueOf 4) head-read in
+      let e₂ : numberAt (requestBytes r) 10 2 ≡ r .slot = ap (valueOf 5) head-read in
+      let e₃ : numberAt (requestBytes r) 12 1 ≡ r .operation = ap (valueOf 6) head-read in
+      let e₄ : numberAt (requestBytes r) 13 1 ≡ r .profile = ap (valueOf 7) head-read in
+      let e₅ : numberAt (requestBytes r) 80 4 ≡ length (r .aux) = ap (valueOf 0) lengths-read in
+      let e₆ : numberAt (requestBytes r) 84 4 ≡ length (r .proof) = ap (valueOf 1) lengths-read in
+      rw (e₁, e₂, e₃, e₄, e₅, e₆, digest-read, key-read, aux-read, proof-read)
+
+  -- and within the writer's limits it passes
+  pub written-passes : Hold (writerRows r) → Passes (requestBytes r)
+  unfolding writerRows limitRows requestTotal requestHead requestLengths numbersAt
+  written-passes h =
+      let a : length (r .aux) ≤ 4096 = leb-true _ _ (h .1 .0) in
+      let p : length (r .proof) ≤ 65536 = leb-true _ _ (h .1 .1 .0) in
+      let n : length (requestBytes r) ≡ 96 + length (r .aux) + length (r .proof) = length-request r sized in
+      let ea : numberAt (requestBytes r) 80 4 ≡ length (r .aux) = ap (valueOf 0) lengths-read in
+      let ep : numberAt (requestBytes r) 84 4 ≡ length (r .proof) = ap (valueOf 1) lengths-read in
+      let eo : numberAt (requestBytes r) 12 1 ≡ r .operation = ap (valueOf 6) head-read in
+      record {
+        header = omega arith;
+        magic = ap (valueOf 0) head-read;
+        abi = ap (valueOf 1) head-read;
+        flags = ap (valueOf 2) head-read;
+        headerLen = ap (valueOf 3) head-read;
+        operation = rw eo (h .0);
+        zeros = ap (valueOf 8) head-read;
+        lastZeros = ap (valueOf 2) lengths-read;
+        aux = omega arith;
+        proof = omega arith;
+        sum = omega arith;
+      }

@@ -1,0 +1,96 @@
+-- Requests: accepted exactly where every check passes, and then exactly one reading has them as its written form, which is
+-- the one that the reader gives and which the writer writes back; and what the writer writes is accepted.
+-- Assumes nothing.
+use mathlib.Core.Path.{_≡_, refl, sym, ap, _∙_}
+use mathlib.Core.List.{List}
+use mathlib.Core.Logic.{_↔_}
+use Prim.Native.Nat.{ℕ, _+_, _^_, _≤_, _<_}
+use native.Mathlib.Omega.{arith}
+use borrow.Author.Tests.{leb-true}
+use lib.ListN.{length}
+use Rattle.octets.specs.Le.{Bytes}
+use Rattle.protocol.specs.Rows.{decide, Hold, First}
+use Rattle.protocol.specs.Reading.{OneReading, WritesBack}
+use Rattle.protocol.specs.declared.error.ProtocolError.{ProtocolError}
+use Rattle.protocol.specs.declared.check.Check.{Check}
+use Rattle.protocol.specs.declared.check.Check.the-variants.{Passed, Failed}
+use Rattle.protocol.proofs.Hold.{passed-hold, hold-passed, failed-first, first-failed}
+use Rattle.protocol.proofs.Back.{writes-back}
+use Rattle.verifier_request.specs.declared.reader.RequestFields.{RequestFields}
+use Rattle.verifier_request.specs.declared.reader.RequestAnswer.the-variants.{Request, Refused}
+use Rattle.verifier_request.specs.Reader.{requestRows, requestFault, fieldsAt, requestAnswer, readRequest}
+use Rattle.verifier_request.specs.Reading.{RequestReading, RequestTyped, readingOf, requestReading, requestBytes}
+use Rattle.verifier_request.specs.Writer.{limitRows, writerRows, requestTotal, requestRoom, requestWritten, requestStored}
+use Rattle.verifier_request.proofs.Form.{typed-sized, length-request}
+use Rattle.verifier_request.proofs.Inverse.{Passes, passes, passes-hold, reading-written, reading-typed, reading-limits, reading-total, written-reading, written-passes}
+
+-- what an accepting answer says of the checks and of its fields
+answered : (k : Check) (g f : RequestFields) → requestAnswer k g ≡ Request f → (k ≡ Passed) × (f ≡ g)
+unfolding requestAnswer
+answered Passed g f h = (refl, cc)
+answered (Failed e) g f h = absurd (let z : _≡_ {A = ℕ} 0 1 = cc in omega arith)
+
+-- and a refusing one
+refused : (k : Check) (g : RequestFields) (e : ProtocolError) → requestAnswer k g ≡ Refused e → k ≡ Failed e
+unfolding requestAnswer
+refused Passed g e h = absurd (let z : _≡_ {A = ℕ} 0 1 = cc in omega arith)
+refused (Failed d) g e h = cc
+
+-- accepted exactly where every check passes
+pub reader-accepts : (s : List ℕ) → (readRequest s ≡ Request (fieldsAt s)) ↔ Hold (requestRows s)
+unfolding readRequest requestFault requestAnswer
+reader-accepts s =
+    (λ h. passed-hold (requestRows s) (answered (decide Passed (requestRows s)) (fieldsAt s) (fieldsAt s) h .0), λ h. rw (hold-passed (requestRows s) h))
+
+-- refused exactly with the first check that fails
+pub reader-refuses : (s : List ℕ) (e : ProtocolError) → (readRequest s ≡ Refused e) ↔ First (requestRows s) e
+unfolding readRequest requestFault requestAnswer
+reader-refuses s e =
+    (λ h. failed-first (requestRows s) e (refused (decide Passed (requestRows s)) (fieldsAt s) e h), λ f. rw (first-failed (requestRows s) e f))
+
+-- what the writer writes is accepted, and read as what was written
+pub request-accepted : (r : RequestReading) → RequestTyped r → Hold (writerRows r) → Hold (requestRows (requestBytes r)) × (requestReading (requestBytes r) ≡ r)
+unfolding writerRows limitRows requestTotal
+request-accepted r t h =
+    let a : length (r .aux) ≤ 4096 = leb-true _ _ (h .1 .0) in
+    let p : length (r .proof) ≤ 65536 = leb-true _ _ (h .1 .1 .0) in
+    let small : 96 + length (r .aux) + length (r .proof) < 2 ^ 32 = omega arith in
+    (passes-hold (requestBytes r) (written-passes r t small h), written-reading r t small)
+
+-- the one reading
+pub request-one : (s : List ℕ) → Bytes s → Hold (requestRows s) → OneReading RequestTyped requestBytes s (requestReading s)
+request-one s b h =
+    let z = passes s h in
+    record {
+      typed = reading-typed s b z;
+      written = reading-written s b z;
+      unique = λ q t e. sym (written-reading q t (small q t e z)) ∙ ap requestReading e;
+    }
+  where
+    small : (q : RequestReading) → RequestTyped q → requestBytes q ≡ s → Passes s → requestTotal q < 2 ^ 32
+    small q t e z =
+        let n : length (requestBytes q) ≡ requestTotal q = length-request q (typed-sized q t) in
+        let l : length (requestBytes q) ≡ length s = ap length e in
+        omega arith
+
+-- is the one that the reader gives,
+pub request-given : (s : List ℕ) (f : RequestFields) → readRequest s ≡ Request f → Hold (requestRows s) × (readingOf s f ≡ requestReading s)
+unfolding readRequest requestFault requestReading
+request-given s f h =
+    let z = answered (decide Passed (requestRows s)) (fieldsAt s) f h in
+    (passed-hold (requestRows s) (z .0), ap (readingOf s) (z .1))
+
+-- and the writer writes it back
+pub request-writes-back : (s : List ℕ) → Bytes s → Hold (requestRows s) → WritesBack (requestWritten (requestReading s)) (requestStored (requestReading s)) s
+unfolding requestWritten requestStored requestRoom
+request-writes-back s b h =
+    let z = passes s h in
+    let r = requestReading s in
+    writes-back (writerRows r) (requestBytes r) (requestTotal r) s (reading-limits s b z) (reading-written s b z) (reading-total s b z)
+
+-- The theorem: an accepted request has exactly one reading, that of the answer, and writing it gives the same bytes or 5.
+pub request-theorem : (s : List ℕ) (f : RequestFields) → Bytes s → readRequest s ≡ Request f
+    → OneReading RequestTyped requestBytes s (readingOf s f) × WritesBack (requestWritten (readingOf s f)) (requestStored (readingOf s f)) s
+request-theorem s f b e =
+    let g = request-given s f e in
+    rw (g .1) (request-one s b (g .0), request-writes-back s b (g .0))

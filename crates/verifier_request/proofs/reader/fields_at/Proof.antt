@@ -1,0 +1,33 @@
+-- `verifier_request::reader::fields_at` meets its contract: each field is its read. Assumes nothing.
+use Rattle.verifier_request.specs.Reader.{fieldsAt}
+use borrow.Author.Needs.{needs}
+use Rattle.verifier_request.proofs.reader.fields_at.Statement.{statement}
+use Rattle.verifier_request.proofs.reader.fields_at.Tie as tie
+
+returns : tie.Need-returns
+unfolding fieldsAt
+returns c =
+    let c2 = c .before .before .before in
+    rw (
+      c .u32-at2 .ensures,
+      c .before .u8-at2 .ensures,
+      c .before .before .u8-at .ensures,
+      c2 .u16-at2 .ensures,
+      c2 .before .u16-at .ensures,
+      c2 .before .before .u32-at .ensures,
+    )
+
+pub fields-at-spec : {M : Type 1} → statement M
+fields-at-spec =
+    tie.close
+    (tie.spec
+    (λ c κs. search needs)
+    (λ c. search needs)
+    (λ c κs. search needs)
+    (λ c κs. search needs)
+    (λ c κs. search needs)
+    (λ c κs. search needs)
+    (λ c. search needs)
+    (λ c κs. search needs)
+    (λ c. search needs)
+    returns)

@@ -1,0 +1,113 @@
+// The reader of a verifier request.
+use octets::u8_at;
+use octets::u16_at;
+use octets::u32_at;
+use octets::u64_at;
+use protocol::Check;
+use protocol::ProtocolError;
+use protocol::VERIFIER_ABI_V1;
+use protocol::VERIFIER_MAGIC;
+use protocol::VERIFIER_MAX_AUX_LEN;
+use protocol::VERIFIER_MAX_PROOF_LEN;
+use protocol::VERIFIER_MAX_REQUEST_LEN;
+use protocol::VERIFIER_REQUEST_HEADER_LEN;
+use protocol::is_operation;
+ghost use mathlib.Core.Path.{_≡_};
+ghost use Rattle.protocol.specs.Rows.{decide};
+ghost use Rattle.protocol.specs.declared.check.Check.the-variants.{Passed};
+ghost use Rattle.verifier_request.specs.Reader.{headRows, fieldRows, requestFault, fieldsAt, readRequest};
+
+// The numbers of a request, and where each of its parts begins. The digest and the key have 32 bytes each.
+pub struct RequestFields {
+    pub algorithm_id: u16,
+    pub slot: u16,
+    pub operation: u8,
+    pub verifier_profile: u8,
+    pub authorization_digest: usize,
+    pub key_id: usize,
+    pub aux: usize,
+    pub aux_len: usize,
+    pub proof: usize,
+    pub proof_len: usize,
+}
+
+pub enum RequestAnswer {
+    Request(RequestFields),
+    Refused(ProtocolError),
+}
+
+// The length, and the bytes that are the same in every request of this ABI.
+fn check_head(request: &[u8]) -> Check
+    ensures { λ r. ⌜ r ≡ decide Passed (headRows (now (request .entry))) ⌝ }
+{
+    let invalid = ProtocolError::InvalidRequest;
+    Check::Passed
+        .require(VERIFIER_REQUEST_HEADER_LEN <= request.len(), invalid)
+        .require(request.len() <= VERIFIER_MAX_REQUEST_LEN, invalid)
+        .require(u32_at(request, 0) == VERIFIER_MAGIC, invalid)
+        .require(
+            u8_at(request, 4) == VERIFIER_ABI_V1,
+            ProtocolError::UnsupportedVersion,
+        )
+        .require(u8_at(request, 5) == 0, invalid)
+        .require(
+            u16_at(request, 6) as usize == VERIFIER_REQUEST_HEADER_LEN,
+            invalid,
+        )
+}
+
+// The operation, the zeros and the lengths.
+fn check_fields(request: &[u8]) -> Check
+    ensures { λ r. ⌜ r ≡ decide Passed (fieldRows (now (request .entry))) ⌝ }
+{
+    let invalid = ProtocolError::InvalidRequest;
+    let aux_len = u32_at(request, 80) as usize;
+    let proof_len = u32_at(request, 84) as usize;
+    Check::Passed
+        .require(
+            is_operation(u8_at(request, 12)),
+            ProtocolError::InvalidOperation,
+        )
+        .require(u16_at(request, 14) == 0, invalid)
+        .require(u64_at(request, 88) == 0, invalid)
+        .require(aux_len <= VERIFIER_MAX_AUX_LEN, invalid)
+        .require(proof_len <= VERIFIER_MAX_PROOF_LEN, invalid)
+        .require(
+            VERIFIER_REQUEST_HEADER_LEN + aux_len + proof_len == request.len(),
+            invalid,
+        )
+}
+
+fn check_request(request: &[u8]) -> Check
+    ensures { λ r. ⌜ r ≡ requestFault (now (request .entry)) ⌝ }
+{
+    check_head(request).and(check_fields(request))
+}
+
+fn fields_at(request: &[u8]) -> RequestFields
+    ensures { λ r. ⌜ r ≡ fieldsAt (now (request .entry)) ⌝ }
+{
+    let aux_len = u32_at(request, 80) as usize;
+    RequestFields {
+        algorithm_id: u16_at(request, 8),
+        slot: u16_at(request, 10),
+        operation: u8_at(request, 12),
+        verifier_profile: u8_at(request, 13),
+        authorization_digest: 16,
+        key_id: 48,
+        aux: VERIFIER_REQUEST_HEADER_LEN,
+        aux_len: aux_len,
+        proof: VERIFIER_REQUEST_HEADER_LEN + aux_len,
+        proof_len: u32_at(request, 84) as usize,
+    }
+}
+
+// The fields of a request, or the refusal of the first check that fails.
+pub fn parse_verifier_request(request: &[u8]) -> RequestAnswer
+    ensures { λ r. ⌜ r ≡ readRequest (now (request .entry)) ⌝ }
+{
+    match check_request(request) {
+        Check::Failed(error) => RequestAnswer::Refused(error),
+        Check::Passed => RequestAnswer::Request(fields_at(request)),
+    }
+}

@@ -1,0 +1,116 @@
+// The writer of a verifier request.
+use octets::fits;
+use octets::store_bytes;
+use octets::store_number;
+use protocol::Check;
+use protocol::ProtocolError;
+use protocol::VERIFIER_ABI_V1;
+use protocol::VERIFIER_MAGIC;
+use protocol::VERIFIER_MAX_AUX_LEN;
+use protocol::VERIFIER_MAX_PROOF_LEN;
+use protocol::VERIFIER_REQUEST_HEADER_LEN;
+use protocol::WriteAnswer;
+use protocol::is_operation;
+ghost use mathlib.Core.Path.{_≡_};
+ghost use Prim.Native.Nat.{_+_};
+ghost use lib.ListN.{length};
+ghost use lib.Seq.{sets};
+ghost use Rattle.octets.specs.Table.{numbers};
+ghost use Rattle.protocol.specs.Write.{writeFault};
+ghost use Rattle.verifier_request.specs.Reading.{reading, requestHead, requestLengths, requestBytes};
+ghost use Rattle.verifier_request.specs.Writer.{limitRows, requestWritten, requestStored};
+
+// Bytes 0 to 15.
+fn store_head(out: &mut [u8], algorithm: u16, slot: u16, operation: u8, profile: u8)
+    ensures { λ _. ⌜ now (out .exit) ≡ sets (now (out .entry)) 0 (numbers (requestHead algorithm slot operation profile)) ⌝ }
+{
+    store_number(out, 0, 4, VERIFIER_MAGIC as u64);
+    store_number(out, 4, 1, VERIFIER_ABI_V1 as u64);
+    store_number(out, 5, 1, 0);
+    store_number(out, 6, 2, VERIFIER_REQUEST_HEADER_LEN as u64);
+    store_number(out, 8, 2, algorithm as u64);
+    store_number(out, 10, 2, slot as u64);
+    store_number(out, 12, 1, operation as u64);
+    store_number(out, 13, 1, profile as u64);
+    store_number(out, 14, 2, 0);
+}
+
+// Bytes 80 to 95.
+fn store_lengths(out: &mut [u8], aux: usize, proof: usize)
+    ensures { λ _. ⌜ now (out .exit) ≡ sets (now (out .entry)) 80 (numbers (requestLengths aux proof)) ⌝ }
+{
+    store_number(out, 80, 4, aux as u64);
+    store_number(out, 84, 4, proof as u64);
+    store_number(out, 88, 8, 0);
+}
+
+// Stores the request's bytes from the front of `out`, as far as there is room.
+pub fn store_request(
+    algorithm: u16,
+    slot: u16,
+    operation: u8,
+    profile: u8,
+    digest: [u8; 32],
+    key: [u8; 32],
+    aux: &[u8],
+    proof: &[u8],
+    out: &mut [u8],
+)
+    ensures { λ _. ⌜ now (out .exit) ≡ sets (now (out .entry)) 0 (requestBytes (reading algorithm slot operation profile digest key (now (aux .entry)) (now (proof .entry)))) ⌝ }
+{
+    store_head(out, algorithm, slot, operation, profile);
+    store_bytes(out, 16, &digest);
+    store_bytes(out, 48, &key);
+    store_lengths(out, aux.len(), proof.len());
+    store_bytes(out, VERIFIER_REQUEST_HEADER_LEN, aux);
+    store_bytes(out, VERIFIER_REQUEST_HEADER_LEN + aux.len(), proof);
+}
+
+// The writer's refusals, and then that of a buffer of `room` bytes.
+fn check_room(operation: u8, aux: &[u8], proof: &[u8], room: usize) -> Check
+    ensures { λ r. ⌜ r ≡ writeFault (limitRows operation (length (now (aux .entry))) (length (now (proof .entry)))) (96 + length (now (aux .entry)) + length (now (proof .entry))) room ⌝ }
+{
+    let invalid = ProtocolError::InvalidRequest;
+    Check::Passed
+        .require(is_operation(operation), ProtocolError::InvalidOperation)
+        .require(aux.len() <= VERIFIER_MAX_AUX_LEN, invalid)
+        .require(proof.len() <= VERIFIER_MAX_PROOF_LEN, invalid)
+        .require(
+            fits(room, VERIFIER_REQUEST_HEADER_LEN + aux.len(), proof.len()),
+            ProtocolError::BufferTooShort,
+        )
+}
+
+// Writes a request to the front of `out` and answers its length. A refused writer writes nothing.
+pub fn encode_verifier_request(
+    algorithm: u16,
+    slot: u16,
+    operation: u8,
+    profile: u8,
+    digest: [u8; 32],
+    key: [u8; 32],
+    aux: &[u8],
+    proof: &[u8],
+    out: &mut [u8],
+) -> WriteAnswer
+    ensures { λ r. ⌜ r ≡ requestWritten (reading algorithm slot operation profile digest key (now (aux .entry)) (now (proof .entry))) (now (out .entry)) ⌝ }
+    ensures { λ _. ⌜ now (out .exit) ≡ requestStored (reading algorithm slot operation profile digest key (now (aux .entry)) (now (proof .entry))) (now (out .entry)) ⌝ }
+{
+    match check_room(operation, aux, proof, out.len()) {
+        Check::Failed(error) => WriteAnswer::Refused(error),
+        Check::Passed => {
+            store_request(
+                algorithm,
+                slot,
+                operation,
+                profile,
+                digest,
+                key,
+                aux,
+                proof,
+                out,
+            );
+            WriteAnswer::Written(VERIFIER_REQUEST_HEADER_LEN + aux.len() + proof.len())
+        }
+    }
+}

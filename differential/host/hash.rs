@@ -1,0 +1,95 @@
+//! CKB's hash of the library beside the reference: whole, in parts, into output buffers of any length.
+
+use crate::exports;
+use crate::hex::Hex;
+use crate::prng::Prng;
+use crate::report::Report;
+
+/// Lengths of output buffers: none, short ones, exact, longer ones.
+const OUT: [usize; 6] = [0, 1, 31, 32, 33, 64];
+/// Bytes behind the buffer that is lent, to see that they stay.
+const BEHIND: usize = 16;
+const RANDOM_CASES: usize = 3000;
+
+/// How the data is fed: its first bytes, then so many at a time.
+type Parts = Option<(usize, usize)>;
+
+/// The buffer after a call that is lent its first `out_len` bytes.
+fn result(data: &[u8], parts: Parts, before: &[u8], out_len: usize) -> Hex {
+    let mut buffer = before.to_vec();
+    let out = &mut buffer[..out_len];
+    match parts {
+        None => exports::ckb_hash(data, out),
+        Some((first, step)) => exports::ckb_hash_parts(data, first, step, out),
+    }
+    Hex(buffer)
+}
+
+/// The digest at the front of the lent bytes, as far as it fits; every other byte as before.
+fn expected(data: &[u8], before: &[u8], out_len: usize) -> Hex {
+    let mut buffer = before.to_vec();
+    let fits = out_len.min(32);
+    buffer[..fits].copy_from_slice(&blake2b::ckb_hash(data)[..fits]);
+    Hex(buffer)
+}
+
+fn compare(report: &mut Report, prng: &mut Prng, data: &[u8], parts: Parts, out_len: usize) {
+    let before = prng.bytes(out_len + BEHIND);
+    let name = match parts {
+        None => "hash",
+        Some(_) => "hash in parts",
+    };
+    let input = || format!("parts {parts:?}, out {out_len}, {:?}", Hex(data.to_vec()));
+    let result = result(data, parts, &before, out_len);
+    let expected = expected(data, &before, out_len);
+    report.compare(name, data.len(), input, &result, &expected);
+}
+
+/// Small parts, parts about a block's length, parts longer than the data, all at once.
+fn random_parts(prng: &mut Prng, length: usize) -> (usize, usize) {
+    let first = match prng.up_to(3) {
+        0 => 0,
+        1 => prng.up_to(130),
+        2 => prng.up_to(length),
+        _ => length + prng.up_to(2),
+    };
+    let step = match prng.up_to(4) {
+        0 => 0,
+        1 => 1 + prng.up_to(8),
+        2 => 126 + prng.up_to(4),
+        3 => 1 + prng.up_to(length),
+        _ => usize::MAX,
+    };
+    (first, step)
+}
+
+/// Every length up to 300, into each output buffer.
+fn every_short_length(report: &mut Report, prng: &mut Prng) {
+    for length in 0..=300 {
+        let data = prng.bytes(length);
+        for out_len in OUT {
+            let parts = random_parts(prng, length);
+            compare(report, prng, &data, None, out_len);
+            compare(report, prng, &data, Some(parts), out_len);
+        }
+    }
+}
+
+fn random_lengths(report: &mut Report, prng: &mut Prng) {
+    for _ in 0..RANDOM_CASES {
+        let length = prng.up_to(5000);
+        let data = prng.bytes(length);
+        let parts = random_parts(prng, length);
+        let out_len = OUT[prng.up_to(OUT.len() - 1)];
+        compare(report, prng, &data, None, 32);
+        compare(report, prng, &data, Some(parts), out_len);
+    }
+}
+
+pub fn run(report: &mut Report) {
+    let mut prng = Prng::new(1);
+    every_short_length(report, &mut prng);
+    random_lengths(report, &mut prng);
+    let data = prng.bytes(1000);
+    compare(report, &mut prng, &data, Some((usize::MAX, usize::MAX)), 32);
+}

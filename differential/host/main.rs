@@ -1,0 +1,31 @@
+//! Runs the port beside the original and compares. A comparison is a module with a function `run`.
+//! `originals` is set where the original files are at hand; what needs none runs without them too.
+
+mod exports;
+mod hash;
+mod hex;
+#[cfg(originals)]
+mod original;
+mod prng;
+mod report;
+#[cfg(originals)]
+mod samples;
+#[cfg(originals)]
+mod smoke;
+mod vectors;
+
+use report::Report;
+use std::process::ExitCode;
+
+fn main() -> ExitCode {
+    let mut report = Report::new();
+    vectors::run(&mut report);
+    #[cfg(originals)]
+    smoke::run(&mut report);
+    hash::run(&mut report);
+    if report.print() {
+        ExitCode::SUCCESS
+    } else {
+        ExitCode::FAILURE
+    }
+}

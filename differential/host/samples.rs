@@ -1,0 +1,115 @@
+//! A small account, and scenes in which one proof spends from it and recovers it.
+
+use ckb_account_host::{
+    account_lock_args, encode_state, encode_witness, AccountState, Authenticator, Proof,
+};
+use ckb_account_protocol::{
+    ALG_P256_WEBAUTHN, CAP_RECOVERY, CAP_ROTATE, CAP_SPEND, OP_RECOVERY, OP_SPEND,
+    STATE_FLAG_RECOVERY_ENABLED, VERIFIER_ABI_V1,
+};
+use ckb_std::{Cell, Input, Scene};
+use ckb_types::molecule::{byte_vector, table};
+
+pub const ACCOUNT_ID: [u8; 32] = [0x11; 32];
+pub const SEQUENCE: u64 = 7;
+pub const RECOVERY_SINCE: u64 = 1000;
+pub const PROOF: &[u8] = b"proof";
+const VERIFIER: [u8; 32] = [0x22; 32];
+
+/// Its aux makes the state too long for the lock's first try to load it.
+pub fn authenticator() -> Authenticator {
+    Authenticator {
+        slot: 5,
+        algorithm_id: ALG_P256_WEBAUTHN,
+        capabilities: CAP_SPEND | CAP_ROTATE | CAP_RECOVERY,
+        weight: 1,
+        verifier_hash_type: 0,
+        verifier_abi: VERIFIER_ABI_V1,
+        verifier_code_hash: VERIFIER,
+        key_id: [0x33; 32],
+        aux: vec![1; 300],
+    }
+}
+
+/// The state's bytes: one authenticator that suffices alone.
+pub fn state(sequence: u64) -> Vec<u8> {
+    let state = AccountState {
+        flags: STATE_FLAG_RECOVERY_ENABLED,
+        sequence,
+        spend_threshold: 1,
+        rotate_threshold: 1,
+        recovery_threshold: 1,
+        recovery_since: RECOVERY_SINCE,
+        authenticators: vec![authenticator()],
+    };
+    encode_state(&state).expect("a valid state")
+}
+
+fn script() -> Vec<u8> {
+    let args = byte_vector(&account_lock_args(&ACCOUNT_ID));
+    table(&[&[0x44; 32], &[1], &args])
+}
+
+fn witness(operation: u8) -> Vec<u8> {
+    let proof = Proof {
+        slot: authenticator().slot,
+        bytes: PROOF.to_vec(),
+    };
+    let lock = encode_witness(operation, SEQUENCE, &[proof]).expect("a valid witness lock");
+    table(&[&byte_vector(&lock), &[], &byte_vector(b"output type")])
+}
+
+fn plain_cell() -> Cell {
+    Cell {
+        type_hash: None,
+        data_hash: [0; 32],
+        type_script: None,
+        data: Vec::new(),
+    }
+}
+
+/// The cell that holds the account's state.
+pub fn state_cell(sequence: u64) -> Cell {
+    Cell {
+        type_hash: Some(ACCOUNT_ID),
+        type_script: Some(table(&[&[0x55; 32], &[1], &byte_vector(&[])])),
+        data: state(sequence),
+        ..plain_cell()
+    }
+}
+
+fn verifier_cell() -> Cell {
+    Cell {
+        data_hash: VERIFIER,
+        ..plain_cell()
+    }
+}
+
+pub fn input(group: bool, since: u64, cell: Cell) -> Input {
+    Input { group, since, cell }
+}
+
+/// Two inputs, the second of them the account's, and one witness behind those of the inputs.
+pub fn spend() -> Scene {
+    Scene {
+        script: script(),
+        tx_hash: [0x66; 32],
+        inputs: vec![input(false, 0, plain_cell()), input(true, 0, plain_cell())],
+        outputs: vec![plain_cell()],
+        deps: vec![state_cell(SEQUENCE), verifier_cell()],
+        witnesses: vec![b"foreign".to_vec(), witness(OP_SPEND), b"extra".to_vec()],
+        verdicts: vec![0],
+    }
+}
+
+/// The second input holds the state, the second output its successor.
+pub fn recovery(since: u64) -> Scene {
+    let state_input = input(true, since, state_cell(SEQUENCE));
+    Scene {
+        inputs: vec![input(false, 0, plain_cell()), state_input],
+        outputs: vec![plain_cell(), state_cell(SEQUENCE + 1)],
+        deps: vec![plain_cell(), verifier_cell()],
+        witnesses: vec![b"foreign".to_vec(), witness(OP_RECOVERY), b"extra".to_vec()],
+        ..spend()
+    }
+}
