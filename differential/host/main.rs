@@ -1,7 +1,10 @@
 //! Runs the port beside the original and compares. A comparison is a module with a function `run`.
 //! `originals` is set where the original files are at hand; what needs none runs without them too.
 
+#[cfg_attr(not(originals), allow(dead_code))]
 mod exports;
+#[cfg(originals)]
+mod formats;
 mod hash;
 mod hex;
 #[cfg(originals)]
@@ -23,6 +26,8 @@ fn main() -> ExitCode {
     #[cfg(originals)]
     smoke::run(&mut report);
     hash::run(&mut report);
+    #[cfg(originals)]
+    formats::run(&mut report);
     if report.print() {
         ExitCode::SUCCESS
     } else {

@@ -1,5 +1,6 @@
-//! Counts comparisons by name, and keeps the mismatches with the smallest inputs.
+//! Counts comparisons by name, and the numbers that functions answered, and keeps the mismatches with the smallest inputs.
 
+use std::collections::BTreeMap;
 use std::fmt::Debug;
 
 /// How many mismatches of a name are printed.
@@ -17,6 +18,8 @@ struct Entry {
     passed: usize,
     failed: usize,
     smallest: Vec<Mismatch>,
+    /// How often each number was answered.
+    answers: BTreeMap<u32, usize>,
 }
 
 #[derive(Default)]
@@ -62,18 +65,36 @@ impl Report {
                 passed: 0,
                 failed: 0,
                 smallest: Vec::new(),
+                answers: BTreeMap::new(),
             });
             self.entries.len() - 1
         });
         &mut self.entries[place]
     }
 
+    /// Counts an answer of the port.
+    #[cfg(originals)]
+    pub fn answered(&mut self, name: &'static str, number: u32) {
+        *self.entry(name).answers.entry(number).or_default() += 1;
+    }
+
+    /// Expects that exactly these numbers, in rising order, were answered.
+    #[cfg(originals)]
+    pub fn expect_answers(&mut self, name: &'static str, expected: &[u32]) {
+        let answers: Vec<u32> = self.entry(name).answers.keys().copied().collect();
+        let input = || format!("numbers that {name} answered");
+        self.compare("answers", 0, input, &answers, &expected.to_vec());
+    }
+
     /// Prints a line for each name, mismatches below it, and the sum last. Returns whether all passed.
     pub fn print(&self) -> bool {
         for entry in &self.entries {
             println!(
-                "{}: {} passed, {} failed",
-                entry.name, entry.passed, entry.failed
+                "{}: {} passed, {} failed{}",
+                entry.name,
+                entry.passed,
+                entry.failed,
+                histogram(&entry.answers)
             );
             for mismatch in &entry.smallest {
                 println!("  mismatch, size {}", mismatch.size);
@@ -86,5 +107,17 @@ impl Report {
         let failed: usize = self.entries.iter().map(|entry| entry.failed).sum();
         println!("differential: {passed} passed, {failed} failed");
         failed == 0
+    }
+}
+
+/// How often each number was answered, or nothing where none is counted.
+fn histogram(answers: &BTreeMap<u32, usize>) -> String {
+    let counts: Vec<String> = answers
+        .iter()
+        .map(|(number, count)| format!("{number}: {count}"))
+        .collect();
+    match counts.is_empty() {
+        true => String::new(),
+        false => format!(" ({})", counts.join(", ")),
     }
 }

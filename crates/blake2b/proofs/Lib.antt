@@ -1,5 +1,4 @@
 pub mod Table
-pub mod Written
 pub mod Bytes
 pub mod Padding
 pub mod Feed

@@ -28,6 +28,7 @@ at f (x ∷ xs) t (suc k) d h = at f xs (right (f x) (every f xs) t) k d (le-of-
 
 -- a place that a row names is below 16
 pub in-row : (row : List ℕ) → T (permutation row) → (k : ℕ) → k < 16 → getD row k 0 < 16
+unfolding permutation
 in-row row t k h =
     let n : length row ≡ 16 = eqb→eq (length row) 16 (left (eqb (length row) 16) _ t) in
     ltb→lt (getD row k 0) 16 (at (λ (x : ℕ). ltb x 16) row (left (every (λ (x : ℕ). ltb x 16) row) _ (right (eqb (length row) 16) _ t)) k 0 (omega arith))

@@ -22,11 +22,11 @@ holds [] n = false
 holds (x ∷ xs) n = either (eqb n x) (holds xs n)
 
 -- a row of sixteen places below 16 that holds each of 0 to 15
-abbrev pub permutation : List ℕ → Bool
+unfoldable pub permutation : List ℕ → Bool
 permutation row =
     both (eqb (length row) 16) (both (every (λ (x : ℕ). ltb x 16) row)
     (every (holds row) (0 ∷ 1 ∷ 2 ∷ 3 ∷ 4 ∷ 5 ∷ 6 ∷ 7 ∷ 8 ∷ 9 ∷ 10 ∷ 11 ∷ 12 ∷ 13 ∷ 14 ∷ 15 ∷ [])))
 
 pub sigma-rule : T (both (eqb (length SIGMA) 10) (every permutation SIGMA))
-unfolding SIGMA
+unfolding SIGMA permutation
 sigma-rule = tt

@@ -1,4 +1,4 @@
-// The block that is being filled: its next place, how full it is, and where a run of bytes ends.
+// The block that is being filled: its next place, how full it is, where a run of bytes ends, and the words once a full one is compressed.
 use super::Blake2b;
 use super::compression::compress;
 use super::compression::message_words;

@@ -1,9 +1,10 @@
 // The compression function F of RFC 7693, over a work vector of sixteen words.
 use super::Blake2b;
 ghost use mathlib.Core.Path.{_≡_};
-ghost use Prim.Native.Nat.{_+_, _%_, _<_};
+ghost use Prim.Native.Nat.{_+_, _%_, _≤_, _<_};
 ghost use lib.Dec.{T};
 ghost use lib.ListN.{getD};
+ghost use lib.Seq.{sets};
 ghost use Rattle.blake2b.specs.Rfc7693.{rotr, wordsOf, add, turn, G, mixed, round, rounds, workVector, halves, F};
 ghost use Rattle.blake2b.specs.Schedule.{permutation};
 
@@ -124,29 +125,26 @@ fn mix_rounds(v: &mut [u64; 16], m: &[u64; 16])
     }
 }
 
-// The work vector, from the state, the offset and the last block flag. The offset's upper word is 0.
+// Stores eight words from place `at` on.
+fn copy_words(v: &mut [u64; 16], at: usize, words: [u64; 8])
+    requires { ⌜ at ≤ 8 ⌝ }
+    ensures { λ _. ⌜ now (v .exit) ≡ sets (now (v .entry)) at words ⌝ }
+{
+    let mut i: usize = 0;
+    while i < 8 {
+        v[at + i] = words[i];
+        i += 1;
+    }
+}
+
+// The work vector, from the state, the offset and the last block flag. The offset's upper word, for v[13], is 0.
 fn work_vector(h: [u64; 8], t: u64, last: bool) -> [u64; 16]
     ensures { λ r. ⌜ r ≡ workVector h t last ⌝ }
 {
-    let iv = Blake2b::IV;
-    let mut v = [
-        h[0],
-        h[1],
-        h[2],
-        h[3],
-        h[4],
-        h[5],
-        h[6],
-        h[7],
-        iv[0],
-        iv[1],
-        iv[2],
-        iv[3],
-        iv[4] ^ t,
-        iv[5],
-        iv[6],
-        iv[7],
-    ];
+    let mut v = [0u64; 16];
+    copy_words(&mut v, 0, h);
+    copy_words(&mut v, 8, Blake2b::IV);
+    v[12] = v[12] ^ t;
     if last {
         v[14] = v[14] ^ 0xffff_ffff_ffff_ffff;
     }

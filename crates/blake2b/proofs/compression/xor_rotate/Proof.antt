@@ -7,7 +7,7 @@ use Rattle.blake2b.proofs.compression.xor_rotate.Tie as tie
 
 returns : tie.Need-returns
 unfolding turn
-returns c = cc
+returns c = rw (c .rotate .ensures)
 
 pub xor-rotate-spec : {M : Type 1} → statement M
 xor-rotate-spec =

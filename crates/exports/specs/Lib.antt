@@ -1,0 +1,3 @@
+pub mod Words
+pub mod Readers
+pub mod Writers

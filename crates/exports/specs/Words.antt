@@ -1,0 +1,14 @@
+-- What an exported reader stores: its numbers as 64-bit words, from the front of the buffer on, as far as there is room.
+use Prim.Native.Nat.{ℕ}
+use mathlib.Core.List.{List, [], _∷_}
+use lib.Seq.{sets}
+use Rattle.octets.specs.Table.{Number, numbers}
+
+-- a table of 64-bit words
+unfoldable pub words : List ℕ → List Number
+words [] = []
+words (v ∷ vs) = record { width = 8; value = v } ∷ words vs
+
+-- the buffer with the words in it
+unfoldable pub withWords : List ℕ → List ℕ → List ℕ
+withWords vs out = sets out 0 (numbers (words vs))

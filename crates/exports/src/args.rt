@@ -1,0 +1,100 @@
+// The lock's args, algorithms and operations.
+use crate::words::array_32;
+use crate::words::store_words;
+use crate::words::written;
+use octets::store_bytes;
+use protocol::ACCOUNT_LOCK_ARGS_LEN;
+use protocol::AccountLockArgs;
+use protocol::ArgsAnswer;
+use protocol::Check;
+use protocol::OperationCapability;
+use protocol::ProtocolError;
+use protocol::WriteAnswer;
+use protocol::account_lock_args;
+use protocol::capability_for_operation;
+use protocol::error_number;
+use protocol::is_supported_algorithm;
+ghost use mathlib.Core.Path.{_≡_};
+ghost use mathlib.Core.Bool.{cond};
+ghost use Rattle.protocol.specs.Args.{argsNumber, readArgs};
+ghost use Rattle.protocol.specs.Policy.{isSupportedAlgorithm, capabilityFor};
+ghost use Rattle.protocol.specs.Write.{writeNumber};
+ghost use Rattle.exports.specs.Words.{withWords};
+ghost use Rattle.exports.specs.Readers.{argsWords, capabilityBit};
+ghost use Rattle.exports.specs.Writers.{lengthAfter, argsFault, argsWritten, argsStored};
+
+// Stores the version and the place of the account id.
+#[no_mangle]
+pub extern "C" fn fowlcredenza_parse_args(args: &[u8], out: &mut [u8]) -> u32
+    ensures { λ r. ⌜ r ≡ argsNumber (readArgs (now (args .entry))) ⌝ }
+    ensures { λ _. ⌜ now (out .exit) ≡ withWords (argsWords (readArgs (now (args .entry)))) (now (out .entry)) ⌝ }
+{
+    match AccountLockArgs::parse(args) {
+        ArgsAnswer::Refused(error) => error_number(error) as u32,
+        ArgsAnswer::Args(fields) => {
+            let words = [fields.version as u64, fields.account_id as u64];
+            store_words(&words, out);
+            0
+        }
+    }
+}
+
+// 1 where the algorithm is supported, else 0.
+#[no_mangle]
+pub extern "C" fn fowlcredenza_is_supported_algorithm(algorithm: u16) -> u32
+    ensures { λ r. ⌜ r ≡ cond (isSupportedAlgorithm algorithm) 1 0 ⌝ }
+{
+    if is_supported_algorithm(algorithm) {
+        1
+    } else {
+        0
+    }
+}
+
+// The capability bit that an operation needs, or 0 where there is no such operation.
+#[no_mangle]
+pub extern "C" fn fowlcredenza_capability_for_operation(operation: u8) -> u32
+    ensures { λ r. ⌜ r ≡ capabilityBit (capabilityFor operation) ⌝ }
+{
+    match capability_for_operation(operation) {
+        OperationCapability::Refused(_) => 0,
+        OperationCapability::Capability(bit) => bit as u32,
+    }
+}
+
+fn check_account(account: &[u8], room: usize) -> Check
+    ensures { λ r. ⌜ r ≡ argsFault (now (account .entry)) room ⌝ }
+{
+    Check::Passed
+        .require(account.len() == 32, ProtocolError::SlicesDisagree)
+        .require(ACCOUNT_LOCK_ARGS_LEN <= room, ProtocolError::BufferTooShort)
+}
+
+// The args of an account. An account of another length than 32 is 7.
+fn write_args(account: &[u8], out: &mut [u8]) -> WriteAnswer
+    ensures { λ r. ⌜ r ≡ argsWritten (now (account .entry)) (now (out .entry)) ⌝ }
+    ensures { λ _. ⌜ now (out .exit) ≡ argsStored (now (account .entry)) (now (out .entry)) ⌝ }
+{
+    match check_account(account, out.len()) {
+        Check::Failed(error) => WriteAnswer::Refused(error),
+        Check::Passed => {
+            let args = account_lock_args(array_32(account));
+            store_bytes(out, 0, &args);
+            WriteAnswer::Written(ACCOUNT_LOCK_ARGS_LEN)
+        }
+    }
+}
+
+// Writes the args of an account: 0x01 and the account.
+#[no_mangle]
+pub extern "C" fn fowlcredenza_account_lock_args(
+    account: &[u8],
+    out: &mut [u8],
+    len: &mut u64,
+) -> u32
+    ensures { λ r. ⌜ r ≡ writeNumber (argsWritten (now (account .entry)) (now (out .entry))) ⌝ }
+    ensures { λ _. ⌜ now (out .exit) ≡ argsStored (now (account .entry)) (now (out .entry)) ⌝ }
+    ensures { λ _. ⌜ now (len .exit) ≡ lengthAfter (argsWritten (now (account .entry)) (now (out .entry))) (now (len .entry)) ⌝ }
+{
+    written(write_args(account, out), len)
+}

@@ -1,0 +1,51 @@
+// The public-key proof.
+use crate::words::store_words;
+use crate::words::written;
+use protocol::error_number;
+use public_key_proof::PublicKeyProofAnswer;
+use public_key_proof::encode_public_key_proof;
+use public_key_proof::parse_public_key_proof;
+ghost use mathlib.Core.Path.{_≡_};
+ghost use Rattle.protocol.specs.Write.{writeNumber};
+ghost use Rattle.public_key_proof.specs.Reader.{proofNumber, readProof};
+ghost use Rattle.public_key_proof.specs.Reading.{reading};
+ghost use Rattle.public_key_proof.specs.Writer.{proofWritten, proofStored};
+ghost use Rattle.exports.specs.Words.{withWords};
+ghost use Rattle.exports.specs.Readers.{proofWords};
+ghost use Rattle.exports.specs.Writers.{lengthAfter};
+
+// Stores place and length of the key and of the signature.
+#[no_mangle]
+pub extern "C" fn fowlcredenza_parse_public_key_proof(proof: &[u8], out: &mut [u8]) -> u32
+    ensures { λ r. ⌜ r ≡ proofNumber (readProof (now (proof .entry))) ⌝ }
+    ensures { λ _. ⌜ now (out .exit) ≡ withWords (proofWords (readProof (now (proof .entry)))) (now (out .entry)) ⌝ }
+{
+    match parse_public_key_proof(proof) {
+        PublicKeyProofAnswer::Refused(error) => error_number(error) as u32,
+        PublicKeyProofAnswer::Proof(places) => {
+            let words = [
+                places.public_key as u64,
+                places.public_key_len as u64,
+                places.signature as u64,
+                places.signature_len as u64,
+            ];
+            store_words(&words, out);
+            0
+        }
+    }
+}
+
+// Writes the proof of a key and a signature.
+#[no_mangle]
+pub extern "C" fn fowlcredenza_encode_public_key_proof(
+    key: &[u8],
+    signature: &[u8],
+    out: &mut [u8],
+    len: &mut u64,
+) -> u32
+    ensures { λ r. ⌜ r ≡ writeNumber (proofWritten (reading (now (key .entry)) (now (signature .entry))) (now (out .entry))) ⌝ }
+    ensures { λ _. ⌜ now (out .exit) ≡ proofStored (reading (now (key .entry)) (now (signature .entry))) (now (out .entry)) ⌝ }
+    ensures { λ _. ⌜ now (len .exit) ≡ lengthAfter (proofWritten (reading (now (key .entry)) (now (signature .entry))) (now (out .entry))) (now (len .entry)) ⌝ }
+{
+    written(encode_public_key_proof(key, signature, out), len)
+}

@@ -1,0 +1,118 @@
+// The verifier request.
+use crate::words::array_32;
+use crate::words::store_words;
+use crate::words::written;
+use protocol::Check;
+use protocol::ProtocolError;
+use protocol::WriteAnswer;
+use protocol::error_number;
+use verifier_request::RequestAnswer;
+use verifier_request::encode_verifier_request;
+use verifier_request::parse_verifier_request;
+ghost use mathlib.Core.Path.{_≡_};
+ghost use Rattle.protocol.specs.Write.{writeNumber};
+ghost use Rattle.verifier_request.specs.Reader.{requestNumber, readRequest};
+ghost use Rattle.verifier_request.specs.Reading.{reading};
+ghost use Rattle.exports.specs.Words.{withWords};
+ghost use Rattle.exports.specs.Readers.{requestWords};
+ghost use Rattle.exports.specs.Writers.{lengthAfter, sizesFault, lentWritten, lentStored};
+
+// Stores algorithm, slot, operation, profile, the places of digest and key, and place and length of the aux and of the proof.
+#[no_mangle]
+pub extern "C" fn fowlcredenza_parse_verifier_request(request: &[u8], out: &mut [u8]) -> u32
+    ensures { λ r. ⌜ r ≡ requestNumber (readRequest (now (request .entry))) ⌝ }
+    ensures { λ _. ⌜ now (out .exit) ≡ withWords (requestWords (readRequest (now (request .entry)))) (now (out .entry)) ⌝ }
+{
+    match parse_verifier_request(request) {
+        RequestAnswer::Refused(error) => error_number(error) as u32,
+        RequestAnswer::Request(fields) => {
+            let words = [
+                fields.algorithm_id as u64,
+                fields.slot as u64,
+                fields.operation as u64,
+                fields.verifier_profile as u64,
+                fields.authorization_digest as u64,
+                fields.key_id as u64,
+                fields.aux as u64,
+                fields.aux_len as u64,
+                fields.proof as u64,
+                fields.proof_len as u64,
+            ];
+            store_words(&words, out);
+            0
+        }
+    }
+}
+
+// Digest and key have 32 bytes.
+fn check_sizes(digest: &[u8], key: &[u8]) -> Check
+    ensures { λ r. ⌜ r ≡ sizesFault (now (digest .entry)) (now (key .entry)) ⌝ }
+{
+    let disagree = ProtocolError::SlicesDisagree;
+    Check::Passed
+        .require(digest.len() == 32, disagree)
+        .require(key.len() == 32, disagree)
+}
+
+// The request of a digest and a key that are lent as slices.
+fn write_request(
+    algorithm: u16,
+    slot: u16,
+    operation: u8,
+    profile: u8,
+    digest: &[u8],
+    key: &[u8],
+    aux: &[u8],
+    proof: &[u8],
+    out: &mut [u8],
+) -> WriteAnswer
+    ensures { λ r. ⌜ r ≡ lentWritten (reading algorithm slot operation profile (now (digest .entry)) (now (key .entry)) (now (aux .entry)) (now (proof .entry))) (now (out .entry)) ⌝ }
+    ensures { λ _. ⌜ now (out .exit) ≡ lentStored (reading algorithm slot operation profile (now (digest .entry)) (now (key .entry)) (now (aux .entry)) (now (proof .entry))) (now (out .entry)) ⌝ }
+{
+    match check_sizes(digest, key) {
+        Check::Failed(error) => WriteAnswer::Refused(error),
+        Check::Passed => encode_verifier_request(
+            algorithm,
+            slot,
+            operation,
+            profile,
+            array_32(digest),
+            array_32(key),
+            aux,
+            proof,
+            out,
+        ),
+    }
+}
+
+// Writes a request. A digest or a key of another length than 32 is 7.
+#[no_mangle]
+pub extern "C" fn fowlcredenza_encode_verifier_request(
+    algorithm: u16,
+    slot: u16,
+    operation: u8,
+    profile: u8,
+    digest: &[u8],
+    key: &[u8],
+    aux: &[u8],
+    proof: &[u8],
+    out: &mut [u8],
+    len: &mut u64,
+) -> u32
+    ensures { λ r. ⌜ r ≡ writeNumber (lentWritten (reading algorithm slot operation profile (now (digest .entry)) (now (key .entry)) (now (aux .entry)) (now (proof .entry))) (now (out .entry))) ⌝ }
+    ensures { λ _. ⌜ now (out .exit) ≡ lentStored (reading algorithm slot operation profile (now (digest .entry)) (now (key .entry)) (now (aux .entry)) (now (proof .entry))) (now (out .entry)) ⌝ }
+    ensures { λ _. ⌜ now (len .exit) ≡ lengthAfter (lentWritten (reading algorithm slot operation profile (now (digest .entry)) (now (key .entry)) (now (aux .entry)) (now (proof .entry))) (now (out .entry))) (now (len .entry)) ⌝ }
+{
+    let answer = write_request(
+        algorithm,
+        slot,
+        operation,
+        profile,
+        digest,
+        key,
+        aux,
+        proof,
+        out,
+    );
+    written(answer, len)
+}

@@ -1,0 +1,109 @@
+// The witness lock.
+use crate::words::store_words;
+use crate::words::written;
+use account_witness::ProofCursor;
+use account_witness::ProofStep;
+use account_witness::WitnessAnswer;
+use account_witness::WitnessHeaderAnswer;
+use account_witness::next_proof;
+use account_witness::parse_witness_header;
+use account_witness::validate_witness;
+use account_witness_writer::encode_witness;
+use protocol::error_number;
+ghost use mathlib.Core.Path.{_≡_};
+ghost use Rattle.protocol.specs.Write.{writeNumber};
+ghost use Rattle.account_witness.specs.Header.{headerNumber, readHeader};
+ghost use Rattle.account_witness.specs.Walk.{stepNumber, proofStep};
+ghost use Rattle.account_witness.specs.Witness.{witnessNumber, readWitness};
+ghost use Rattle.account_witness_writer.specs.Encode.{witnessWritten, witnessStored};
+ghost use Rattle.exports.specs.Words.{withWords};
+ghost use Rattle.exports.specs.Readers.{witnessHeaderWords, proofStepWords, witnessWords};
+ghost use Rattle.exports.specs.Writers.{lengthAfter};
+
+// Stores operation, proof count and sequence.
+#[no_mangle]
+pub extern "C" fn fowlcredenza_parse_witness_header(witness: &[u8], out: &mut [u8]) -> u32
+    ensures { λ r. ⌜ r ≡ headerNumber (readHeader (now (witness .entry))) ⌝ }
+    ensures { λ _. ⌜ now (out .exit) ≡ withWords (witnessHeaderWords (readHeader (now (witness .entry)))) (now (out .entry)) ⌝ }
+{
+    match parse_witness_header(witness) {
+        WitnessHeaderAnswer::Refused(error) => error_number(error) as u32,
+        WitnessHeaderAnswer::Header(header) => {
+            let words = [
+                header.operation as u64,
+                header.proof_count as u64,
+                header.state_sequence,
+            ];
+            store_words(&words, out);
+            0
+        }
+    }
+}
+
+// Stores slot, place and length of the proof's bytes, and offset and least slot of the next proof.
+#[no_mangle]
+pub extern "C" fn fowlcredenza_next_proof(
+    witness: &[u8],
+    offset: usize,
+    least: u32,
+    out: &mut [u8],
+) -> u32
+    ensures { λ r. ⌜ r ≡ stepNumber (proofStep (now (witness .entry)) (record { offset = offset; least = least })) ⌝ }
+    ensures { λ _. ⌜ now (out .exit) ≡ withWords (proofStepWords (proofStep (now (witness .entry)) (record { offset = offset; least = least }))) (now (out .entry)) ⌝ }
+{
+    match next_proof(witness, ProofCursor { offset, least }) {
+        ProofStep::Refused(error) => error_number(error) as u32,
+        ProofStep::Next(proof, next) => {
+            let words = [
+                proof.slot as u64,
+                proof.start as u64,
+                proof.len as u64,
+                next.offset as u64,
+                next.least as u64,
+            ];
+            store_words(&words, out);
+            0
+        }
+    }
+}
+
+// Stores operation, proof count and sequence of a witness lock whose every proof passes.
+#[no_mangle]
+pub extern "C" fn fowlcredenza_validate_witness(witness: &[u8], out: &mut [u8]) -> u32
+    ensures { λ r. ⌜ r ≡ witnessNumber (readWitness (now (witness .entry))) ⌝ }
+    ensures { λ _. ⌜ now (out .exit) ≡ withWords (witnessWords (readWitness (now (witness .entry)))) (now (out .entry)) ⌝ }
+{
+    match validate_witness(witness) {
+        WitnessAnswer::Refused(error) => error_number(error) as u32,
+        WitnessAnswer::Witness(header) => {
+            let words = [
+                header.operation as u64,
+                header.proof_count as u64,
+                header.state_sequence,
+            ];
+            store_words(&words, out);
+            0
+        }
+    }
+}
+
+// Writes a witness lock. Proof i has the slot slots[i] and the next lengths[i] bytes of `bytes`.
+#[no_mangle]
+pub extern "C" fn fowlcredenza_encode_witness(
+    operation: u8,
+    sequence: u64,
+    slots: &[u16],
+    lengths: &[u32],
+    bytes: &[u8],
+    out: &mut [u8],
+    len: &mut u64,
+) -> u32
+    ensures { λ r. ⌜ r ≡ writeNumber (witnessWritten operation (now (slots .entry)) (now (lengths .entry)) (now (bytes .entry)) (now (out .entry))) ⌝ }
+    ensures { λ _. ⌜ now (out .exit) ≡ witnessStored operation sequence (now (slots .entry)) (now (lengths .entry)) (now (bytes .entry)) (now (out .entry)) ⌝ }
+    ensures { λ _. ⌜ now (len .exit) ≡ lengthAfter (witnessWritten operation (now (slots .entry)) (now (lengths .entry)) (now (bytes .entry)) (now (out .entry))) (now (len .entry)) ⌝ }
+{
+    written(
+        encode_witness(operation, sequence, slots, lengths, bytes, out),
+        len,
+    )
+}

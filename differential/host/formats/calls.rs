@@ -1,0 +1,163 @@
+//! A call of the port, and what the original's answer makes of the same buffers.
+
+use crate::hex::Hex;
+use crate::prng::Prng;
+use crate::report::Report;
+use ckb_account_protocol::ProtocolError;
+
+/// Bytes behind the buffer that is lent, to see that they stay.
+const BEHIND: usize = 16;
+/// Room for the words of any reader, and for one more.
+const WORDS: usize = 8 * 14;
+/// Results below this length are short.
+const SHORT_RESULT: usize = 150;
+/// The number where the buffer is too short.
+const TOO_SHORT: u32 = 5;
+/// The number where lent slices disagree.
+pub const DISAGREE: u32 = 7;
+
+/// What an original reader says in numbers, a place counting from the start of the input; or its refusal.
+pub type Words = Result<Vec<u64>, ProtocolError>;
+
+/// What can be seen of a call: the number, the length that a writer stored, and the buffer with the bytes behind it.
+#[derive(Debug, Eq, PartialEq)]
+struct Seen {
+    number: u32,
+    len: u64,
+    buffer: Hex,
+}
+
+pub struct Calls<'a> {
+    pub report: &'a mut Report,
+    pub prng: Prng,
+}
+
+/// The place of a part within the bytes it was taken from.
+pub fn place(whole: &[u8], part: &[u8]) -> u64 {
+    (part.as_ptr() as usize - whole.as_ptr() as usize) as u64
+}
+
+impl Calls<'_> {
+    /// Compares one call, of which `seen` runs the port over a copy of the buffer and `expected` says what is right.
+    fn compare(
+        &mut self,
+        name: &'static str,
+        size: usize,
+        input: impl FnOnce() -> String,
+        seen: Seen,
+        expected: Seen,
+    ) {
+        self.report.answered(name, seen.number);
+        self.report.compare(name, size, input, &seen, &expected);
+    }
+
+    /// Compares a reader: it stores the words of the original's answer, as far as there is room, or nothing.
+    pub fn read(
+        &mut self,
+        name: &'static str,
+        bytes: &[u8],
+        expected: Words,
+        reader: impl FnOnce(&[u8], &mut [u8]) -> u32,
+    ) {
+        let room = match self.prng.up_to(9) {
+            0 => self.prng.up_to(WORDS),
+            _ => WORDS,
+        };
+        let before = self.prng.bytes(room + BEHIND);
+        let mut buffer = before.clone();
+        let number = reader(bytes, &mut buffer[..room]);
+        let seen = Seen {
+            number,
+            len: 0,
+            buffer: Hex(buffer),
+        };
+        let input = || format!("out {room}, {:?}", Hex(bytes.to_vec()));
+        let expected = after_read(expected, before, room);
+        self.compare(name, bytes.len(), input, seen, expected);
+    }
+
+    /// Compares a writer in a buffer of `room` bytes with the bytes that the original gives, or with a refusal.
+    fn write_into(
+        &mut self,
+        name: &'static str,
+        room: usize,
+        expected: &Result<Vec<u8>, u32>,
+        input: impl Fn() -> String,
+        writer: impl FnOnce(&mut [u8], &mut u64) -> u32,
+    ) {
+        let before = self.prng.bytes(room + BEHIND);
+        let len = self.prng.next();
+        let mut seen = Seen {
+            number: 0,
+            len,
+            buffer: Hex(before.clone()),
+        };
+        seen.number = writer(&mut seen.buffer.0[..room], &mut seen.len);
+        let expected = after_write(expected, before, room, len);
+        let input = || format!("out {room}, {}", input());
+        self.compare(name, room, input, seen, expected);
+    }
+
+    /// The same in buffers of several lengths about that of the result, and of every such length for some short results.
+    pub fn write(
+        &mut self,
+        name: &'static str,
+        expected: &Result<Vec<u8>, u32>,
+        input: impl Fn() -> String,
+        writer: impl Fn(&mut [u8], &mut u64) -> u32,
+    ) {
+        let rooms = match expected {
+            Ok(bytes) if bytes.len() < SHORT_RESULT && self.prng.up_to(50) == 0 => {
+                (0..bytes.len() + BEHIND).collect()
+            }
+            Ok(bytes) => vec![
+                0,
+                self.prng.up_to(bytes.len()),
+                bytes.len() - 1,
+                bytes.len(),
+                bytes.len() + 1 + self.prng.up_to(40),
+            ],
+            Err(_) => vec![0, self.prng.up_to(300)],
+        };
+        for room in rooms {
+            self.write_into(name, room, expected, &input, &writer);
+        }
+    }
+}
+
+/// The original's refusal as its number.
+pub fn numbered<T>(answer: Result<T, ProtocolError>) -> Result<T, u32> {
+    answer.map_err(|error| error as u32)
+}
+
+fn after_read(answer: Words, mut buffer: Vec<u8>, room: usize) -> Seen {
+    let (number, words) = match answer {
+        Ok(words) => (0, words),
+        Err(error) => (error as u32, Vec::new()),
+    };
+    let bytes = words.into_iter().flat_map(u64::to_le_bytes);
+    for (place, byte) in buffer[..room].iter_mut().zip(bytes) {
+        *place = byte;
+    }
+    Seen {
+        number,
+        len: 0,
+        buffer: Hex(buffer),
+    }
+}
+
+fn after_write(answer: &Result<Vec<u8>, u32>, mut buffer: Vec<u8>, room: usize, len: u64) -> Seen {
+    let (number, len) = match answer {
+        Err(number) => (*number, len),
+        Ok(bytes) if room < bytes.len() => (TOO_SHORT, len),
+        Ok(bytes) => {
+            buffer[..bytes.len()].copy_from_slice(bytes);
+            (0, bytes.len() as u64)
+        }
+    };
+    Seen {
+        number,
+        len,
+        buffer: Hex(buffer),
+    }
+}

@@ -1,0 +1,50 @@
+//! Every reader and writer of the formats beside the original.
+
+mod args;
+mod calls;
+mod changes;
+mod proof;
+mod request;
+mod state;
+mod state_walk;
+mod states;
+mod witness;
+mod witness_walk;
+mod witnesses;
+
+use crate::prng::Prng;
+use crate::report::Report;
+use calls::Calls;
+
+/// The numbers that each function can answer; a run meets all of them.
+const ANSWERS: [(&str, &[u32]); 16] = [
+    ("is_supported_algorithm", &[0, 1]),
+    ("capability_for_operation", &[0, 1, 2, 4]),
+    ("parse_args", &[0, 20, 32]),
+    ("account_lock_args", &[0, 5, 7]),
+    ("parse_state_header", &[0, 21, 32]),
+    ("validate_state", &[0, 21, 30, 32, 33, 38]),
+    ("next_entry", &[0, 21, 30, 33]),
+    ("encode_state", &[0, 5, 7, 21, 30, 33, 38]),
+    ("parse_witness_header", &[0, 22]),
+    ("validate_witness", &[0, 22]),
+    ("next_proof", &[0, 22]),
+    ("encode_witness", &[0, 5, 7, 22, 37]),
+    ("parse_verifier_request", &[0, 32, 35, 37]),
+    ("encode_verifier_request", &[0, 5, 7, 35, 37]),
+    ("parse_public_key_proof", &[0, 36]),
+    ("encode_public_key_proof", &[0, 5, 36, 39]),
+];
+
+pub fn run(report: &mut Report) {
+    let prng = Prng::new(2);
+    let mut calls = Calls { report, prng };
+    args::run(&mut calls);
+    state::run(&mut calls);
+    witness::run(&mut calls);
+    request::run(&mut calls);
+    proof::run(&mut calls);
+    for (name, answers) in ANSWERS {
+        report.expect_answers(name, answers);
+    }
+}
