@@ -34,7 +34,7 @@ fn print_row(name: &str, original: &mut dyn FnMut(), port: &mut dyn FnMut()) {
     }
     let [rust, rattle] = best.map(|time| time.as_secs_f64() * 1e9);
     let ratio = rust / rattle;
-    println!("{name:44} {rust:8.0} {rattle:8.0} {ratio:12.2}");
+    println!("{name:48} {rust:8.0} {rattle:8.0} {ratio:12.2}");
 }
 
 fn state(entries: u16, aux_len: usize) -> AccountState {
@@ -157,7 +157,7 @@ pub fn run() {
     println!();
     println!("Readers and writers, nanoseconds for a call, best of {ROUNDS} times {CALLS} in turn. The original's writers");
     println!("allocate what they return; the port's write into a buffer. A ratio is of speeds: above 1 the port is faster.");
-    println!("                                                 Rust   Rattle  Rattle/Rust");
+    println!("                                                     Rust   Rattle  Rattle/Rust");
     let (one, most) = (state(1, AUX), state(16, SHORTER_AUX));
     validate("validate_state, 1 entry, aux 1,313", &one);
     validate("validate_state, 16 entries, aux 942", &most);

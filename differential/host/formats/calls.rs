@@ -38,7 +38,7 @@ pub fn place(whole: &[u8], part: &[u8]) -> u64 {
 }
 
 impl Calls<'_> {
-    /// Compares one call, of which `seen` runs the port over a copy of the buffer and `expected` says what is right.
+    /// Counts the number that a call gave, and compares what was seen of the call.
     fn compare(
         &mut self,
         name: &'static str,

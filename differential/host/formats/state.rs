@@ -112,7 +112,7 @@ fn write_disagreeing(calls: &mut Calls, state: &AccountState) {
     write_slices(calls, state, &longer_aux, &bytes, &expected);
 }
 
-/// A state at a cursor that its walk does not reach.
+/// A cursor that the walk may not reach.
 fn random_cursor(prng: &mut Prng, state: &[u8]) -> (usize, u32) {
     let offset = match prng.up_to(3) {
         0 => prng.up_to(state.len() + 2),

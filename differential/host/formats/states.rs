@@ -55,7 +55,8 @@ fn slots(prng: &mut Prng, count: usize) -> Vec<u16> {
     slots
 }
 
-/// A valid state whose entries have aux of these lengths. The first holds every capability, so that each threshold can be met.
+/// A valid state whose entries have aux of these lengths. The first may spend, rotate and recover, so that
+/// each threshold can be met.
 pub fn with_aux(prng: &mut Prng, aux_lens: &[usize]) -> AccountState {
     let slots = slots(prng, aux_lens.len());
     let entries = slots.into_iter().zip(aux_lens);

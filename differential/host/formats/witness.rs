@@ -118,7 +118,7 @@ fn write_disagreeing(calls: &mut Calls, witness: &Witness) {
     }
 }
 
-/// A cursor that the walk does not reach.
+/// A cursor that the walk may not reach.
 fn random_cursor(prng: &mut Prng, witness: &[u8]) -> (usize, u32) {
     let offset = match prng.up_to(3) {
         0 => prng.up_to(witness.len() + 2),
