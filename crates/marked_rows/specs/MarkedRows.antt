@@ -3,7 +3,14 @@ use Prim.Native.Nat.{ℕ}
 use mathlib.Core.Path.{_≡_, refl}
 use mathlib.Core.List.{List, [], _∷_, _++_}
 use lib.ListN.{replicate}
-use Rattle.octets.specs.Le.{fromLe, numberAt}
+use Rattle.octets.specs.Le.{toLe, fromLe, numberAt}
+use Rattle.octets.specs.Lists.{joined}
+use Rattle.octets.specs.Table.{numbers}
+use Rattle.protocol.specs.Write.{writeFault, writeAnswer, afterWrite}
+use Rattle.protocol.specs.declared.check.WriteAnswer.the-variants.{Written}
+use Rattle.molecule.specs.Molecule.{bytesVector, offsetsFrom, headSize, tableHead, tableBytes}
+use Rattle.molecule.specs.Table3.{tableRows, between, field2, field3}
+use Rattle.molecule.specs.Canonical.{canonicalOf, canonicalRoom, canonicalWritten, canonicalStored}
 use Rattle.protocol.specs.Rows.{_▷_, decide}
 use Rattle.protocol.specs.Policy.{isSupportedAlgorithm, isOperation, hasCapability}
 use Rattle.protocol.specs.Args.{argsRows, argsFault, argsAnswer, readArgs, argsNumber}
@@ -33,6 +40,14 @@ smallestState version flags spend since =
 unfoldable pub emptyWitness : ℕ → List ℕ
 emptyWitness operation = (67 ∷ 75 ∷ 65 ∷ 87 ∷ 1 ∷ operation ∷ 0 ∷ 0 ∷ []) ++ replicate 8 0
 
+-- a witness whose lock is the byte aa, and one whose lock is empty; no other field
+unfoldable pub lockOfOne : List ℕ
+lockOfOne =
+    0x15 ∷ 0 ∷ 0 ∷ 0 ∷ 0x10 ∷ 0 ∷ 0 ∷ 0 ∷ 0x15 ∷ 0 ∷ 0 ∷ 0 ∷ 0x15 ∷ 0 ∷ 0 ∷ 0 ∷ 0x01 ∷ 0 ∷ 0 ∷ 0 ∷ 0xaa ∷ []
+
+unfoldable pub lockOfNone : List ℕ
+lockOfNone = 0x14 ∷ 0 ∷ 0 ∷ 0 ∷ 0x10 ∷ 0 ∷ 0 ∷ 0 ∷ 0x14 ∷ 0 ∷ 0 ∷ 0 ∷ 0x14 ∷ 0 ∷ 0 ∷ 0 ∷ 0 ∷ 0 ∷ 0 ∷ 0 ∷ []
+
 pub record MarkedRows : Type 0 where
   -- "args of 32 bytes 20, of 33 starting 0x02 32"
   pub args-of-32 : argsNumber (readArgs (replicate 32 1)) ≡ 20
@@ -52,9 +67,13 @@ pub record MarkedRows : Type 0 where
   -- "16-byte witness lock with count 0 read, operation 4 22"
   pub witness-empty : witnessNumber (readWitness (emptyWitness 1)) ≡ 0
   pub witness-operation : witnessNumber (readWitness (emptyWitness 4)) ≡ 22
+  -- "witness `15 00 00 00 10 00 00 00 15 00 00 00 15 00 00 00 01 00 00 00 aa` becomes
+  -- `14 00 00 00 10 00 00 00 14 00 00 00 14 00 00 00 00 00 00 00`"
+  pub canonical : canonicalWritten lockOfOne (replicate 20 0xff) ≡ Written 20
+  pub canonical-bytes : canonicalStored lockOfOne (replicate 20 0xff) ≡ lockOfNone
 
 pub marked-rows : MarkedRows
-unfolding fromLe numberAt _▷_ decide isSupportedAlgorithm isOperation hasCapability argsRows argsFault argsAnswer readArgs entryOf entriesOf shareOf weightOf headRows layoutRows fieldRows entryRows entriesRows behind recoveryRows endRows tailRows stateRows stateFault headerOf summaryOf stateAnswer readState headerRows headerAt proofRows proofsRows witnessRows witnessFault witnessAnswer readWitness keyProofRows proofFault placesAt proofAnswer readProof smallestState emptyWitness
+unfolding fromLe numberAt _▷_ decide isSupportedAlgorithm isOperation hasCapability argsRows argsFault argsAnswer readArgs entryOf entriesOf shareOf weightOf headRows layoutRows fieldRows entryRows entriesRows behind recoveryRows endRows tailRows stateRows stateFault headerOf summaryOf stateAnswer readState headerRows headerAt proofRows proofsRows witnessRows witnessFault witnessAnswer readWitness keyProofRows proofFault placesAt proofAnswer readProof smallestState emptyWitness toLe numbers joined bytesVector offsetsFrom headSize tableHead tableBytes tableRows between field2 field3 canonicalOf writeFault writeAnswer afterWrite canonicalRoom canonicalWritten canonicalStored lockOfOne lockOfNone
 marked-rows =
     record {
       args-of-32 = refl;
@@ -69,4 +88,6 @@ marked-rows =
       proof-short = refl;
       witness-empty = refl;
       witness-operation = refl;
+      canonical = refl;
+      canonical-bytes = refl;
     }

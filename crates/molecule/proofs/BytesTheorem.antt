@@ -1,0 +1,159 @@
+-- The bytes in a field, the lock of a witness and the args of a script: accepted exactly where every check passes, and then
+-- the field is the vector of the bytes at the place that the reader gives.
+-- Assumes nothing.
+use mathlib.Core.Path.{_≡_, refl, sym, ap, _∙_}
+use mathlib.Core.List.{List, [], _∷_, _++_}
+use mathlib.Core.Logic.{_↔_}
+use Prim.Native.Nat.{ℕ, _+_, _-_, _^_, _<_}
+use native.Mathlib.Omega.{arith}
+use lib.ListN.{length, take, drop, length-append}
+use lib.Seq.{take-add, take-all, drop-at, drop-drop}
+use Rattle.octets.specs.Le.{numberAt, Bytes}
+use Rattle.octets.proofs.LeLaws.{number-lt, length-to, bytes-take, bytes-drop}
+use Rattle.octets.proofs.Parts.{part-length}
+use Rattle.protocol.specs.Rows.{Row, decide, Hold, First}
+use Rattle.protocol.specs.Reading.{OneReading}
+use Rattle.protocol.specs.declared.error.ProtocolError.{ProtocolError}
+use Rattle.protocol.specs.declared.error.ProtocolError.the-variants.{InvalidArgs, InvalidWitness}
+use Rattle.protocol.specs.declared.check.Check.{Check}
+use Rattle.protocol.specs.declared.check.Check.the-variants.{Passed, Failed}
+use Rattle.protocol.proofs.Hold.{passed-hold, hold-passed, failed-first, first-failed, hold-split}
+use Rattle.molecule.specs.declared.bytes.Place.{Place}
+use Rattle.molecule.specs.declared.bytes.PlaceAnswer.the-variants.{At, Refused}
+use Rattle.molecule.specs.Molecule.{bytesVector, tableBytes}
+use Rattle.molecule.specs.Table3.{tableRows, between, field1, field2, field3}
+use Rattle.molecule.specs.Bytes.{bytesRows, placeOf, bytesAt, placeAnswer, readBytes, lockRows, readLock, argsRows, readScriptArgs}
+use Rattle.molecule.proofs.Form.{Passes, passes, length-field1}
+use Rattle.molecule.proofs.Inverse.{table-written, vector-length, vector-written, vector-read}
+
+answered : (k : Check) (g p : Place) → placeAnswer k g ≡ At p → (k ≡ Passed) × (p ≡ g)
+unfolding placeAnswer
+answered Passed g p h = (refl, cc)
+answered (Failed e) g p h = absurd (let z : _≡_ {A = ℕ} 0 1 = cc in omega arith)
+
+refused : (k : Check) (g : Place) (e : ProtocolError) → placeAnswer k g ≡ Refused e → k ≡ Failed e
+unfolding placeAnswer
+refused Passed g e h = absurd (let z : _≡_ {A = ℕ} 0 1 = cc in omega arith)
+refused (Failed d) g e h = cc
+
+-- What holds of each of the three readers: its rows, and the place that it gives where they pass.
+module _ (rows : List Row) (g : Place) where
+  pub place-accepts : (placeAnswer (decide Passed rows) g ≡ At g) ↔ Hold rows
+  unfolding placeAnswer
+  place-accepts = (λ h. passed-hold rows (answered (decide Passed rows) g g h .0), λ h. rw (hold-passed rows h))
+
+  pub place-refuses : (e : ProtocolError) → (placeAnswer (decide Passed rows) g ≡ Refused e) ↔ First rows e
+  unfolding placeAnswer
+  place-refuses e = (λ h. failed-first rows e (refused (decide Passed rows) g e h), λ f. rw (first-failed rows e f))
+
+  place-given : (p : Place) → placeAnswer (decide Passed rows) g ≡ At p → Hold rows × (p ≡ g)
+  place-given p h = let z = answered (decide Passed rows) g p h in (passed-hold rows (z .0), z .1)
+
+-- accepted exactly where every check passes, refused exactly with the first that fails
+pub bytes-accepts : (field : List ℕ) → (readBytes field ≡ At (placeOf 0 field)) ↔ Hold (bytesRows InvalidWitness field)
+unfolding readBytes
+bytes-accepts field = place-accepts (bytesRows InvalidWitness field) (placeOf 0 field)
+
+pub bytes-refuses : (field : List ℕ) (e : ProtocolError) → (readBytes field ≡ Refused e) ↔ First (bytesRows InvalidWitness field) e
+unfolding readBytes
+bytes-refuses field e = place-refuses (bytesRows InvalidWitness field) (placeOf 0 field) e
+
+pub lock-accepts : (s : List ℕ) → (readLock s ≡ At (placeOf 16 (field1 s))) ↔ Hold (lockRows s)
+unfolding readLock
+lock-accepts s = place-accepts (lockRows s) (placeOf 16 (field1 s))
+
+pub lock-refuses : (s : List ℕ) (e : ProtocolError) → (readLock s ≡ Refused e) ↔ First (lockRows s) e
+unfolding readLock
+lock-refuses s e = place-refuses (lockRows s) (placeOf 16 (field1 s)) e
+
+pub args-accepts : (s : List ℕ) → (readScriptArgs s ≡ At (placeOf (numberAt s 12 4) (field3 s))) ↔ Hold (argsRows s)
+unfolding readScriptArgs
+args-accepts s = place-accepts (argsRows s) (placeOf (numberAt s 12 4) (field3 s))
+
+pub args-refuses : (s : List ℕ) (e : ProtocolError) → (readScriptArgs s ≡ Refused e) ↔ First (argsRows s) e
+unfolding readScriptArgs
+args-refuses s e = place-refuses (argsRows s) (placeOf (numberAt s 12 4) (field3 s)) e
+
+length-vector : (q : List ℕ) → length (bytesVector q) ≡ 4 + length q
+unfolding bytesVector
+length-vector q = simp (length-append, length-to)
+
+-- the one reading of a field that passes
+vector-one : (e : ProtocolError) (v : List ℕ) → Bytes v → Hold (bytesRows e v) → OneReading (λ (items : List ℕ). Unit {0}) bytesVector v (take (numberAt v 0 4) (drop 4 v))
+vector-one e v b h =
+    record {
+      typed = tt;
+      written = vector-written e v h b;
+      unique = λ q t w. sym (vector-read q (small q w)) ∙ ap (λ (u : List ℕ). take (numberAt u 0 4) (drop 4 u)) w;
+    }
+  where
+    small : (q : List ℕ) → bytesVector q ≡ v → length q < 2 ^ 32
+    small q w =
+        let n : 4 + numberAt v 0 4 ≡ length v = vector-length e v h in
+        let l : numberAt v 0 4 < 2 ^ 32 = number-lt v 0 4 b in
+        let k : length (bytesVector q) ≡ 4 + length q = length-vector q in
+        let m : length (bytesVector q) ≡ length v = ap length w in
+        omega arith
+
+-- The bytes in a field: exactly one list of bytes has the field as its vector, that at the place.
+pub bytes-theorem : (field : List ℕ) (p : Place) → Bytes field → readBytes field ≡ At p → OneReading (λ (items : List ℕ). Unit {0}) bytesVector field (bytesAt field p)
+unfolding readBytes placeOf bytesAt
+bytes-theorem field p b h =
+    let g = place-given (bytesRows InvalidWitness field) (placeOf 0 field) p h in
+    rw (g .1) (vector-one InvalidWitness field b (g .0))
+
+field-split : (s : List ℕ) (n : ℕ) → 4 + n ≡ numberAt s 8 4 - 16 → field1 s ≡ take 4 (drop 16 s) ++ take n (drop 20 s)
+unfolding field1 between
+field-split s n e = rw (← e) (take-add 4 n (drop 16 s) ∙ rw (drop-drop 4 16 s))
+
+field1-bytes : (s : List ℕ) → Bytes s → Bytes (field1 s)
+unfolding field1 between
+field1-bytes s b = bytes-take (numberAt s 8 4 - 16) (drop 16 s) (bytes-drop 16 s b)
+
+field3-bytes : (s : List ℕ) → Bytes s → Bytes (field3 s)
+unfolding field3
+field3-bytes s b = bytes-drop (numberAt s 12 4) s b
+
+-- the bytes of field 1, in the witness
+lock-bytes : (s : List ℕ) → Passes s → Hold (bytesRows InvalidWitness (field1 s))
+    → take (numberAt (field1 s) 0 4) (drop 4 (field1 s)) ≡ take (numberAt (field1 s) 0 4) (drop 20 s)
+lock-bytes s z h =
+    let n : ℕ = numberAt (field1 s) 0 4 in
+    let e : 4 + n ≡ length (field1 s) = vector-length InvalidWitness (field1 s) h in
+    let l : length (field1 s) ≡ numberAt s 8 4 - 16 = length-field1 s z in
+    let k : 4 + n ≡ numberAt s 8 4 - 16 = omega arith in
+    let f : field1 s ≡ take 4 (drop 16 s) ++ take n (drop 20 s) = field-split s n k in
+    let d : drop 4 (field1 s) ≡ take n (drop 20 s) =
+    ap (drop 4) f ∙ drop-at (take 4 (drop 16 s)) (take n (drop 20 s)) 4 (part-length s 16 4 (omega arith)) in
+    let t : length (take n (drop 20 s)) ≡ n = part-length s 20 n (omega arith) in
+    rw d (take-all n (take n (drop 20 s)) (omega arith))
+
+-- and those of field 3, in the script
+args-bytes : (s : List ℕ) → drop 4 (field3 s) ≡ drop (numberAt s 12 4 + 4) s
+unfolding field3
+args-bytes s = drop-drop 4 (numberAt s 12 4) s
+
+-- The lock of a witness: field 1 is the vector of just those bytes that stand at the place, and the witness is the table of it and the other two fields.
+pub lock-theorem : (s : List ℕ) (p : Place) → Bytes s → readLock s ≡ At p
+    → OneReading (λ (items : List ℕ). Unit {0}) bytesVector (field1 s) (bytesAt s p) × (tableBytes (bytesVector (bytesAt s p) ∷ field2 s ∷ field3 s ∷ []) ≡ s)
+unfolding readLock lockRows placeOf bytesAt
+lock-theorem s p b h =
+    let g = place-given (lockRows s) (placeOf 16 (field1 s)) p h in
+    let q = hold-split (tableRows InvalidWitness s) _ (g .0) in
+    let z : Passes s = passes InvalidWitness s (q .0) in
+    let v : Hold (bytesRows InvalidWitness (field1 s)) = q .1 .1 in
+    let o : OneReading (λ (items : List ℕ). Unit {0}) bytesVector (field1 s) (take (numberAt (field1 s) 0 4) (drop 20 s)) =
+    rw (lock-bytes s z v) at (vector-one InvalidWitness (field1 s) (field1-bytes s b) v) in
+    rw (g .1) (o, rw (o .written) (table-written s b z))
+
+-- The args of a script, likewise of field 3.
+pub args-theorem : (s : List ℕ) (p : Place) → Bytes s → readScriptArgs s ≡ At p
+    → OneReading (λ (items : List ℕ). Unit {0}) bytesVector (field3 s) (bytesAt s p) × (tableBytes (field1 s ∷ field2 s ∷ bytesVector (bytesAt s p) ∷ []) ≡ s)
+unfolding readScriptArgs argsRows placeOf bytesAt
+args-theorem s p b h =
+    let g = place-given (argsRows s) (placeOf (numberAt s 12 4) (field3 s)) p h in
+    let q = hold-split (tableRows InvalidArgs s) (bytesRows InvalidArgs (field3 s)) (g .0) in
+    let z : Passes s = passes InvalidArgs s (q .0) in
+    let o : OneReading (λ (items : List ℕ). Unit {0}) bytesVector (field3 s) (take (numberAt (field3 s) 0 4) (drop (numberAt s 12 4 + 4) s)) =
+    rw (args-bytes s) at (vector-one InvalidArgs (field3 s) (field3-bytes s b) (q .1)) in
+    rw (g .1) (o, rw (o .written) (table-written s b z))

@@ -1,0 +1,106 @@
+-- Tables of three fields: their written form, what the loose reader's rows say, and the fields of one that passes them.
+-- Assumes nothing.
+use mathlib.Core.Path.{_≡_, refl}
+use mathlib.Core.List.{List, [], _∷_, _++_, append-nil}
+use Prim.Native.Nat.{ℕ, _+_, _-_, _≤_}
+use native.Mathlib.Omega.{arith}
+use borrow.Author.Tests.{leb-true, eqb-true, le-leb, eq-eqb}
+use lib.ListN.{length, length-append, length-drop}
+use Rattle.octets.specs.Le.{numberAt}
+use Rattle.octets.specs.Lists.{joined}
+use Rattle.octets.specs.Table.{Number, numbers}
+use Rattle.octets.proofs.TableLaws.{length-numbers}
+use Rattle.octets.proofs.Parts.{part-length}
+use Rattle.protocol.specs.Rows.{decide, Hold}
+use Rattle.protocol.specs.declared.error.ProtocolError.{ProtocolError}
+use Rattle.protocol.specs.declared.error.ProtocolError.the-variants.{InvalidWitness}
+use Rattle.protocol.specs.declared.check.Check.{Check}
+use Rattle.protocol.specs.declared.check.Check.the-variants.{Passed, Failed}
+use Rattle.protocol.proofs.Hold.{passed-hold}
+use Rattle.molecule.specs.declared.table.TableFields.{TableFields}
+use Rattle.molecule.specs.declared.table.TableAnswer.the-variants.{Fields}
+use Rattle.molecule.specs.Molecule.{offsetsFrom, headSize, tableHead, tableBytes}
+use Rattle.molecule.specs.Table3.{tableRows, fieldsAt, tableAnswer, readTable, between, field1, field2, field3}
+
+-- the numbers before the fields
+abbrev pub head3 : ℕ → ℕ → ℕ → List Number
+head3 total second third =
+    record { width = 4; value = total }
+    ∷ record { width = 4; value = 16 }
+    ∷ record { width = 4; value = second }
+    ∷ record { width = 4; value = third }
+    ∷ []
+
+module _ (a b c : List ℕ) where
+  pub three-layout : tableBytes (a ∷ b ∷ c ∷ [])
+      ≡ numbers (head3 (16 + length a + length b + length c) (16 + length a) (16 + length a + length b)) ++ (a ++ (b ++ c))
+  unfolding tableBytes tableHead headSize offsetsFrom joined
+  three-layout =
+      let e : 16 + length (a ++ (b ++ c)) ≡ 16 + length a + length b + length c = simp length-append (omega arith) in
+      rw (append-nil, e)
+
+  pub length-three : length (tableBytes (a ∷ b ∷ c ∷ [])) ≡ 16 + length a + length b + length c
+  length-three =
+      let h = head3 (16 + length a + length b + length c) (16 + length a) (16 + length a + length b) in
+      let n : length (numbers h) ≡ 16 = length-numbers h in
+      rw (three-layout) (simp (length-append, n) (omega arith))
+
+-- what the rows say of a table that passes them
+pub record Passes (s : List ℕ) : Type 0 where
+  pub header : 16 ≤ length s
+  pub total : numberAt s 0 4 ≡ length s
+  pub first : numberAt s 4 4 ≡ 16
+  pub second : 16 ≤ numberAt s 8 4
+  pub third : numberAt s 8 4 ≤ numberAt s 12 4
+  pub end : numberAt s 12 4 ≤ length s
+
+pub passes : (e : ProtocolError) (s : List ℕ) → Hold (tableRows e s) → Passes s
+unfolding tableRows
+passes e s h =
+    record {
+      header = leb-true _ _ (h .0);
+      total = eqb-true _ _ (h .1 .0);
+      first = eqb-true _ _ (h .1 .1 .0);
+      second = leb-true _ _ (h .1 .1 .1 .0);
+      third = leb-true _ _ (h .1 .1 .1 .1 .0);
+      end = leb-true _ _ (h .1 .1 .1 .1 .1 .0);
+    }
+
+pub passes-hold : (e : ProtocolError) (s : List ℕ) → Passes s → Hold (tableRows e s)
+unfolding tableRows
+passes-hold e s z =
+    (le-leb _ _ (z .header), (eq-eqb _ _ (z .total), (eq-eqb _ _ (z .first), (le-leb _ _ (z .second), (le-leb _ _ (z .third), (le-leb _ _ (z .end), tt))))))
+
+-- the fields of a table that passes
+module _ (s : List ℕ) (z : Passes s) where
+  pub length-field1 : length (field1 s) ≡ numberAt s 8 4 - 16
+  unfolding field1 between
+  length-field1 = part-length s 16 (numberAt s 8 4 - 16) (omega arith)
+
+  pub length-field2 : length (field2 s) ≡ numberAt s 12 4 - numberAt s 8 4
+  unfolding field2 between
+  length-field2 = part-length s (numberAt s 8 4) (numberAt s 12 4 - numberAt s 8 4) (omega arith)
+
+  pub length-field3 : length (field3 s) ≡ length s - numberAt s 12 4
+  unfolding field3
+  length-field3 = length-drop (numberAt s 12 4) s
+
+-- what an accepting answer says
+answered : (k : Check) (g f : TableFields) → tableAnswer k g ≡ Fields f → (k ≡ Passed) × (f ≡ g)
+unfolding tableAnswer
+answered Passed g f h = (refl, cc)
+answered (Failed e) g f h = absurd (let z : _≡_ {A = ℕ} 0 1 = cc in omega arith)
+
+pub table-given : (s : List ℕ) (f : TableFields) → readTable s ≡ Fields f → Hold (tableRows InvalidWitness s) × (f ≡ fieldsAt s)
+unfolding readTable
+table-given s f h =
+    let z = answered (decide Passed (tableRows InvalidWitness s)) (fieldsAt s) f h in
+    (passed-hold (tableRows InvalidWitness s) (z .0), z .1)
+
+-- the offsets of the answer don't fall or pass the length
+pub given-order : (s : List ℕ) (f : TableFields) → readTable s ≡ Fields f → (f .second ≤ f .third) × (f .third ≤ length s)
+unfolding fieldsAt
+given-order s f h =
+    let g = table-given s f h in
+    let z = passes InvalidWitness s (g .0) in
+    rw (g .1) (z .third, z .end)

@@ -1,0 +1,71 @@
+-- Tables of three fields: accepted exactly where every check passes, and then exactly one reading has them as its written
+-- form, which is the one that the reader gives; and what is written so is accepted. Strict Molecule differs only inside
+-- the fields, which the reader does not open.
+-- Assumes nothing.
+use mathlib.Core.Path.{_≡_, sym, ap, _∙_}
+use mathlib.Core.List.{List, [], _∷_}
+use mathlib.Core.Logic.{_↔_}
+use Prim.Native.Nat.{ℕ, _+_, _^_, _<_}
+use native.Mathlib.Omega.{arith}
+use lib.ListN.{length}
+use Rattle.octets.specs.Le.{Bytes}
+use Rattle.octets.proofs.LeLaws.{number-lt}
+use Rattle.protocol.specs.Rows.{decide, Hold, First}
+use Rattle.protocol.specs.Reading.{OneReading}
+use Rattle.protocol.specs.declared.error.ProtocolError.{ProtocolError}
+use Rattle.protocol.specs.declared.error.ProtocolError.the-variants.{InvalidWitness}
+use Rattle.protocol.specs.declared.check.Check.{Check}
+use Rattle.protocol.specs.declared.check.Check.the-variants.{Passed, Failed}
+use Rattle.protocol.proofs.Hold.{hold-passed, failed-first, first-failed}
+use Rattle.molecule.specs.declared.table.TableFields.{TableFields}
+use Rattle.molecule.specs.declared.table.TableAnswer.the-variants.{Fields, Refused}
+use Rattle.molecule.specs.Molecule.{tableBytes}
+use Rattle.molecule.specs.Table3.{tableRows, fieldsAt, tableAnswer, readTable, field1, field2, field3, Table3, table3Bytes, readingOf}
+use Rattle.molecule.proofs.Form.{length-three, Passes, passes, passes-hold, table-given}
+use Rattle.molecule.proofs.Inverse.{table-written, written-passes, field1-read, field2-read, field3-read}
+
+refused : (k : Check) (f : TableFields) (e : ProtocolError) → tableAnswer k f ≡ Refused e → k ≡ Failed e
+unfolding tableAnswer
+refused Passed f e h = absurd (let z : _≡_ {A = ℕ} 0 1 = cc in omega arith)
+refused (Failed d) f e h = cc
+
+-- accepted exactly where every check passes
+pub table-accepts : (s : List ℕ) → (readTable s ≡ Fields (fieldsAt s)) ↔ Hold (tableRows InvalidWitness s)
+unfolding readTable tableAnswer
+table-accepts s = (λ h. table-given s (fieldsAt s) h .0, λ h. rw (hold-passed (tableRows InvalidWitness s) h))
+
+-- refused exactly with the first check that fails
+pub table-refuses : (s : List ℕ) (e : ProtocolError) → (readTable s ≡ Refused e) ↔ First (tableRows InvalidWitness s) e
+unfolding readTable tableAnswer
+table-refuses s e =
+    (λ h. failed-first (tableRows InvalidWitness s) e (refused (decide Passed (tableRows InvalidWitness s)) (fieldsAt s) e h), λ f. rw (first-failed (tableRows InvalidWitness s) e f))
+
+-- a written table whose size fits its field is accepted, and read as what was written
+pub table-accepted : (e : ProtocolError) (r : Table3) → length (table3Bytes r) < 2 ^ 32
+    → Hold (tableRows e (table3Bytes r)) × (readingOf (table3Bytes r) (fieldsAt (table3Bytes r)) ≡ r)
+unfolding table3Bytes readingOf fieldsAt field1 field2 field3
+table-accepted e r h =
+    let a = r .first in
+    let b = r .second in
+    let c = r .third in
+    let n : length (tableBytes (a ∷ b ∷ c ∷ [])) ≡ 16 + length a + length b + length c = length-three a b c in
+    let small : 16 + length a + length b + length c < 2 ^ 32 = omega arith in
+    (passes-hold e (tableBytes (a ∷ b ∷ c ∷ [])) (written-passes a b c small), rw (field1-read a b c small, field2-read a b c small, field3-read a b c small))
+
+-- a table that passes has a size that fits
+fits-field : (s : List ℕ) → Bytes s → Passes s → length s < 2 ^ 32
+fits-field s b z = rw (z .total) at (number-lt s 0 4 b)
+
+-- The theorem: an accepted table has exactly one reading, that of the answer.
+pub table-theorem : (s : List ℕ) (f : TableFields) → Bytes s → readTable s ≡ Fields f → OneReading (λ (r : Table3). Unit {0}) table3Bytes s (readingOf s f)
+unfolding table3Bytes readingOf fieldsAt field1 field2 field3
+table-theorem s f b h =
+    let g = table-given s f h in
+    let z : Passes s = passes InvalidWitness s (g .0) in
+    let l : length s < 2 ^ 32 = fits-field s b z in
+    rw (g .1)
+    (record {
+      typed = tt;
+      written = table-written s b z;
+      unique = λ q t w. sym (table-accepted InvalidWitness q (rw w l) .1) ∙ ap (λ (v : List ℕ). readingOf v (fieldsAt v)) w;
+    })

@@ -1,0 +1,12 @@
+-- `molecule::table::fields_at` meets its contract: each field is its read. Assumes nothing.
+use Rattle.molecule.specs.Table3.{fieldsAt}
+use borrow.Author.Needs.{needs}
+use Rattle.molecule.proofs.table.fields_at.Statement.{statement}
+use Rattle.molecule.proofs.table.fields_at.Tie as tie
+
+returns : tie.Need-returns
+unfolding fieldsAt
+returns c = rw (c .u32-at2 .ensures, c .before .u32-at .ensures)
+
+pub fields-at-spec : {M : Type 1} → statement M
+fields-at-spec = tie.close (tie.spec (λ c κs. search needs) (λ c. search needs) (λ c κs. search needs) (λ c. search needs) returns)

@@ -1,0 +1,56 @@
+-- 01, main.rs: "A witness's lock is field 1 and a script's args are field 3, each a Bytes: u32 length, then exactly so many
+-- bytes. The other fields are not opened." The checks, and the places of the bytes.
+use Prim.Native.Nat.{ℕ, _+_}
+use mathlib.Core.List.{List, [], _∷_, _++_}
+use lib.Dec.{eqb, leb}
+use lib.ListN.{length, take, drop}
+use Rattle.octets.specs.Le.{numberAt}
+use Rattle.protocol.specs.Errors.{errorNumber}
+use Rattle.protocol.specs.Rows.{Row, row, decide}
+use Rattle.protocol.specs.declared.error.ProtocolError.{ProtocolError}
+use Rattle.protocol.specs.declared.error.ProtocolError.the-variants.{InvalidArgs, InvalidWitness}
+use Rattle.protocol.specs.declared.check.Check.{Check}
+use Rattle.protocol.specs.declared.check.Check.the-variants.{Passed, Failed}
+use Rattle.molecule.specs.declared.bytes.Place.{Place}
+use Rattle.molecule.specs.declared.bytes.PlaceAnswer.{PlaceAnswer}
+use Rattle.molecule.specs.declared.bytes.PlaceAnswer.the-variants.{At, Refused}
+use Rattle.molecule.specs.Table3.{tableRows, field1, field3}
+
+-- "u32 length, then exactly so many bytes"
+unfoldable pub bytesRows : ProtocolError → List ℕ → List Row
+bytesRows e field = row (leb 4 (length field)) e ∷ row (eqb (4 + numberAt field 0 4) (length field)) e ∷ []
+
+-- the place of the bytes of a field that begins at `at`
+unfoldable pub placeOf : ℕ → List ℕ → Place
+placeOf at field = record { start = at + 4; len = numberAt field 0 4 }
+
+-- the bytes of s at a place
+unfoldable pub bytesAt : List ℕ → Place → List ℕ
+bytesAt s p = take (p .len) (drop (p .start) s)
+
+unfoldable pub placeAnswer : Check → Place → PlaceAnswer
+placeAnswer Passed p = At p
+placeAnswer (Failed e) p = Refused e
+
+unfoldable pub readBytes : List ℕ → PlaceAnswer
+readBytes field = placeAnswer (decide Passed (bytesRows InvalidWitness field)) (placeOf 0 field)
+
+-- "A witness's lock is field 1"; 01, "Where each refusal is raised": "table, empty lock" are 22
+unfoldable pub lockRows : List ℕ → List Row
+lockRows s =
+    tableRows InvalidWitness s ++ (row (leb 1 (length (field1 s))) InvalidWitness ∷ bytesRows InvalidWitness (field1 s))
+
+unfoldable pub readLock : List ℕ → PlaceAnswer
+readLock s = placeAnswer (decide Passed (lockRows s)) (placeOf 16 (field1 s))
+
+-- "a script's args are field 3"; 01, "Where each refusal is raised": "script .., its table, args" are 20
+unfoldable pub argsRows : List ℕ → List Row
+argsRows s = tableRows InvalidArgs s ++ bytesRows InvalidArgs (field3 s)
+
+unfoldable pub readScriptArgs : List ℕ → PlaceAnswer
+readScriptArgs s = placeAnswer (decide Passed (argsRows s)) (placeOf (numberAt s 12 4) (field3 s))
+
+-- document 01's number of the answer
+abbrev pub placeNumber : PlaceAnswer → ℕ
+placeNumber (At p) = 0
+placeNumber (Refused e) = errorNumber e

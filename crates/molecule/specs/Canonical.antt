@@ -1,0 +1,49 @@
+-- 01, main.rs: "Canonical witness: the lock field becomes an empty Bytes, fields 2 and 3 are copied."
+use Prim.Native.Nat.{ℕ}
+use mathlib.Core.List.{List, [], _∷_}
+use lib.ListN.{length, take, replicate}
+use Rattle.octets.specs.Table.{Number}
+use Rattle.protocol.specs.Write.{writeFault, writeAnswer, afterWrite}
+use Rattle.protocol.specs.declared.error.ProtocolError.the-variants.{InvalidWitness}
+use Rattle.protocol.specs.declared.check.Check.{Check}
+use Rattle.protocol.specs.declared.check.Check.the-variants.{Passed, Failed}
+use Rattle.protocol.specs.declared.check.WriteAnswer.{WriteAnswer}
+use Rattle.molecule.specs.declared.table.TableAnswer.{TableAnswer}
+use Rattle.molecule.specs.declared.table.TableAnswer.the-variants.{Fields, Refused}
+use Rattle.molecule.specs.declared.canonical.CanonicalParts.{CanonicalParts}
+use Rattle.molecule.specs.Molecule.{bytesVector, tableBytes}
+use Rattle.molecule.specs.Table3.{tableRows, readTable, field2, field3}
+
+unfoldable pub canonicalOf : List ℕ → List ℕ
+canonicalOf s = tableBytes (bytesVector [] ∷ field2 s ∷ field3 s ∷ [])
+
+-- what the writer's checks find, for a buffer of `room` bytes: its table (22), then the room (5)
+unfoldable pub canonicalRoom : List ℕ → ℕ → Check
+canonicalRoom s room = writeFault (tableRows InvalidWitness s) (length (canonicalOf s)) room
+
+-- the writer's answer
+unfoldable pub canonicalWritten : List ℕ → List ℕ → WriteAnswer
+canonicalWritten s out = writeAnswer (canonicalRoom s (length out)) (length (canonicalOf s))
+
+-- and the buffer afterwards
+unfoldable pub canonicalStored : List ℕ → List ℕ → List ℕ
+canonicalStored s out = afterWrite (canonicalRoom s (length out)) (canonicalOf s) out
+
+-- The canonical witness without a copy: its first 20 bytes, and where in the witness the others begin, fields 2 and 3. Zeros
+-- where the table is refused.
+unfoldable pub partsOf : TableAnswer → List ℕ → CanonicalParts
+partsOf (Fields f) s = record { found = Passed; head = take 20 (canonicalOf s); rest = f .second }
+partsOf (Refused e) s = record { found = Failed e; head = replicate 20 0; rest = 0 }
+
+unfoldable pub canonicalParts : List ℕ → CanonicalParts
+canonicalParts s = partsOf (readTable s) s
+
+-- those 20 bytes: the total, the three offsets, and the length of the empty lock
+unfoldable pub canonicalHead : ℕ → ℕ → List Number
+canonicalHead total third =
+    record { width = 4; value = total }
+    ∷ record { width = 4; value = 16 }
+    ∷ record { width = 4; value = 20 }
+    ∷ record { width = 4; value = third }
+    ∷ record { width = 4; value = 0 }
+    ∷ []
