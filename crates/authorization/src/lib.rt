@@ -1,0 +1,10 @@
+// What the lock hashes: the digest that an authorization is over, and witnesses fed to the sighash.
+mod number; // number.rt
+mod digest; // digest.rt
+mod witness; // witness.rt
+
+pub use self::digest::AuthorizationDigest;
+pub use self::digest::authorization_digest;
+pub use self::witness::CanonicalFed;
+pub use self::witness::feed_canonical_witness;
+pub use self::witness::feed_witness;
