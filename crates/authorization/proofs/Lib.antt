@@ -1,1 +1,4 @@
 pub mod Feeding
+pub mod Pairs
+pub mod SighashTheorem
+pub mod Few

@@ -56,14 +56,12 @@ pub fn authorization_digest(
     ensures { λ r. ⌜ r ≡ authorizationOf operation account sequence (now (state .entry)) sighash ⌝ }
 {
     let found = Check::Passed.require(is_operation(operation), ProtocolError::InvalidOperation);
+    let none = [0u8; 32];
     match found {
-        Check::Failed(error) => {
-            let none = [0u8; 32];
-            AuthorizationDigest {
-                found: Check::Failed(error),
-                digest: none,
-            }
-        }
+        Check::Failed(error) => AuthorizationDigest {
+            found: Check::Failed(error),
+            digest: none,
+        },
         Check::Passed => {
             let digest = digest_of(operation, account, sequence, state, sighash);
             AuthorizationDigest {

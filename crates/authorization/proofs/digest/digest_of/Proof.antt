@@ -1,10 +1,11 @@
 -- `authorization::digest::digest_of` meets its contract: the parts fed one after another, 124 bytes in all. Assumes nothing.
-use mathlib.Core.Path.{_≡_}
-use Prim.Native.Nat.{_^_, _<_}
+use mathlib.Core.Path.{_≡_, ap, _∙_}
+use mathlib.Core.List.{List}
+use Prim.Native.Nat.{ℕ, _^_, _<_}
 use lib.ListN.{length, length-append}
 use native.Mathlib.Omega.{arith}
 use Rattle.octets.proofs.LeLaws.{length-to}
-use Rattle.blake2b.specs.State.{ckbParameters}
+use Rattle.blake2b.specs.State.{fedAll, ckbParameters}
 use Rattle.blake2b.proofs.Chain.{Fed, fed-more, fed-hash}
 use Rattle.authorization.specs.Digest.{ckbHash, authDomain, digestHead, digestInput, digestOf}
 use borrow.Author.Needs.{needs}
@@ -26,7 +27,7 @@ returns c =
     let n₃ : length (k .ckb-hash .result) ≡ 32 = search needs in
     let n₄ : length (ckbHash (a .state .now)) ≡ 32 = rw (k .ckb-hash .ensures) at n₃ in
     let small : length (digestInput (a .operation) (a .account) (a .sequence) (a .state .now) (a .t5)) < 2 ^ 64 = simp (length-append, length-to, n₁, n₂, n₄) (omega arith) in
-    fed-hash 32 (fed-more (a .t5) (fed-more (ckbHash (a .state .now)) w (rw (k .ckb-hash .ensures) at (v .update .ensures))) (u .update2 .ensures)) small (c .before .finish .ensures) (c .digest .ensures)
+    fed-hash 32 (fed-more (a .t5) (fed-more (ckbHash (a .state .now)) w (v .update .ensures ∙ ap (λ (l : List ℕ). fedAll (f .feed-head .result) l) (k .ckb-hash .ensures))) (u .update2 .ensures)) small (c .before .finish .ensures) (c .digest .ensures)
 
 pub digest-of-spec : {M : Type 1} → statement M
 digest-of-spec =
