@@ -1,3 +1,2 @@
-pub mod Words
 pub mod Readers
 pub mod Writers

@@ -1,27 +1,16 @@
 -- What the exported writers answer and leave where they do more than the writer they call.
 use Prim.Native.Nat.{ℕ}
 use mathlib.Core.List.{List, [], _∷_}
-use lib.Dec.{eqb}
 use lib.ListN.{length}
 use Rattle.protocol.specs.Args.{argsBytes}
-use Rattle.protocol.specs.Rows.{Row, row, decide}
 use Rattle.protocol.specs.Write.{writeFault, writeAnswer, afterWrite}
-use Rattle.protocol.specs.declared.error.ProtocolError.the-variants.{SlicesDisagree}
 use Rattle.protocol.specs.declared.check.Check.{Check}
 use Rattle.protocol.specs.declared.check.Check.the-variants.{Passed, Failed}
 use Rattle.protocol.specs.declared.check.WriteAnswer.{WriteAnswer}
-use Rattle.protocol.specs.declared.check.WriteAnswer.the-variants.{Written, Refused}
+use Rattle.protocol.specs.declared.check.WriteAnswer.the-variants.{Refused}
+use Rattle.export_answers.specs.Lent.{sizeRow, sizesFault}
 use Rattle.verifier_request.specs.Reading.{RequestReading}
 use Rattle.verifier_request.specs.Writer.{requestWritten, requestStored}
-
--- the length that a writer wrote; a refusal leaves what was there
-unfoldable pub lengthAfter : WriteAnswer → ℕ → ℕ
-lengthAfter (Written n) before = n
-lengthAfter (Refused e) before = before
-
--- 01: "slices that don't agree with each other are 7, before all else"; a slice that is lent for 32 bytes has 32
-abbrev pub sizeRow : List ℕ → Row
-sizeRow s = row (eqb (length s) 32) SlicesDisagree
 
 -- the args: 33 bytes
 unfoldable pub argsFault : List ℕ → ℕ → Check
@@ -34,9 +23,6 @@ unfoldable pub argsStored : List ℕ → List ℕ → List ℕ
 argsStored account out = afterWrite (argsFault account (length out)) (argsBytes account) out
 
 -- the request: digest and key are tested before the writer's own refusals
-unfoldable pub sizesFault : List ℕ → List ℕ → Check
-sizesFault digest key = decide Passed (sizeRow digest ∷ sizeRow key ∷ [])
-
 unfoldable pub answerAfter : Check → WriteAnswer → WriteAnswer
 answerAfter Passed answer = answer
 answerAfter (Failed e) answer = Refused e

@@ -1,7 +1,7 @@
 // The lock's args, algorithms and operations.
-use crate::words::array_32;
-use crate::words::store_words;
-use crate::words::written;
+use export_answers::array_32;
+use export_answers::store_words;
+use export_answers::written;
 use octets::store_bytes;
 use protocol::ACCOUNT_LOCK_ARGS_LEN;
 use protocol::AccountLockArgs;
@@ -19,9 +19,9 @@ ghost use mathlib.Core.Bool.{cond};
 ghost use Rattle.protocol.specs.Args.{argsNumber, readArgs};
 ghost use Rattle.protocol.specs.Policy.{isSupportedAlgorithm, capabilityFor};
 ghost use Rattle.protocol.specs.Write.{writeNumber};
-ghost use Rattle.exports.specs.Words.{withWords};
+ghost use Rattle.export_answers.specs.Words.{withWords, lengthAfter};
 ghost use Rattle.exports.specs.Readers.{argsWords, capabilityBit};
-ghost use Rattle.exports.specs.Writers.{lengthAfter, argsFault, argsWritten, argsStored};
+ghost use Rattle.exports.specs.Writers.{argsFault, argsWritten, argsStored};
 
 // Stores the version and the place of the account id.
 #[no_mangle]

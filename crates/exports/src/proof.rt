@@ -1,6 +1,6 @@
 // The public-key proof.
-use crate::words::store_words;
-use crate::words::written;
+use export_answers::store_words;
+use export_answers::written;
 use protocol::error_number;
 use public_key_proof::PublicKeyProofAnswer;
 use public_key_proof::encode_public_key_proof;
@@ -10,9 +10,8 @@ ghost use Rattle.protocol.specs.Write.{writeNumber};
 ghost use Rattle.public_key_proof.specs.Reader.{proofNumber, readProof};
 ghost use Rattle.public_key_proof.specs.Reading.{reading};
 ghost use Rattle.public_key_proof.specs.Writer.{proofWritten, proofStored};
-ghost use Rattle.exports.specs.Words.{withWords};
+ghost use Rattle.export_answers.specs.Words.{withWords, lengthAfter};
 ghost use Rattle.exports.specs.Readers.{proofWords};
-ghost use Rattle.exports.specs.Writers.{lengthAfter};
 
 // Stores place and length of the key and of the signature.
 #[no_mangle]

@@ -1,9 +1,9 @@
 // The verifier request.
-use crate::words::array_32;
-use crate::words::store_words;
-use crate::words::written;
+use export_answers::array_32;
+use export_answers::check_sizes;
+use export_answers::store_words;
+use export_answers::written;
 use protocol::Check;
-use protocol::ProtocolError;
 use protocol::WriteAnswer;
 use protocol::error_number;
 use verifier_request::RequestAnswer;
@@ -13,9 +13,9 @@ ghost use mathlib.Core.Path.{_≡_};
 ghost use Rattle.protocol.specs.Write.{writeNumber};
 ghost use Rattle.verifier_request.specs.Reader.{requestNumber, readRequest};
 ghost use Rattle.verifier_request.specs.Reading.{reading};
-ghost use Rattle.exports.specs.Words.{withWords};
+ghost use Rattle.export_answers.specs.Words.{withWords, lengthAfter};
 ghost use Rattle.exports.specs.Readers.{requestWords};
-ghost use Rattle.exports.specs.Writers.{lengthAfter, sizesFault, lentWritten, lentStored};
+ghost use Rattle.exports.specs.Writers.{lentWritten, lentStored};
 
 // Stores algorithm, slot, operation, profile, the places of digest and key, and place and length of the aux and of the proof.
 #[no_mangle]
@@ -42,16 +42,6 @@ pub extern "C" fn fowlcredenza_parse_verifier_request(request: &[u8], out: &mut 
             0
         }
     }
-}
-
-// Digest and key have 32 bytes.
-fn check_sizes(digest: &[u8], key: &[u8]) -> Check
-    ensures { λ r. ⌜ r ≡ sizesFault (now (digest .entry)) (now (key .entry)) ⌝ }
-{
-    let disagree = ProtocolError::SlicesDisagree;
-    Check::Passed
-        .require(digest.len() == 32, disagree)
-        .require(key.len() == 32, disagree)
 }
 
 // The request of a digest and a key that are lent as slices.

@@ -1,6 +1,4 @@
 // The account state.
-use crate::words::store_words;
-use crate::words::written;
 use account_state::EntryCursor;
 use account_state::EntryStep;
 use account_state::StateAnswer;
@@ -9,14 +7,15 @@ use account_state::StateHeaderAnswer;
 use account_state::next_entry;
 use account_state::validate_state;
 use account_state_writer::encode_state;
+use export_answers::store_words;
+use export_answers::written;
 use protocol::error_number;
 ghost use mathlib.Core.Path.{_≡_};
 ghost use Rattle.protocol.specs.Write.{writeNumber};
 ghost use Rattle.account_state.specs.State.{headerNumber, readHeader, stateNumber, readState, stepNumber, entryStep};
 ghost use Rattle.account_state_writer.specs.Writer.{stateFrom, stateWritten, stateStored};
-ghost use Rattle.exports.specs.Words.{withWords};
+ghost use Rattle.export_answers.specs.Words.{withWords, lengthAfter};
 ghost use Rattle.exports.specs.Readers.{headerWords, stateWords, stepWords};
-ghost use Rattle.exports.specs.Writers.{lengthAfter};
 
 // Stores flags, sequence, spend, rotate and recovery thresholds, count and recovery_since.
 #[no_mangle]

@@ -1,6 +1,4 @@
 // The witness lock.
-use crate::words::store_words;
-use crate::words::written;
 use account_witness::ProofCursor;
 use account_witness::ProofStep;
 use account_witness::WitnessAnswer;
@@ -9,6 +7,8 @@ use account_witness::next_proof;
 use account_witness::parse_witness_header;
 use account_witness::validate_witness;
 use account_witness_writer::encode_witness;
+use export_answers::store_words;
+use export_answers::written;
 use protocol::error_number;
 ghost use mathlib.Core.Path.{_≡_};
 ghost use Rattle.protocol.specs.Write.{writeNumber};
@@ -16,9 +16,8 @@ ghost use Rattle.account_witness.specs.Header.{headerNumber, readHeader};
 ghost use Rattle.account_witness.specs.Walk.{stepNumber, proofStep};
 ghost use Rattle.account_witness.specs.Witness.{witnessNumber, readWitness};
 ghost use Rattle.account_witness_writer.specs.Encode.{witnessWritten, witnessStored};
-ghost use Rattle.exports.specs.Words.{withWords};
+ghost use Rattle.export_answers.specs.Words.{withWords, lengthAfter};
 ghost use Rattle.exports.specs.Readers.{witnessHeaderWords, proofStepWords, witnessWords};
-ghost use Rattle.exports.specs.Writers.{lengthAfter};
 
 // Stores operation, proof count and sequence.
 #[no_mangle]

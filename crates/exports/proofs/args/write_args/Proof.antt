@@ -7,17 +7,12 @@ use borrow.Author.Tests.{eqb-true}
 use Rattle.protocol.specs.Args.{argsBytes}
 use Rattle.protocol.proofs.Back.{write-passed}
 use Rattle.protocol.proofs.Outcome.{write-refused, write-done}
-use Rattle.exports.specs.Writers.{sizeRow, argsFault, argsWritten, argsStored}
+use Rattle.export_answers.specs.Lent.{sizeRow}
+use Rattle.export_answers.proofs.Sizes.{array-whole}
+use Rattle.exports.specs.Writers.{argsFault, argsWritten, argsStored}
 use borrow.Author.Needs.{needs}
 use Rattle.exports.proofs.args.write_args.Statement.{statement}
 use Rattle.exports.proofs.args.write_args.Tie as tie
-
--- the account has 32 bytes
-array-32-requires : tie.Need-array-32-requires
-unfolding argsFault
-array-32-requires c κs =
-    let k = c .before .before in
-    eqb-true _ _ (write-passed _ _ _ (sym (k .check-account .ensures) ∙ c .enum-told .given .1) .0 .0)
 
 returns : tie.Need-returns
 unfolding argsFault argsWritten argsStored
@@ -34,7 +29,7 @@ returns-2 c =
     let account : List ℕ = a .account .now in
     let found = k .check-account .ensures in
     let n : length account ≡ 32 = eqb-true _ _ (write-passed _ _ _ (sym found ∙ told .enum-told .given .1) .0 .0) in
-    let stored = rw (lock .account-lock-args .ensures, lock .before .array-32 .ensures) at (store .store-bytes .ensures) in
+    let stored = rw (lock .account-lock-args .ensures, lock .before .array-32 .ensures ∙ array-whole account n) at (store .store-bytes .ensures) in
     write-done (sizeRow account ∷ []) 33 (a .out .now) _ found (argsBytes account) _ (told .enum-told .given .1) (ap suc n) stored
 
 pub write-args-spec : {M : Type 1} → statement M
@@ -44,7 +39,7 @@ write-args-spec =
     (λ c κs. search needs)
     (λ c. search needs)
     (λ c. search needs)
-    array-32-requires
+    (λ c κs. search needs)
     (λ c κs. search needs)
     (λ c. search needs)
     (λ c κs. search needs)

@@ -1,7 +1,7 @@
 -- `exports::proof::fowlcredenza_parse_public_key_proof` meets its contract, by cases of the answer. Assumes nothing.
 use mathlib.Core.Path.{sym, _∙_}
 use Rattle.octets.specs.Table.{numbers}
-use Rattle.exports.specs.Words.{words, withWords}
+use Rattle.export_answers.specs.Words.{words, withWords}
 use Rattle.exports.specs.Readers.{proofWords}
 use borrow.Author.Needs.{needs}
 use Rattle.exports.proofs.proof.fowlcredenza_parse_public_key_proof.Statement.{statement}

@@ -1,7 +1,7 @@
 -- `exports::witness::fowlcredenza_validate_witness` meets its contract, by cases of the answer. Assumes nothing.
 use mathlib.Core.Path.{sym, _∙_}
 use Rattle.octets.specs.Table.{numbers}
-use Rattle.exports.specs.Words.{words, withWords}
+use Rattle.export_answers.specs.Words.{words, withWords}
 use Rattle.exports.specs.Readers.{witnessWords, witnessFields}
 use borrow.Author.Needs.{needs}
 use Rattle.exports.proofs.witness.fowlcredenza_validate_witness.Statement.{statement}

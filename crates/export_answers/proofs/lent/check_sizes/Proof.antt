@@ -1,9 +1,9 @@
--- `exports::request::check_sizes` meets its contract: the rows, last to first. Assumes nothing.
+-- `export_answers::lent::check_sizes` meets its contract: the rows, last to first. Assumes nothing.
 use Rattle.protocol.specs.Rows.{decide}
-use Rattle.exports.specs.Writers.{sizesFault}
+use Rattle.export_answers.specs.Lent.{sizesFault}
 use borrow.Author.Needs.{needs}
-use Rattle.exports.proofs.request.check_sizes.Statement.{statement}
-use Rattle.exports.proofs.request.check_sizes.Tie as tie
+use Rattle.export_answers.proofs.lent.check_sizes.Statement.{statement}
+use Rattle.export_answers.proofs.lent.check_sizes.Tie as tie
 
 returns : tie.Need-returns
 unfolding sizesFault decide

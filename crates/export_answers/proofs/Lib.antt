@@ -1,1 +1,2 @@
 pub mod Table64
+pub mod Sizes

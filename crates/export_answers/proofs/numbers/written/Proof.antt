@@ -1,8 +1,8 @@
--- `exports::words::written` meets its contract, by cases of the answer. Assumes nothing.
-use Rattle.exports.specs.Writers.{lengthAfter}
+-- `export_answers::numbers::written` meets its contract, by cases of the answer. Assumes nothing.
+use Rattle.export_answers.specs.Words.{lengthAfter}
 use borrow.Author.Needs.{needs}
-use Rattle.exports.proofs.words.written.Statement.{statement}
-use Rattle.exports.proofs.words.written.Tie as tie
+use Rattle.export_answers.proofs.numbers.written.Statement.{statement}
+use Rattle.export_answers.proofs.numbers.written.Tie as tie
 
 returns : tie.Need-returns
 unfolding lengthAfter

@@ -11,7 +11,7 @@ use Rattle.octets.specs.Le.{toLe}
 use Rattle.octets.specs.Table.{numbers}
 use Rattle.octets.proofs.LeLaws.{length-to}
 use Rattle.octets.proofs.Stores.{sets-append}
-use Rattle.exports.specs.Words.{words}
+use Rattle.export_answers.specs.Words.{words}
 
 -- word i, and then the words behind it
 pub word-stored : (vs out : List ℕ) (i : ℕ) → i < length vs → sets (sets out (8 * i) (toLe 8 (getD vs i 0))) (8 * (i + 1)) (numbers (words (drop (i + 1) vs))) ≡ sets out (8 * i) (numbers (words (drop i vs)))

@@ -1,15 +1,15 @@
--- `exports::words::store_words` meets its contract: what is left to store, stored, is the whole. Assumes nothing.
+-- `export_answers::words::store_words` meets its contract: what is left to store, stored, is the whole. Assumes nothing.
 use mathlib.Core.Path.{_≡_, refl, sym, ap, _∙_}
 use Prim.Native.Nat.{_*_, _-_, _≤_}
 use native.Mathlib.Omega.{arith}
 use lib.ListN.{length, drop}
 use lib.Seq.{sets, length-sets}
 use Rattle.octets.specs.Table.{numbers}
-use Rattle.exports.specs.Words.{words, withWords}
-use Rattle.exports.proofs.Table64.{word-stored, words-stored}
+use Rattle.export_answers.specs.Words.{words, withWords}
+use Rattle.export_answers.proofs.Table64.{word-stored, words-stored}
 use borrow.Author.Needs.{needs}
-use Rattle.exports.proofs.words.store_words.Statement.{statement}
-use Rattle.exports.proofs.words.store_words.Tie as tie
+use Rattle.export_answers.proofs.words.store_words.Statement.{statement}
+use Rattle.export_answers.proofs.words.store_words.Tie as tie
 
 abbrev Inv-loop : tie.InvT-loop
 Inv-loop vs out₀ i₀ out i =
