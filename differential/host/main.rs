@@ -4,6 +4,8 @@
 #[cfg_attr(not(originals), allow(dead_code))]
 mod exports;
 #[cfg(originals)]
+mod exports_transaction;
+#[cfg(originals)]
 mod formats;
 mod hash;
 mod hex;
@@ -15,6 +17,8 @@ mod report;
 mod samples;
 #[cfg(originals)]
 mod smoke;
+#[cfg(originals)]
+mod transaction;
 mod vectors;
 
 use report::Report;
@@ -28,6 +32,8 @@ fn main() -> ExitCode {
     hash::run(&mut report);
     #[cfg(originals)]
     formats::run(&mut report);
+    #[cfg(originals)]
+    transaction::run(&mut report);
     if report.print() {
         ExitCode::SUCCESS
     } else {

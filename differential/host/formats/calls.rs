@@ -72,8 +72,34 @@ impl Calls<'_> {
             buffer: Hex(buffer),
         };
         let input = || format!("out {room}, {:?}", Hex(bytes.to_vec()));
-        let expected = after_read(expected, before, room);
+        let expected = after_front(numbered(expected).map(word_bytes), before, room);
         self.compare(name, bytes.len(), input, seen, expected);
+    }
+
+    /// Compares a function that stores a hash, as far as there is room, or nothing.
+    pub fn hash(
+        &mut self,
+        name: &'static str,
+        size: usize,
+        expected: Result<[u8; 32], u32>,
+        input: impl FnOnce() -> String,
+        function: impl FnOnce(&mut [u8]) -> u32,
+    ) {
+        let room = match self.prng.up_to(9) {
+            0 => self.prng.up_to(40),
+            _ => 32,
+        };
+        let before = self.prng.bytes(room + BEHIND);
+        let mut buffer = before.clone();
+        let number = function(&mut buffer[..room]);
+        let seen = Seen {
+            number,
+            len: 0,
+            buffer: Hex(buffer),
+        };
+        let input = || format!("out {room}, {}", input());
+        let expected = after_front(expected.map(Vec::from), before, room);
+        self.compare(name, size, input, seen, expected);
     }
 
     /// Compares a writer in a buffer of `room` bytes with the bytes that the original gives, or with a refusal.
@@ -130,12 +156,17 @@ pub fn numbered<T>(answer: Result<T, ProtocolError>) -> Result<T, u32> {
     answer.map_err(|error| error as u32)
 }
 
-fn after_read(answer: Words, mut buffer: Vec<u8>, room: usize) -> Seen {
-    let (number, words) = match answer {
-        Ok(words) => (0, words),
-        Err(error) => (error as u32, Vec::new()),
+/// Words as bytes.
+fn word_bytes(words: Vec<u64>) -> Vec<u8> {
+    words.into_iter().flat_map(u64::to_le_bytes).collect()
+}
+
+/// The bytes at the front of the buffer, as far as there is room, or the buffer as it was.
+fn after_front(answer: Result<Vec<u8>, u32>, mut buffer: Vec<u8>, room: usize) -> Seen {
+    let (number, bytes) = match answer {
+        Ok(bytes) => (0, bytes),
+        Err(number) => (number, Vec::new()),
     };
-    let bytes = words.into_iter().flat_map(u64::to_le_bytes);
     for (place, byte) in buffer[..room].iter_mut().zip(bytes) {
         *place = byte;
     }

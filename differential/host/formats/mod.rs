@@ -1,8 +1,8 @@
 //! Every reader and writer of the formats beside the original.
 
 mod args;
-mod calls;
-mod changes;
+pub mod calls;
+pub mod changes;
 mod proof;
 mod request;
 mod state;

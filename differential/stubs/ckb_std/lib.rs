@@ -43,6 +43,16 @@ macro_rules! entry {
                 super::script_args(script)
             }
 
+            pub fn authorization_digest(
+                operation: u8,
+                account_id: &[u8; 32],
+                sequence: u64,
+                state: &[u8],
+                group_sighash: &[u8; 32],
+            ) -> [u8; 32] {
+                super::authorization_digest(operation, account_id, sequence, state, group_sighash)
+            }
+
             pub fn canonical_group_sighash() -> Result<[u8; 32], ProtocolError> {
                 super::canonical_group_sighash()
             }

@@ -1,0 +1,137 @@
+//! The functions of the second static library, wrapped to take slices as those of `exports` are.
+
+mod library {
+    #[link(name = "exports_transaction", kind = "static")]
+    unsafe extern "C" {
+        pub fn fowlcredenza_witness_lock(
+            witness: *const u8,
+            witness_len: usize,
+            out: *mut u8,
+            out_len: usize,
+        ) -> u32;
+        pub fn fowlcredenza_script_args(
+            script: *const u8,
+            script_len: usize,
+            out: *mut u8,
+            out_len: usize,
+        ) -> u32;
+        pub fn fowlcredenza_canonical_witness(
+            witness: *const u8,
+            witness_len: usize,
+            out: *mut u8,
+            out_len: usize,
+            len: *mut u64,
+        ) -> u32;
+        pub fn fowlcredenza_authorization_digest(
+            operation: u8,
+            account: *const u8,
+            account_len: usize,
+            sequence: u64,
+            state: *const u8,
+            state_len: usize,
+            sighash: *const u8,
+            sighash_len: usize,
+            out: *mut u8,
+            out_len: usize,
+        ) -> u32;
+        pub fn fowlcredenza_sighash(
+            transaction_hash: *const u8,
+            transaction_hash_len: usize,
+            first: *const u8,
+            first_len: usize,
+            store: *const u8,
+            store_len: usize,
+            rows: *const u32,
+            rows_len: usize,
+            out: *mut u8,
+            out_len: usize,
+        ) -> u32;
+    }
+}
+
+/// Place and length of the lock's bytes.
+pub fn witness_lock(witness: &[u8], out: &mut [u8]) -> u32 {
+    unsafe {
+        library::fowlcredenza_witness_lock(
+            witness.as_ptr(),
+            witness.len(),
+            out.as_mut_ptr(),
+            out.len(),
+        )
+    }
+}
+
+/// Place and length of the args' bytes.
+pub fn script_args(script: &[u8], out: &mut [u8]) -> u32 {
+    unsafe {
+        library::fowlcredenza_script_args(
+            script.as_ptr(),
+            script.len(),
+            out.as_mut_ptr(),
+            out.len(),
+        )
+    }
+}
+
+pub fn canonical_witness(witness: &[u8], out: &mut [u8], len: &mut u64) -> u32 {
+    unsafe {
+        library::fowlcredenza_canonical_witness(
+            witness.as_ptr(),
+            witness.len(),
+            out.as_mut_ptr(),
+            out.len(),
+            len,
+        )
+    }
+}
+
+/// What a digest is over, as it is lent: account and sighash may have any length.
+pub struct LentDigest<'a> {
+    pub operation: u8,
+    pub account: &'a [u8],
+    pub sequence: u64,
+    pub state: &'a [u8],
+    pub sighash: &'a [u8],
+}
+
+pub fn authorization_digest(digest: &LentDigest, out: &mut [u8]) -> u32 {
+    unsafe {
+        library::fowlcredenza_authorization_digest(
+            digest.operation,
+            digest.account.as_ptr(),
+            digest.account.len(),
+            digest.sequence,
+            digest.state.as_ptr(),
+            digest.state.len(),
+            digest.sighash.as_ptr(),
+            digest.sighash.len(),
+            out.as_mut_ptr(),
+            out.len(),
+        )
+    }
+}
+
+/// What a sighash is over, as it is lent: place in the store and length of each further witness.
+pub struct LentSighash<'a> {
+    pub transaction_hash: &'a [u8],
+    pub first: &'a [u8],
+    pub store: &'a [u8],
+    pub rows: &'a [u32],
+}
+
+pub fn sighash(sighash: &LentSighash, out: &mut [u8]) -> u32 {
+    unsafe {
+        library::fowlcredenza_sighash(
+            sighash.transaction_hash.as_ptr(),
+            sighash.transaction_hash.len(),
+            sighash.first.as_ptr(),
+            sighash.first.len(),
+            sighash.store.as_ptr(),
+            sighash.store.len(),
+            sighash.rows.as_ptr(),
+            sighash.rows.len(),
+            out.as_mut_ptr(),
+            out.len(),
+        )
+    }
+}
