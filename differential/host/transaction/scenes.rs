@@ -42,7 +42,7 @@ fn first_witness(prng: &mut Prng) -> Vec<u8> {
     }
 }
 
-/// A scene whose first group input has a witness. `group` is the place of that input among the inputs.
+/// A scene whose first group input has a witness.
 pub fn random(prng: &mut Prng) -> Scene {
     let inputs = 1 + prng.up_to(6);
     let group = prng.up_to(inputs - 1);
