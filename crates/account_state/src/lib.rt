@@ -26,6 +26,7 @@ pub use self::entry::next_entry;
 pub use self::header::StateHeader;
 pub use self::header::StateHeaderAnswer;
 pub use self::walk::StateSummary;
+pub use self::walk::share;
 
 pub enum StateAnswer {
     Valid(StateHeader, StateSummary),

@@ -27,11 +27,13 @@ pub(crate) enum WalkAnswer {
     Refused(ProtocolError),
 }
 
-// The weight that an entry adds to a capability.
-fn share(bit: u16, capabilities: u16, weight: u16) -> u32
-    requires { ⌜ 0 < bit ⌝ }
+// The weight that an entry adds to the capability of a bit; 0 is no bit.
+pub fn share(bit: u16, capabilities: u16, weight: u16) -> u32
     ensures { λ r. ⌜ (r ≡ shareOf bit capabilities weight) × (r < 65536) ⌝ }
 {
+    if bit == 0 {
+        return 0;
+    }
     if capabilities / bit % 2 == 1 {
         weight as u32
     } else {

@@ -10,8 +10,8 @@ ghost use Rattle.protocol.specs.Write.{writeNumber};
 ghost use Rattle.exports.specs.Words.{withWords};
 ghost use Rattle.exports.specs.Writers.{lengthAfter};
 
-// Stores the words from the front of `out` on, as far as there is room.
-pub(crate) fn store_words(words: &[u64], out: &mut [u8])
+// Stores the words one by one.
+fn store_each(words: &[u64], out: &mut [u8])
     requires { ⌜ length (now words) ≤ 16 ⌝ }
     ensures { λ _. ⌜ now (out .exit) ≡ withWords (now (words .entry)) (now (out .entry)) ⌝ }
 {
@@ -19,6 +19,20 @@ pub(crate) fn store_words(words: &[u64], out: &mut [u8])
     while i < words.len() {
         store_number(out, 8 * i, 8, words[i]);
         i += 1;
+    }
+}
+
+// Stores the words from the front of `out` on, as far as there is room. Where there is room for all, the words are lent just
+// that, so that no store looks for the end.
+pub(crate) fn store_words(words: &[u64], out: &mut [u8])
+    requires { ⌜ length (now words) ≤ 16 ⌝ }
+    ensures { λ _. ⌜ now (out .exit) ≡ withWords (now (words .entry)) (now (out .entry)) ⌝ }
+{
+    let end = 8 * words.len();
+    if end <= out.len() {
+        store_each(words, &mut out[0..end]);
+    } else {
+        store_each(words, out);
     }
 }
 

@@ -1,4 +1,4 @@
--- `exports::words::store_words` meets its contract: what is left to store, stored, is the whole. Assumes nothing.
+-- `exports::words::store_each` meets its contract: what is left to store, stored, is the whole. Assumes nothing.
 use mathlib.Core.Path.{_≡_, refl, sym, ap, _∙_}
 use Prim.Native.Nat.{_*_, _-_, _≤_}
 use native.Mathlib.Omega.{arith}
@@ -8,8 +8,8 @@ use Rattle.octets.specs.Table.{numbers}
 use Rattle.exports.specs.Words.{words, withWords}
 use Rattle.exports.proofs.Table64.{word-stored, words-stored}
 use borrow.Author.Needs.{needs}
-use Rattle.exports.proofs.words.store_words.Statement.{statement}
-use Rattle.exports.proofs.words.store_words.Tie as tie
+use Rattle.exports.proofs.words.store_each.Statement.{statement}
+use Rattle.exports.proofs.words.store_each.Tie as tie
 
 abbrev Inv-loop : tie.InvT-loop
 Inv-loop vs out₀ i₀ out i =
@@ -35,8 +35,8 @@ returns c =
     let vs = c .before .before .before .before .args .words .now in
     sym (words-stored vs (l .out) (l .i) (omega arith)) ∙ l .inv .2
 
-pub store-words-spec : {M : Type 1} → statement M
-store-words-spec =
+pub store-each-spec : {M : Type 1} → statement M
+store-each-spec =
     tie.close
     (tie.spec
     Inv-loop
