@@ -18,7 +18,7 @@ use Rattle.protocol.specs.declared.error.ProtocolError.the-variants.{InvalidSta
 use Rattle.protocol.specs.declared.check.Check.{Check}
 use Rattle.protocol.specs.declared.check.Check.the-variants.{Passed, Failed}
 use Rattle.protocol.proofs.Hold.{decide-append, decide-failed, decide-then, passed-hold}
-use Rattle.account_state.specs.Reading.{EntryReading, StateReading, EntryTyped, EntriesTyped, StateTyped, stateMagic, entryHead, entryLengths, entryBytes, entriesBytes, headNumbers, stateHead, stateBytes, lengthOf, slotOf, keyLengthOf, auxLengthOf, entryOf, entriesOf, weightOf}
+use Rattle.account_state.specs.Reading.{EntryReading, StateReading, EntryTyped, EntriesTyped, StateTyped, stateMagic, entryHead, entryLengths, entryBytes, entriesBytes, headNumbers, stateHead, stateBytes, lengthOf, slotOf, keyLengthOf, auxLengthOf, entryOf, weightOf}
 use Rattle.account_state.specs.State.{headRows, layoutRows, fieldRows, entryRows, entriesRows, behind, recoveryRows, endRows, tailRows, stateRows, stateFault}
 use Rattle.account_state.proofs.Inverse.{Keys}
 use Rattle.account_state.proofs.Unique.{lengths-read, size-read, entry-read, entries-read, head-numbers, behind-head}

@@ -13,7 +13,7 @@ use Rattle.account_state.specs.Reading.{stateBytes}
 use Rattle.account_state.specs.State.{stateRows}
 use Rattle.account_state_writer.specs.Writer.{entriesFrom, entryCount, stateTotal, stateFrom, validWritten, validStored}
 use Rattle.account_state_writer.specs.Checks.{stateChecks}
-use Rattle.account_state_writer.proofs.Agreed.{Agreed, agreed, length-state, state-found}
+use Rattle.account_state_writer.proofs.Agreed.{agreed, length-state, state-found}
 use borrow.Author.Needs.{needs}
 use Rattle.account_state_writer.proofs.encode_agreed.Statement.{statement}
 use Rattle.account_state_writer.proofs.encode_agreed.Tie as tie

@@ -1,7 +1,7 @@
 -- `account_state_writer::check::check_entries` meets its contract: what is left to check gives the whole.
 -- Assumes nothing.
-use mathlib.Core.Path.{_≡_, refl, sym, _∙_}
-use Prim.Native.Nat.{ℕ, _+_, _-_, _*_, _≤_, _<_}
+use mathlib.Core.Path.{_≡_, sym, _∙_}
+use Prim.Native.Nat.{_+_, _-_, _*_, _≤_}
 use native.Mathlib.Nat.{sub-zero}
 use native.Mathlib.Omega.{arith}
 use lib.ListN.{length, take, drop, getD, length-drop}
@@ -10,7 +10,7 @@ use borrow.Author.Needs.{needs}
 use Rattle.octets.proofs.Parts.{part-clip}
 use Rattle.protocol.specs.Rows.{decide}
 use Rattle.protocol.specs.declared.check.Check.the-variants.{Passed}
-use Rattle.account_state_writer.specs.Writer.{auxOf, entryFrom, entriesFrom, neededBytes}
+use Rattle.account_state_writer.specs.Writer.{auxOf, entriesFrom, neededBytes}
 use Rattle.account_state_writer.specs.Checks.{entriesChecks}
 use Rattle.account_state_writer.proofs.Lent.{needed-turn, checks-failed, checks-next, checks-none}
 use Rattle.account_state_writer.proofs.check.check_entries.Statement.{statement}

@@ -1,12 +1,9 @@
 -- `account_state_writer::check::check_state` meets its contract: head, entries and thresholds, by what each finds. Assumes nothing.
-use mathlib.Core.Path.{_≡_, sym, _∙_}
+use mathlib.Core.Path.{sym, _∙_}
 use Prim.Native.Nat.{_/_}
 use native.Mathlib.Omega.{arith}
 use lib.ListN.{length}
-use Rattle.protocol.specs.Rows.{decide}
-use Rattle.protocol.specs.declared.check.Check.the-variants.{Passed}
 use Rattle.account_state_writer.specs.Writer.{entryCount}
-use Rattle.account_state_writer.specs.Checks.{headChecks}
 use Rattle.account_state_writer.proofs.Checked.{head-limit, head-failed, head-passed}
 use borrow.Author.Needs.{needs}
 use Rattle.account_state_writer.proofs.check.check_state.Statement.{statement}
