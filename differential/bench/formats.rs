@@ -16,13 +16,13 @@ const SHORTER_AUX: usize = 942;
 /// An ML-DSA-44 signature.
 const PROOF: usize = 2_420;
 
-/// The time of one call.
+/// The time of CALLS calls.
 fn time(f: &mut dyn FnMut()) -> Duration {
     let start = Instant::now();
     for _ in 0..CALLS {
         f();
     }
-    start.elapsed() / CALLS
+    start.elapsed()
 }
 
 /// Prints the best time of each, taken in turn so that a disturbance meets both alike.
@@ -32,9 +32,9 @@ fn print_row(name: &str, original: &mut dyn FnMut(), port: &mut dyn FnMut()) {
         best[0] = time(original).min(best[0]);
         best[1] = time(port).min(best[1]);
     }
-    let [rust, rattle] = best.map(|time| time.as_secs_f64() * 1e9);
+    let [rust, rattle] = best.map(|time| time.as_secs_f64() * 1e9 / f64::from(CALLS));
     let ratio = rust / rattle;
-    println!("{name:48} {rust:8.0} {rattle:8.0} {ratio:12.2}");
+    println!("{name:48} {rust:8.1} {rattle:8.1} {ratio:12.2}");
 }
 
 fn state(entries: u16, aux_len: usize) -> AccountState {

@@ -1,12 +1,13 @@
 -- The rows of a state, part by part: header, entries, end.
 -- Assumes nothing.
 use mathlib.Core.Path.{_≡_, refl, sym, ap, _∙_}
-use mathlib.Core.List.{List, _++_}
-use Prim.Native.Nat.{ℕ, _≤_}
+use mathlib.Core.List.{List, [], _∷_, _++_}
+use Prim.Native.Nat.{ℕ, zero, suc, _+_, _≤_}
 use native.Mathlib.Omega.{arith}
 use borrow.Author.Tests.{leb-true}
-use lib.ListN.{length, drop}
-use Rattle.octets.specs.Le.{numberAt}
+use lib.ListN.{length, take, drop}
+use lib.Seq.{take-take}
+use Rattle.octets.specs.Le.{fromLe, numberAt}
 use Rattle.protocol.specs.Rows.{decide}
 use Rattle.protocol.specs.declared.error.ProtocolError.{ProtocolError}
 use Rattle.protocol.specs.declared.check.Check.{Check}
@@ -18,6 +19,17 @@ use Rattle.account_state.specs.Walk.{walkAnswer, walkOf, walkEntries, en
 use Rattle.account_state.specs.declared.walk.Walk.{Walk}
 use Rattle.account_state.specs.declared.walk.WalkAnswer.{WalkAnswer}
 use Rattle.account_state.specs.declared.walk.WalkAnswer.the-variants.{Walked, Refused}
+
+-- a number at the front of the bytes
+front-part : (n at k : ℕ) (s : List ℕ) → at + k ≤ n → take k (drop at (take n s)) ≡ take k (drop at s)
+front-part n zero k s h = take-take k n s (omega arith)
+front-part zero (suc at) k s h = absurd (omega arith)
+front-part (suc n) (suc at) k [] h = refl
+front-part (suc n) (suc at) k (x ∷ s) h = front-part n at k s (omega arith)
+
+pub front-number : (s : List ℕ) (n at k : ℕ) → at + k ≤ n → numberAt (take n s) at k ≡ numberAt s at k
+unfolding numberAt
+front-number s n at k h = ap fromLe (front-part n at k s h)
 
 -- what the header tells of the walk
 pub head-room : (s : List ℕ) → decide Passed (headRows s) ≡ Passed → (32 ≤ length s) × (numberAt s 22 1 ≤ 16)

@@ -23,7 +23,7 @@ module _ (e : EntryReading) (t s : List ℕ) (y : EntryTyped e) (q : s ≡ entry
   head-read =
       numbers-back (entryHead e) s [] (e .codeHash ++ (numbers (entryLengths e) ++ (e .key ++ (e .aux ++ t)))) 0 (omega arith) (q ∙ simp append-assoc) refl
 
-  lengths-read : numbersAt (2 ∷ 2 ∷ []) s 44 ≡ entryLengths e
+  pub lengths-read : numbersAt (2 ∷ 2 ∷ []) s 44 ≡ entryLengths e
   unfolding entryBytes entryLengths
   lengths-read =
       numbers-back (entryLengths e) s (numbers (entryHead e) ++ e .codeHash) (e .key ++ (e .aux ++ t)) 44 (omega arith)
@@ -46,11 +46,11 @@ module _ (e : EntryReading) (t s : List ℕ) (y : EntryTyped e) (q : s ≡ entry
       part-back s (numbers (entryHead e) ++ (e .codeHash ++ (numbers (entryLengths e) ++ e .key))) (e .aux) t (48 + length (e .key)) _
       (q ∙ simp append-assoc) (simp (length-append, tables .0, tables .1, y .codeHash) (omega arith)) refl
 
-  size-read : lengthOf s ≡ length (entryBytes e)
+  pub size-read : lengthOf s ≡ length (entryBytes e)
   unfolding entryBytes entryHead numbersAt
   size-read = ap (valueOf 0) head-read ∙ sym (simp (length-append, tables .0, tables .1, y .codeHash) (omega arith))
 
-  entry-read : entryOf s ≡ e
+  pub entry-read : entryOf s ≡ e
   unfolding entryOf entryHead entryLengths numbersAt
   entry-read =
       let e₁ : numberAt s 2 2 ≡ e .slot = ap (valueOf 1) head-read in
@@ -63,7 +63,7 @@ module _ (e : EntryReading) (t s : List ℕ) (y : EntryTyped e) (q : s ≡ entry
       let e₈ : numberAt s 46 2 ≡ length (e .aux) = ap (valueOf 1) lengths-read in
       rw (e₁, e₂, e₃, e₄, e₅, e₆, e₇, e₈, hash-read, key-read, aux-read)
 
-entries-read : (es : List EntryReading) → EntriesTyped es → entriesOf (length es) (entriesBytes es) ≡ es
+pub entries-read : (es : List EntryReading) → EntriesTyped es → entriesOf (length es) (entriesBytes es) ≡ es
 unfolding entriesOf entriesBytes
 entries-read [] y = refl
 entries-read (e ∷ es) y =
@@ -75,11 +75,21 @@ entries-read (e ∷ es) y =
       entries-read es (y .1),
     )
 
+-- the numbers of a state's header, and what follows them
+pub head-numbers : (r : StateReading) → StateTyped r → numbersAt (4 ∷ 1 ∷ 1 ∷ 2 ∷ 8 ∷ 2 ∷ 2 ∷ 2 ∷ 1 ∷ 1 ∷ 8 ∷ []) (stateBytes r) 0 ≡ stateHead r
+unfolding stateBytes stateHead headNumbers
+head-numbers r y =
+    numbers-back (stateHead r) (numbers (stateHead r) ++ entriesBytes (r .entries)) [] (entriesBytes (r .entries)) 0 (omega arith) refl refl
+
+pub behind-head : (r : StateReading) → drop 32 (stateBytes r) ≡ entriesBytes (r .entries)
+unfolding stateBytes stateHead headNumbers
+behind-head r = drop-at (numbers (stateHead r)) (entriesBytes (r .entries)) 32 (length-numbers (stateHead r))
+
 pub state-read : (r : StateReading) → StateTyped r → stateReading (stateBytes r) ≡ r
-unfolding stateReading stateBytes stateHead headNumbers numbersAt
+unfolding stateReading stateHead headNumbers numbersAt
 state-read r y =
-    let s = numbers (stateHead r) ++ entriesBytes (r .entries) in
-    let h : numbersAt (4 ∷ 1 ∷ 1 ∷ 2 ∷ 8 ∷ 2 ∷ 2 ∷ 2 ∷ 1 ∷ 1 ∷ 8 ∷ []) s 0 ≡ stateHead r = numbers-back (stateHead r) s [] (entriesBytes (r .entries)) 0 (omega arith) refl refl in
+    let s = stateBytes r in
+    let h = head-numbers r y in
     let e₁ : numberAt s 5 1 ≡ r .flags = ap (valueOf 2) h in
     let e₂ : numberAt s 8 8 ≡ r .sequence = ap (valueOf 4) h in
     let e₃ : numberAt s 16 2 ≡ r .spend = ap (valueOf 5) h in
@@ -87,5 +97,4 @@ state-read r y =
     let e₅ : numberAt s 20 2 ≡ r .recovery = ap (valueOf 7) h in
     let e₆ : numberAt s 24 8 ≡ r .since = ap (valueOf 10) h in
     let e₇ : numberAt s 22 1 ≡ length (r .entries) = ap (valueOf 8) h in
-    let d : drop 32 s ≡ entriesBytes (r .entries) = drop-at (numbers (stateHead r)) (entriesBytes (r .entries)) 32 (length-numbers (stateHead r)) in
-    rw (e₁, e₂, e₃, e₄, e₅, e₆, e₇, d, entries-read (r .entries) (y .entries))
+    rw (e₁, e₂, e₃, e₄, e₅, e₆, e₇, behind-head r, entries-read (r .entries) (y .entries))

@@ -14,16 +14,12 @@ use Rattle.octets.proofs.LeLaws.{number-lt, bytes-drop}
 use Rattle.protocol.specs.Policy.{hasCapability}
 use Rattle.protocol.specs.Rows.{decide}
 use Rattle.protocol.specs.declared.error.ProtocolError.{ProtocolError}
-use Rattle.protocol.specs.declared.check.Check.{Check}
 use Rattle.protocol.specs.declared.check.Check.the-variants.{Passed, Failed}
 use Rattle.protocol.proofs.Hold.{passed-hold, decide-append, decide-failed, hold-split}
 use Rattle.account_state.specs.Reading.{lengthOf, slotOf, entryOf, entriesOf, shareOf, weightOf}
-use Rattle.account_state.specs.State.{layoutRows, entryRows, entriesRows, behind, entryAt, firstEntry, cursorBehind, stepAnswer, entryStep, summaryOf}
+use Rattle.account_state.specs.State.{layoutRows, entryRows, entriesRows, behind, firstEntry, cursorBehind, summaryOf}
 use Rattle.account_state.specs.Walk.{withEntry, Light}
-use Rattle.account_state.specs.declared.entry.AuthenticatorEntry.{AuthenticatorEntry}
 use Rattle.account_state.specs.declared.entry.EntryCursor.{EntryCursor}
-use Rattle.account_state.specs.declared.entry.EntryStep.{EntryStep}
-use Rattle.account_state.specs.declared.entry.EntryStep.the-variants.{Entry, Refused}
 use Rattle.account_state.specs.declared.walk.StateSummary.{StateSummary}
 
 -- an entry that passes is present, and its length stays inside
@@ -53,27 +49,6 @@ pub rows-failed : (n : ℕ) (e : List ℕ) (least : ℕ) (x : ProtocolError) →
     → decide Passed (entriesRows (suc n) e least) ≡ Failed x
 unfolding entriesRows
 rows-failed n e least x h = decide-append Passed (entryRows e least) _ ∙ rw h (decide-failed _ x)
-
--- what a step says
-step-passed : (k : Check) (a b : AuthenticatorEntry) (c d : EntryCursor) → stepAnswer k a c ≡ Entry b d → (k ≡ Passed) × (a ≡ b) × (c ≡ d)
-unfolding stepAnswer
-step-passed Passed a b c d h = (refl, cc, cc)
-step-passed (Failed e) a b c d h = absurd (let z : _≡_ {A = ℕ} 0 1 = cc in omega arith)
-
-step-failed : (k : Check) (a : AuthenticatorEntry) (c : EntryCursor) (x : ProtocolError) → stepAnswer k a c ≡ Refused x → k ≡ Failed x
-unfolding stepAnswer
-step-failed Passed a c x h = absurd (let z : _≡_ {A = ℕ} 0 1 = cc in omega arith)
-step-failed (Failed e) a c x h = cc
-
-pub entry-passed : (s : List ℕ) (c : EntryCursor) (e : AuthenticatorEntry) (d : EntryCursor) → entryStep s c ≡ Entry e d
-    → (decide Passed (entryRows (drop (c .offset) s) (c .least)) ≡ Passed) × (entryAt s (c .offset) ≡ e) × (cursorBehind s (c .offset) ≡ d)
-unfolding entryStep
-entry-passed s c e d h = step-passed _ _ _ _ _ h
-
-pub entry-failed : (s : List ℕ) (c : EntryCursor) (x : ProtocolError) → entryStep s c ≡ Refused x
-    → decide Passed (entryRows (drop (c .offset) s) (c .least)) ≡ Failed x
-unfolding entryStep
-entry-failed s c x h = step-failed _ _ _ x h
 
 -- what is left to walk gives the whole
 pub record Walking (s : List ℕ) (count left : ℕ) (c : EntryCursor) (t : StateSummary) : Type 0 where
@@ -123,21 +98,21 @@ module _ (s : List ℕ) (count left : ℕ) (c : EntryCursor) (t : StateSummary) 
   one = omega arith
 
   -- a refused entry refuses the whole
-  pub walking-failed : (x : ProtocolError) → entryStep s c ≡ Refused x → decide Passed (entriesRows count (drop 32 s) 0) ≡ Failed x
+  pub walking-failed : (x : ProtocolError) → decide Passed (entryRows (drop (c .offset) s) (c .least)) ≡ Failed x
+      → decide Passed (entriesRows count (drop 32 s) 0) ≡ Failed x
   walking-failed x h =
-      sym (w .rows) ∙ (ap (λ (n : ℕ). decide Passed (entriesRows n (drop (c .offset) s) (c .least))) one
-      ∙ rows-failed (left - 1) (drop (c .offset) s) (c .least) x (entry-failed s c x h))
+      sym (w .rows) ∙ (ap (λ (n : ℕ). decide Passed (entriesRows n (drop (c .offset) s) (c .least))) one ∙ rows-failed (left - 1) (drop (c .offset) s) (c .least) x h)
 
   -- the weights with an entry's added
   share-next : (bit sum : ℕ) → sum + weightOf bit (entriesOf left (drop (c .offset) s)) ≡ weightOf bit (entriesOf count (drop 32 s))
-      → sum + shareOf bit (entryAt s (c .offset) .capabilities) (entryAt s (c .offset) .weight)
+      → sum + shareOf bit (numberAt (drop (c .offset) s) 6 2) (numberAt (drop (c .offset) s) 8 2)
       + weightOf bit (entriesOf (left - 1) (drop (lengthOf (drop (c .offset) s)) (drop (c .offset) s))) ≡ weightOf bit (entriesOf count (drop 32 s))
-  unfolding weightOf entriesOf entryOf entryAt
+  unfolding weightOf entriesOf entryOf
   share-next bit sum h =
       add-assoc sum _ _ ∙ (sym (ap (λ (n : ℕ). sum + weightOf bit (entriesOf n (drop (c .offset) s))) one) ∙ h)
 
-  light-next : Bytes s → Light (left - 1) (withEntry t (entryAt s (c .offset)))
-  unfolding withEntry entryAt
+  light-next : Bytes s → Light (left - 1) (withEntry t (numberAt (drop (c .offset) s) 6 2) (numberAt (drop (c .offset) s) 8 2))
+  unfolding withEntry
   light-next b =
       let l = w .light in
       let n : numberAt (drop (c .offset) s) 8 2 < 65536 = number-lt (drop (c .offset) s) 8 2 (bytes-drop (c .offset) s b) in
@@ -147,10 +122,11 @@ module _ (s : List ℕ) (count left : ℕ) (c : EntryCursor) (t : StateSummary) 
       let z = share-le 4 (numberAt (drop (c .offset) s) 6 2) (numberAt (drop (c .offset) s) 8 2) in
       record { spend = omega arith; rotate = omega arith; recovery = omega arith }
 
-  walking-behind : Bytes s → decide Passed (entryRows (drop (c .offset) s) (c .least)) ≡ Passed
-      → Walking s count (left - 1) (cursorBehind s (c .offset)) (withEntry t (entryAt s (c .offset)))
+  -- an entry that passes leaves the rest to walk
+  pub walking-next : Bytes s → decide Passed (entryRows (drop (c .offset) s) (c .least)) ≡ Passed
+      → Walking s count (left - 1) (cursorBehind s (c .offset)) (withEntry t (numberAt (drop (c .offset) s) 6 2) (numberAt (drop (c .offset) s) 8 2))
   unfolding cursorBehind withEntry behind
-  walking-behind b h =
+  walking-next b h =
       let p = entry-present (drop (c .offset) s) (c .least) h in
       let n : length (drop (c .offset) s) ≡ length s - c .offset = length-drop (c .offset) s in
       record {
@@ -163,8 +139,3 @@ module _ (s : List ℕ) (count left : ℕ) (c : EntryCursor) (t : StateSummary) 
         inside = omega arith;
         light = light-next b;
       }
-
-  pub walking-next : Bytes s → (e : AuthenticatorEntry) (d : EntryCursor) → entryStep s c ≡ Entry e d → Walking s count (left - 1) d (withEntry t e)
-  walking-next b e d h =
-      let z = entry-passed s c e d h in
-      rw (← z .1, ← z .2) (walking-behind b (z .0))

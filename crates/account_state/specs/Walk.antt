@@ -7,7 +7,6 @@ use Rattle.protocol.specs.declared.check.Check.{Check}
 use Rattle.protocol.specs.declared.check.Check.the-variants.{Passed, Failed}
 use Rattle.account_state.specs.Reading.{entriesOf, shareOf}
 use Rattle.account_state.specs.State.{entriesRows, behind, endRows, summaryOf}
-use Rattle.account_state.specs.declared.entry.AuthenticatorEntry.{AuthenticatorEntry}
 use Rattle.account_state.specs.declared.walk.StateSummary.{StateSummary}
 use Rattle.account_state.specs.declared.walk.Walk.{Walk}
 use Rattle.account_state.specs.declared.walk.WalkAnswer.{WalkAnswer}
@@ -29,12 +28,12 @@ endFault s w =
     decide Passed (endRows s (w .tail) (w .summary .«spend_weight») (w .summary .«rotate_weight») (w .summary .«recovery_weight»))
 
 -- the weights with one entry's added
-unfoldable pub withEntry : StateSummary → AuthenticatorEntry → StateSummary
-withEntry t e =
+unfoldable pub withEntry : StateSummary → ℕ → ℕ → StateSummary
+withEntry t capabilities weight =
     record {
-      «spend_weight» = t .«spend_weight» + shareOf 1 (e .capabilities) (e .weight);
-      «rotate_weight» = t .«rotate_weight» + shareOf 2 (e .capabilities) (e .weight);
-      «recovery_weight» = t .«recovery_weight» + shareOf 4 (e .capabilities) (e .weight);
+      «spend_weight» = t .«spend_weight» + shareOf 1 capabilities weight;
+      «rotate_weight» = t .«rotate_weight» + shareOf 2 capabilities weight;
+      «recovery_weight» = t .«recovery_weight» + shareOf 4 capabilities weight;
     }
 
 -- the weights have room for those of `left` entries more, of sixteen in all

@@ -52,15 +52,15 @@ impl EntryCursor {
     }
 }
 
-// The lengths and the slot of the entry at the front of the bytes.
+// The lengths and the slot of the entry at the front of the bytes, which have its 48.
 fn check_layout(entry: &[u8], least: u32) -> Check
+    requires { ⌜ 48 ≤ length (now entry) ⌝ }
     ensures { λ r. ⌜ r ≡ decide Passed (layoutRows (now (entry .entry)) least) ⌝ }
 {
     let invalid = ProtocolError::InvalidState;
     let len = u16_at(entry, 0) as usize;
     let parts = 48 + u16_at(entry, 44) as usize + u16_at(entry, 46) as usize;
     Check::Passed
-        .require(48 <= entry.len(), invalid)
         .require(len == parts, invalid)
         .require(len <= entry.len(), invalid)
         .require(least <= u16_at(entry, 2) as u32, invalid)
@@ -85,9 +85,13 @@ fn check_fields(entry: &[u8], check: Check) -> Check
         .require(1 <= u16_at(entry, 46), invalid)
 }
 
-fn check_entry(entry: &[u8], least: u32) -> Check
+// The first row stands alone, so that no read behind it looks for the end of the bytes.
+pub(crate) fn check_entry(entry: &[u8], least: u32) -> Check
     ensures { λ r. ⌜ r ≡ decide Passed (entryRows (now (entry .entry)) least) ⌝ }
 {
+    if entry.len() < 48 {
+        return Check::Failed(ProtocolError::InvalidState);
+    }
     check_fields(entry, check_layout(entry, least))
 }
 
@@ -96,7 +100,7 @@ fn entry_at(state: &[u8], at: usize) -> AuthenticatorEntry
     requires { ⌜ at + 48 ≤ length (now state) ⌝ }
     ensures { λ r. ⌜ r ≡ entryAt (now (state .entry)) at ⌝ }
 {
-    let entry = rest(state, at);
+    let entry = &state[at..];
     let key = u16_at(entry, 44) as usize;
     AuthenticatorEntry {
         slot: u16_at(entry, 2),
@@ -113,11 +117,11 @@ fn entry_at(state: &[u8], at: usize) -> AuthenticatorEntry
     }
 }
 
-fn cursor_behind(state: &[u8], at: usize) -> EntryCursor
+pub(crate) fn cursor_behind(state: &[u8], at: usize) -> EntryCursor
     requires { ⌜ at + 48 ≤ length (now state) ⌝ }
     ensures { λ r. ⌜ r ≡ cursorBehind (now (state .entry)) at ⌝ }
 {
-    let entry = rest(state, at);
+    let entry = &state[at..];
     EntryCursor {
         offset: at + u16_at(entry, 0) as usize,
         least: u16_at(entry, 2) as u32 + 1,

@@ -11,6 +11,8 @@ use protocol::Check;
 use protocol::ProtocolError;
 use protocol::STATE_FLAGS_KNOWN_MASK;
 ghost use mathlib.Core.Path.{_≡_};
+ghost use Prim.Native.Nat.{_≤_};
+ghost use lib.ListN.{length};
 ghost use Rattle.protocol.specs.Rows.{decide};
 ghost use Rattle.protocol.specs.declared.check.Check.the-variants.{Passed};
 ghost use Rattle.account_state.specs.State.{headRows, headerOf, readHeader};
@@ -30,13 +32,16 @@ pub enum StateHeaderAnswer {
     Refused(ProtocolError),
 }
 
+// The first row stands alone, so that no read behind it looks for the end of the bytes.
 pub(crate) fn check_head(state: &[u8]) -> Check
     ensures { λ r. ⌜ r ≡ decide Passed (headRows (now (state .entry))) ⌝ }
 {
     let invalid = ProtocolError::InvalidState;
+    if state.len() < ACCOUNT_STATE_HEADER_LEN {
+        return Check::Failed(invalid);
+    }
     let count = u8_at(state, 22);
     Check::Passed
-        .require(ACCOUNT_STATE_HEADER_LEN <= state.len(), invalid)
         .require(state.len() <= ACCOUNT_STATE_MAX_LEN, invalid)
         .require(u32_at(state, 0) == ACCOUNT_STATE_MAGIC, invalid)
         .require(
@@ -50,17 +55,20 @@ pub(crate) fn check_head(state: &[u8]) -> Check
         .require(count <= 16, invalid)
 }
 
+// The fields of a header that is present.
 pub(crate) fn header_at(state: &[u8]) -> StateHeader
+    requires { ⌜ 32 ≤ length (now state) ⌝ }
     ensures { λ r. ⌜ r ≡ headerOf (now (state .entry)) ⌝ }
 {
+    let head = &state[0..ACCOUNT_STATE_HEADER_LEN];
     StateHeader {
-        flags: u8_at(state, 5),
-        sequence: u64_at(state, 8),
-        spend_threshold: u16_at(state, 16),
-        rotate_threshold: u16_at(state, 18),
-        recovery_threshold: u16_at(state, 20),
-        authenticator_count: u8_at(state, 22),
-        recovery_since: u64_at(state, 24),
+        flags: u8_at(head, 5),
+        sequence: u64_at(head, 8),
+        spend_threshold: u16_at(head, 16),
+        rotate_threshold: u16_at(head, 18),
+        recovery_threshold: u16_at(head, 20),
+        authenticator_count: u8_at(head, 22),
+        recovery_since: u64_at(head, 24),
     }
 }
 

@@ -14,6 +14,8 @@ use octets::u64_at;
 use protocol::Check;
 use protocol::ProtocolError;
 ghost use mathlib.Core.Path.{_≡_};
+ghost use Prim.Native.Nat.{_≤_};
+ghost use lib.ListN.{length};
 ghost use Rattle.protocol.specs.Rows.{decide};
 ghost use Rattle.account_state.specs.State.{recoveryRows, headerOf, stateAnswer, readState};
 ghost use Rattle.account_state.specs.Walk.{endFault};
@@ -24,6 +26,7 @@ pub use self::entry::next_entry;
 pub use self::header::StateHeader;
 pub use self::header::StateHeaderAnswer;
 pub use self::walk::StateSummary;
+pub use self::walk::share;
 
 pub enum StateAnswer {
     Valid(StateHeader, StateSummary),
@@ -66,6 +69,7 @@ fn check_end(state: &[u8], walk: Walk) -> Check
 
 // The answer once every entry passed.
 fn state_end(state: &[u8], walk: Walk) -> StateAnswer
+    requires { ⌜ 32 ≤ length (now state) ⌝ }
     ensures { λ r. ⌜ r ≡ stateAnswer (endFault (now (state .entry)) walk) (headerOf (now (state .entry))) (walk .summary) ⌝ }
 {
     match check_end(state, walk) {

@@ -1,8 +1,9 @@
 // The walk over all entries: their weights by capability, and how many bytes follow them.
-use crate::entry::AuthenticatorEntry;
 use crate::entry::EntryCursor;
-use crate::entry::EntryStep;
-use crate::entry::next_entry;
+use crate::entry::check_entry;
+use crate::entry::cursor_behind;
+use octets::u16_at;
+use protocol::Check;
 use protocol::ProtocolError;
 ghost use mathlib.Core.Path.{_≡_};
 ghost use Prim.Native.Nat.{_+_, _≤_, _<_};
@@ -26,11 +27,13 @@ pub(crate) enum WalkAnswer {
     Refused(ProtocolError),
 }
 
-// The weight that an entry adds to a capability.
-fn share(bit: u16, capabilities: u16, weight: u16) -> u32
-    requires { ⌜ 0 < bit ⌝ }
+// The weight that an entry adds to the capability of a bit; 0 is no bit.
+pub fn share(bit: u16, capabilities: u16, weight: u16) -> u32
     ensures { λ r. ⌜ (r ≡ shareOf bit capabilities weight) × (r < 65536) ⌝ }
 {
+    if bit == 0 {
+        return 0;
+    }
     if capabilities / bit % 2 == 1 {
         weight as u32
     } else {
@@ -38,12 +41,10 @@ fn share(bit: u16, capabilities: u16, weight: u16) -> u32
     }
 }
 
-fn with_entry(summary: StateSummary, entry: AuthenticatorEntry) -> StateSummary
+fn with_entry(summary: StateSummary, capabilities: u16, weight: u16) -> StateSummary
     requires { ⌜ Light 1 summary ⌝ }
-    ensures { λ r. ⌜ r ≡ withEntry summary entry ⌝ }
+    ensures { λ r. ⌜ r ≡ withEntry summary capabilities weight ⌝ }
 {
-    let capabilities = entry.capabilities;
-    let weight = entry.weight;
     StateSummary {
         spend_weight: summary.spend_weight + share(1, capabilities, weight),
         rotate_weight: summary.rotate_weight + share(2, capabilities, weight),
@@ -63,11 +64,13 @@ pub(crate) fn walk_entries(state: &[u8], count: u8) -> WalkAnswer
     };
     let mut left = count;
     while 0 < left {
-        match next_entry(state, cursor) {
-            EntryStep::Refused(error) => return WalkAnswer::Refused(error),
-            EntryStep::Entry(entry, next) => {
-                summary = with_entry(summary, entry);
-                cursor = next;
+        let at = cursor.offset;
+        let entry = &state[at..];
+        match check_entry(entry, cursor.least) {
+            Check::Failed(error) => return WalkAnswer::Refused(error),
+            Check::Passed => {
+                summary = with_entry(summary, u16_at(entry, 6), u16_at(entry, 8));
+                cursor = cursor_behind(state, at);
             }
         }
         left -= 1;

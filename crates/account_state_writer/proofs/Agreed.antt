@@ -2,24 +2,27 @@
 -- Assumes nothing.
 use mathlib.Core.Path.{_≡_, refl, sym, ap, _∙_}
 use mathlib.Core.List.{List, _∷_, [], _++_, append-assoc}
-use Prim.Native.Nat.{ℕ, _+_, _*_, _≤_}
+use Prim.Native.Nat.{ℕ, _+_, _*_, _^_, _≤_, _<_}
 use native.Mathlib.Omega.{arith}
 use borrow.Author.Tests.{leb-true, eqb-true}
 use lib.Dec.{leb}
-use lib.ListN.{length, length-append}
+use lib.ListN.{length, getD, length-append}
 use Rattle.octets.specs.Le.{Bytes}
 use Rattle.octets.specs.Table.{numbers}
-use Rattle.protocol.specs.Rows.{Row, row, decide, Hold}
+use Rattle.protocol.specs.Rows.{Row, row, _▷_, decide, Hold}
 use Rattle.protocol.specs.Write.{writeFault, writeAnswer, afterWrite}
 use Rattle.protocol.specs.declared.check.WriteAnswer.the-variants.{Refused}
 use Rattle.protocol.specs.declared.error.ProtocolError.{ProtocolError}
 use Rattle.protocol.specs.declared.error.ProtocolError.the-variants.{BufferTooShort}
+use Rattle.protocol.specs.declared.check.Check.{Check}
 use Rattle.protocol.specs.declared.check.Check.the-variants.{Passed, Failed}
 use Rattle.protocol.proofs.Hold.{decide-append, decide-failed, hold-passed}
-use Rattle.account_state.specs.Reading.{StateReading, stateHead, stateBytes}
-use Rattle.account_state.specs.State.{stateRows}
+use Rattle.account_state.specs.Reading.{StateReading, StateTyped, stateHead, stateBytes}
+use Rattle.account_state.specs.State.{stateRows, stateFault}
 use Rattle.account_state_writer.specs.Writer.{entryCount, entriesFrom, neededBytes, stateTotal, sliceRows, encodeRows, stateFrom, validWritten, validStored, stateWritten, stateStored}
-use Rattle.account_state_writer.proofs.Lent.{length-all, length-head, length-entries}
+use Rattle.account_state_writer.proofs.Lent.{length-all, length-head, length-entries, entries-typed}
+use Rattle.account_state_writer.proofs.Checked.{state-checked}
+use Rattle.account_state_writer.specs.Checks.{stateChecks}
 
 -- what the rows say
 pub record Agreed (fields bytes : List ℕ) : Type 0 where
@@ -41,6 +44,29 @@ module _ (flags sequence spend rotate recovery since : ℕ) (fields bytes : List
   length-state b n =
       let e = length-all (entryCount fields) fields bytes b (omega arith) in
       rw (length-append, length-head, e) (omega arith)
+
+  -- what the checks find, with the room, is what the state's rows find
+  pub state-found : flags < 2 ^ 8 → sequence < 2 ^ 64 → spend < 2 ^ 16 → rotate < 2 ^ 16 → recovery < 2 ^ 16 → since < 2 ^ 64
+      → ((i : ℕ) → getD fields i 0 < 65536) → Bytes bytes → Agreed fields bytes → (room : ℕ)
+      → (decide Passed (stateChecks flags spend rotate recovery since (entriesFrom (entryCount fields) fields bytes)) ▷ row (leb (stateTotal fields bytes) room) BufferTooShort)
+      ≡ writeFault (stateRows (stateBytes r)) (stateTotal fields bytes) room
+  unfolding stateFrom stateTotal stateFault writeFault decide
+  state-found h₁ h₂ h₃ h₄ h₅ h₆ f b g room =
+      let z = entries-typed (entryCount fields) fields bytes f b (omega (arith, g .needed)) (omega (arith, g .total)) in
+      let y : StateTyped r =
+      record {
+        flags = h₁;
+        sequence = h₂;
+        spend = h₃;
+        rotate = h₄;
+        recovery = h₅;
+        since = h₆;
+        count = rw (length-entries (entryCount fields) fields bytes) (omega (arith, g .count));
+        entries = z .0;
+      } in
+      let e = state-checked r y (z .1) (rw (length-state b (g .needed)) (g .total)) in
+      ap (λ (k : Check). k ▷ row (leb (stateTotal fields bytes) room) BufferTooShort) (sym e)
+      ∙ sym (decide-append Passed (stateRows (stateBytes r)) (row (leb (stateTotal fields bytes) room) BufferTooShort ∷ []))
 
 -- a refusal of the slices is the writer's
 pub slices-failed : (r : StateReading) (fields bytes : List ℕ) (total room : ℕ) (e : ProtocolError) → decide Passed (sliceRows fields bytes) ≡ Failed e

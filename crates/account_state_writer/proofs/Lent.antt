@@ -4,6 +4,7 @@ use mathlib.Core.Path.{_≡_, refl, sym, ap, _∙_}
 use mathlib.Core.Bool.{Bool, true, false}
 use mathlib.Core.List.{List, [], _∷_, _++_, append-assoc, append-nil}
 use Prim.Native.Nat.{ℕ, zero, suc, _+_, _-_, _*_, _≤_, _<_}
+use native.Mathlib.Nat.{add-zero}
 use native.Mathlib.Omega.{arith}
 use borrow.Author.Tests.{eq-eqb, ne-eqb, eqb-true, eqb-false}
 use lib.Dec.{eqb}
@@ -12,11 +13,18 @@ use lib.Seq.{drop-drop, getD-drop, sets}
 use Rattle.octets.specs.Le.{numberAt, toLe, Bytes}
 use Rattle.octets.specs.Table.{Number, numbers}
 use Rattle.octets.proofs.TableLaws.{number-back, storeNumbers, numbers-stored, length-numbers}
-use Rattle.octets.proofs.LeLaws.{length-to, bytes-drop}
+use Rattle.octets.proofs.LeLaws.{length-to, bytes-drop, number-lt}
 use Rattle.octets.proofs.Parts.{join, part-length}
 use Rattle.octets.proofs.Stores.{sets-append}
-use Rattle.account_state.specs.Reading.{EntryReading, entrySize, entryHead, entryLengths, entryBytes, entriesBytes, headNumbers}
+use Rattle.account_state.specs.Reading.{EntryReading, EntryTyped, EntriesTyped, entrySize, entryHead, entryLengths, entryBytes, entriesBytes, headNumbers, shareOf, weightOf}
+use Rattle.account_state.proofs.Inverse.{Keys}
 use Rattle.account_state_writer.specs.Writer.{auxOf, entryFrom, fieldNumbers, entriesFrom, neededBytes}
+use Rattle.account_state_writer.specs.Checks.{entryChecks, entriesChecks, lentWeight}
+use Rattle.protocol.specs.Rows.{decide}
+use Rattle.protocol.specs.declared.error.ProtocolError.{ProtocolError}
+use Rattle.protocol.specs.declared.check.Check.{Check}
+use Rattle.protocol.specs.declared.check.Check.the-variants.{Passed, Failed}
+use Rattle.protocol.proofs.Hold.{decide-append, decide-failed}
 
 -- a test of equality, by what decides it
 eqb-by : (a b c d : ℕ) (t : Bool) → eqb a b ≡ t → (a ≡ b → c ≡ d) → ((a ≡ b → ⊥) → c ≡ d → ⊥) → t ≡ eqb c d
@@ -53,6 +61,11 @@ module _ (fields : List ℕ) (count i : ℕ) (h : i < count) where
   unfolding entriesFrom
   entries-turn bytes from = rw (one, behind, aux-at, drop-drop (66 + getD fields (5 * i + 4) 0) from bytes)
 
+  pub weight-turn : (bit : ℕ) → lentWeight bit (count - i) (drop (5 * i) fields)
+      ≡ shareOf bit (getD fields (5 * i + 2) 0) (getD fields (5 * i + 3) 0) + lentWeight bit (count - (i + 1)) (drop (5 * (i + 1)) fields)
+  unfolding lentWeight
+  weight-turn bit = rw (one, behind, getD-drop (5 * i) fields 2 0, getD-drop (5 * i) fields 3 0)
+
   -- a turn of the loop that counts the bytes down
   pub left-turn : (left : ℕ) → 66 + getD fields (5 * i + 4) 0 ≤ left
       → eqb (neededBytes (count - (i + 1)) (drop (5 * (i + 1)) fields)) (left - (66 + getD fields (5 * i + 4) 0)) ≡ eqb (neededBytes (count - i) (drop (5 * i) fields)) left
@@ -67,6 +80,17 @@ module _ (fields : List ℕ) (count i : ℕ) (h : i < count) where
 pub needed-none : (n : ℕ) (fields : List ℕ) → n ≡ 0 → neededBytes n fields ≡ 0
 unfolding neededBytes
 needed-none n fields e = rw e
+
+pub weight-none : (bit n : ℕ) (fields : List ℕ) → n ≡ 0 → lentWeight bit n fields ≡ 0
+unfolding lentWeight
+weight-none bit n fields e = rw e
+
+-- the weights of the entries do not depend on their bytes
+pub weight-lent : (bit n : ℕ) (fields bytes : List ℕ) → weightOf bit (entriesFrom n fields bytes) ≡ lentWeight bit n fields
+unfolding weightOf entriesFrom entryFrom lentWeight
+weight-lent bit zero fields bytes = refl
+weight-lent bit (suc n) fields bytes =
+    ap (λ (m : ℕ). shareOf bit (getD fields 2 0) (getD fields 3 0) + m) (weight-lent bit n (drop 5 fields) (drop (66 + auxOf fields) bytes))
 
 pub entries-none : (n : ℕ) (fields bytes : List ℕ) → n ≡ 0 → entriesBytes (entriesFrom n fields bytes) ≡ []
 unfolding entriesFrom entriesBytes
@@ -139,6 +163,30 @@ entries-next fields bytes count i at from out after whole h b room stored left =
     rw (stored, sets-append out at (entryBytes (entryFrom f g)) _ (at + (80 + getD fields (5 * i + 4) 0)) (rw n (omega arith)))
     (ap (sets out at) (ap entriesBytes (sym (entries-turn fields count i h bytes from))) ∙ left)
 
+-- the entries are values of their types, and each key has 32 bytes
+pub entries-typed : (n : ℕ) (fields bytes : List ℕ) → ((i : ℕ) → getD fields i 0 < 65536) → Bytes bytes → neededBytes n fields ≤ length bytes → length bytes ≤ 16384
+    → EntriesTyped (entriesFrom n fields bytes) × Keys (entriesFrom n fields bytes)
+unfolding entriesFrom entryFrom neededBytes
+entries-typed zero fields bytes f b h k = (tt, tt)
+entries-typed (suc n) fields bytes f b h k =
+    let a = auxOf fields in
+    let l : length (drop (66 + a) bytes) ≡ length bytes - (66 + a) = length-drop (66 + a) bytes in
+    let m : length (take 32 (drop 34 bytes)) ≡ 32 = part-length bytes 34 32 (omega arith) in
+    let x : length (take a (drop 66 bytes)) ≡ a = part-length bytes 66 a (omega arith) in
+    let r = entries-typed n (drop 5 fields) (drop (66 + a) bytes) (λ i. rw (getD-drop 5 fields i 0) (f (5 + i))) (bytes-drop (66 + a) bytes b) (omega arith) (omega arith) in
+    let y : EntryTyped (entryFrom fields bytes) =
+    record {
+      slot = f 0;
+      algorithm = f 1;
+      capabilities = f 2;
+      weight = f 3;
+      hashType = number-lt bytes 0 1 b;
+      abi = number-lt bytes 1 1 b;
+      codeHash = part-length bytes 2 32 (omega arith);
+      size = omega arith;
+    } in
+    ((y, r .0), (m, r .1))
+
 pub length-entries : (n : ℕ) (fields bytes : List ℕ) → length (entriesFrom n fields bytes) ≡ n
 unfolding entriesFrom
 length-entries zero fields bytes = refl
@@ -159,3 +207,32 @@ length-all (suc n) fields bytes b h =
 pub length-head : (flags sequence spend rotate recovery count since : ℕ) → length (numbers (headNumbers flags sequence spend rotate recovery count since)) ≡ 32
 unfolding headNumbers
 length-head flags sequence spend rotate recovery count since = length-numbers (headNumbers flags sequence spend rotate recovery count since)
+
+-- a turn of the loop that checks the entries
+module _ (fields bytes : List ℕ) (count i from least : ℕ) (h : i < count) (whole : Check) (left : decide Passed (entriesChecks (entriesFrom (count - i) (drop (5 * i) fields) (drop from bytes)) least) ≡ whole) where
+  abbrev first : EntryReading
+  first = entryFrom (drop (5 * i) fields) (drop from bytes)
+
+  abbrev others : List EntryReading
+  others = entriesFrom (count - (i + 1)) (drop (5 * (i + 1)) fields) (drop (from + (66 + getD fields (5 * i + 4) 0)) bytes)
+
+  slot-lent : first .slot ≡ getD fields (5 * i) 0
+  unfolding entryFrom
+  slot-lent = getD-drop (5 * i) fields 0 0 ∙ ap (λ (n : ℕ). getD fields n 0) (add-zero (5 * i))
+
+  parted : decide (decide Passed (entryChecks first least)) (entriesChecks others (getD fields (5 * i) 0 + 1)) ≡ whole
+  unfolding entriesChecks
+  parted =
+      ap (λ (n : ℕ). decide (decide Passed (entryChecks first least)) (entriesChecks others (n + 1))) (sym slot-lent)
+      ∙ (sym (decide-append Passed (entryChecks first least) (entriesChecks others (first .slot + 1)))
+      ∙ (ap (λ (es : List EntryReading). decide Passed (entriesChecks es least)) (sym (entries-turn fields count i h bytes from)) ∙ left))
+
+  pub checks-failed : (x : ProtocolError) → decide Passed (entryChecks first least) ≡ Failed x → Failed x ≡ whole
+  checks-failed x k = sym (decide-failed (entriesChecks others (getD fields (5 * i) 0 + 1)) x) ∙ (rw k at parted)
+
+  pub checks-next : decide Passed (entryChecks first least) ≡ Passed → decide Passed (entriesChecks others (getD fields (5 * i) 0 + 1)) ≡ whole
+  checks-next k = rw k at parted
+
+pub checks-none : (n : ℕ) (fields bytes : List ℕ) (least : ℕ) → n ≡ 0 → decide Passed (entriesChecks (entriesFrom n fields bytes) least) ≡ Passed
+unfolding entriesFrom entriesChecks decide
+checks-none n fields bytes least e = rw e

@@ -1,14 +1,13 @@
-// The writer of account states, from lent slices of numbers and bytes. The state is made in a local buffer, validated there, and
-// copied out only where nothing refuses it.
+// The writer of account states, from lent slices of numbers and bytes. The state is written only where no check refuses it.
 mod slices; // slices.rt
+mod check; // check.rt
 mod layout; // layout.rt
-mod valid; // valid.rt
 
+use self::check::check_state;
 use self::layout::store_state;
 use self::slices::check_slices;
-use self::valid::write_valid;
-use protocol::ACCOUNT_STATE_MAX_LEN;
 use protocol::Check;
+use protocol::ProtocolError;
 use protocol::WriteAnswer;
 ghost use mathlib.Core.Path.{_≡_};
 ghost use lib.ListN.{length};
@@ -33,19 +32,27 @@ fn encode_agreed(
     ensures { λ _. ⌜ now (out .exit) ≡ validStored (stateBytes (stateFrom flags sequence spend rotate recovery since (now (fields .entry)) (now (bytes .entry)))) (now (out .entry)) ⌝ }
 {
     let total = 32 + 14 * (fields.len() / 5) + bytes.len();
-    let mut state = [0u8; ACCOUNT_STATE_MAX_LEN];
-    store_state(
-        flags,
-        sequence,
-        spend,
-        rotate,
-        recovery,
-        since,
-        fields,
-        bytes,
-        &mut state,
+    let check = check_state(flags, spend, rotate, recovery, since, fields, bytes).require(
+        total <= out.len(),
+        ProtocolError::BufferTooShort,
     );
-    write_valid(&state[0..total], out)
+    match check {
+        Check::Failed(error) => WriteAnswer::Refused(error),
+        Check::Passed => {
+            store_state(
+                flags,
+                sequence,
+                spend,
+                rotate,
+                recovery,
+                since,
+                fields,
+                bytes,
+                out,
+            );
+            WriteAnswer::Written(total)
+        }
+    }
 }
 
 // Writes the state to the front of `out` and answers its length. A refused writer writes nothing.

@@ -17,6 +17,9 @@ walk-entries-requires c κs =
     let z = head-room _ (head (c .before)) in
     (z .0, rw (c .u8-at .ensures) (z .1))
 
+state-end-requires : tie.Need-state-end-requires
+state-end-requires c κs = head-room _ (head (c .before .before .before .before .before)) .0
+
 returns : tie.Need-returns
 unfolding readState stateAnswer
 returns c = rw (fault-head _ _ (sym (c .before .before .before .check-head .ensures) ∙ c .before .error .given .1))
@@ -47,7 +50,7 @@ validate-state-spec =
     walk-entries-requires
     (λ c. search needs)
     (λ c. search needs)
-    (λ c κs. search needs)
+    state-end-requires
     returns
     returns-2
     returns-3)

@@ -1,14 +1,19 @@
--- `account_state_writer::encode_agreed` meets its contract: the buffer holds the state that the slices say. Assumes nothing.
-use mathlib.Core.Path.{_≡_, refl, sym, ap, _∙_}
-use mathlib.Core.List.{List}
-use Prim.Native.Nat.{ℕ, _+_, _-_, _*_, _/_, _≤_}
-use native.Mathlib.Nat.{sub-zero}
+-- `account_state_writer::encode_agreed` meets its contract: by what the checks find, and the state as it is stored. Assumes nothing.
+use mathlib.Core.Path.{_≡_, _∙_}
 use native.Mathlib.Omega.{arith}
-use lib.ListN.{length, take, replicate, length-replicate}
-use Rattle.octets.proofs.Stores.{front-back}
+use lib.Dec.{leb}
+use lib.ListN.{length}
+use Rattle.octets.specs.Le.{Bytes}
+use Rattle.protocol.specs.Rows.{row, _▷_, decide}
+use Rattle.protocol.specs.Write.{writeFault}
+use Rattle.protocol.specs.declared.error.ProtocolError.the-variants.{BufferTooShort}
+use Rattle.protocol.specs.declared.check.Check.the-variants.{Passed}
+use Rattle.protocol.proofs.Outcome.{write-refused, write-done}
 use Rattle.account_state.specs.Reading.{stateBytes}
-use Rattle.account_state_writer.specs.Writer.{entryCount, stateTotal, stateFrom}
-use Rattle.account_state_writer.proofs.Agreed.{Agreed, agreed, length-state}
+use Rattle.account_state.specs.State.{stateRows}
+use Rattle.account_state_writer.specs.Writer.{entriesFrom, entryCount, stateTotal, stateFrom, validWritten, validStored}
+use Rattle.account_state_writer.specs.Checks.{stateChecks}
+use Rattle.account_state_writer.proofs.Agreed.{agreed, length-state, state-found}
 use borrow.Author.Needs.{needs}
 use Rattle.account_state_writer.proofs.encode_agreed.Statement.{statement}
 use Rattle.account_state_writer.proofs.encode_agreed.Tie as tie
@@ -17,29 +22,52 @@ add-total-2 : tie.Need-add-total-2
 unfolding entryCount
 add-total-2 c = let h = agreed _ _ (c .before .before .before .pre) in omega (arith, h .total)
 
+check-state-requires : tie.Need-check-state-requires
+check-state-requires c κs = agreed _ _ (c .before .before .before .pre) .needed
+
 store-state-requires : tie.Need-store-state-requires
-store-state-requires c κs = let h = agreed _ _ (c .before .before .before .before .pre) in (h .count, (h .needed, h .total))
+store-state-requires c κs =
+    let h = agreed _ _ (c .before .before .before .before .before .before .before .before .pre) in
+    (h .count, (h .needed, h .total))
 
-part-write-valid-end : tie.Need-part-write-valid-end
-unfolding entryCount
-part-write-valid-end c =
-    let h = agreed _ _ (c .before .before .before .before .before .before .before .pre) in
-    omega (arith, h .total)
-
-returns : tie.Need-returns
-unfolding entryCount stateTotal
-returns c =
-    let w = c .before .before in
-    let k = w .before .before .before .before .before in
-    let s = k .before .before .before .before .before in
-    let a = s .args in
+-- what the checks find is what the state's rows find
+found : (c : tie.After-require)
+    → let a = c .before .before .before .before .before .args in
     let f = a .fields .now in
     let b = a .bytes .now in
-    let h = agreed f b (s .pre) in
-    let r = stateBytes (stateFrom (a .flags) (a .sequence) (a .spend) (a .rotate) (a .recovery) (a .since) f b) in
-    let n : length r ≡ 32 + 14 * (length f / 5) + length b = length-state (a .flags) (a .sequence) (a .spend) (a .rotate) (a .recovery) (a .since) f b (λ i. k .before .before .before .shared-slice-known2 .given i .fits) (h .needed) in
-    let e = front-back (replicate 16384 0) _ r (omega (arith, h .total, length-replicate {A = ℕ} 16384 0)) (k .store-state .ensures) in
-    rw (sub-zero, ← n, e) at (w .write-valid .ensures)
+    let s = stateBytes (stateFrom (a .flags) (a .sequence) (a .spend) (a .rotate) (a .recovery) (a .since) f b) in
+    (length s ≡ stateTotal f b)
+    × ((decide Passed (stateChecks (a .flags) (a .spend) (a .rotate) (a .recovery) (a .since) (entriesFrom (entryCount f) f b)) ▷ row (leb (stateTotal f b) (length (a .out .now))) BufferTooShort)
+    ≡ writeFault (stateRows s) (stateTotal f b) (length (a .out .now)))
+found c =
+    let k = c .before .before .before .before in
+    let a = k .before .args in
+    let x = k .before .fits in
+    let g = agreed (a .fields .now) (a .bytes .now) (k .before .pre) in
+    let b : Bytes (a .bytes .now) = λ i. c .before .before .before .shared-slice-known2 .given i .fits in (
+      length-state (a .flags) (a .sequence) (a .spend) (a .rotate) (a .recovery) (a .since) (a .fields .now) (a .bytes .now) b (g .needed),
+      state-found (a .flags) (a .sequence) (a .spend) (a .rotate) (a .recovery) (a .since) (a .fields .now) (a .bytes .now) (x .flags .fits) (x .sequence .fits) (x .spend .fits) (x .rotate .fits) (x .recovery .fits) (x .since .fits)
+          (λ i. k .shared-slice-known .given i .fits) b g (length (a .out .now)),
+    )
+
+returns : tie.Need-returns
+unfolding validWritten validStored entryCount stateTotal
+returns c =
+    let k = c .before .before .before in
+    let z = found k in
+    rw (z .0) (write-refused _ _ _ _ (k .require .ensures ∙ rw (k .before .check-state .ensures) (z .1)) _ _ (c .before .check .given .1))
+
+returns-2 : tie.Need-returns-2
+unfolding validWritten validStored entryCount stateTotal
+returns-2 c =
+    let told = c .before .before .before .before in
+    let k = told .before .before in
+    let a = k .before .before .before .before .before .args in
+    let f = a .fields .now in
+    let b = a .bytes .now in
+    let s = stateBytes (stateFrom (a .flags) (a .sequence) (a .spend) (a .rotate) (a .recovery) (a .since) f b) in
+    let z = found k in
+    rw (z .0) (write-done (stateRows s) (stateTotal f b) (a .out .now) _ (k .require .ensures ∙ rw (k .before .check-state .ensures) (z .1)) s _ (told .enum-told .given .1) (z .0) (c .before .before .store-state .ensures))
 
 pub encode-agreed-spec : {M : Type 1} → statement M
 encode-agreed-spec =
@@ -48,11 +76,11 @@ encode-agreed-spec =
     (λ c. search needs)
     (λ c. search needs)
     add-total-2
-    (λ c. search needs)
-    store-state-requires
-    (λ c. search needs)
-    (λ c. search needs)
-    part-write-valid-end
+    check-state-requires
     (λ c κs. search needs)
     (λ c. search needs)
-    returns)
+    (λ c. search needs)
+    store-state-requires
+    returns
+    (λ c. search needs)
+    returns-2)

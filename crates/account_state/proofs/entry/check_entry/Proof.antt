@@ -1,13 +1,20 @@
 -- `account_state::entry::check_entry` meets its contract: one list of rows after another. Assumes nothing.
+use borrow.Author.Tests.{lt-leb}
+use Rattle.protocol.specs.Rows.{_▷_, decide}
 use Rattle.protocol.proofs.Hold.{decide-append}
-use Rattle.account_state.specs.State.{entryRows}
+use Rattle.account_state.specs.State.{layoutRows, fieldRows, entryRows}
 use borrow.Author.Needs.{needs}
 use Rattle.account_state.proofs.entry.check_entry.Statement.{statement}
 use Rattle.account_state.proofs.entry.check_entry.Tie as tie
 
 returns : tie.Need-returns
+unfolding entryRows layoutRows fieldRows decide _▷_
+returns c = rw (lt-leb 48 _ (c .if1 .taken))
+
+returns-2 : tie.Need-returns-2
 unfolding entryRows
-returns c = rw (c .check-fields .ensures, c .before .check-layout .ensures, decide-append)
+returns-2 c = rw (c .check-fields .ensures, c .before .check-layout .ensures, decide-append)
 
 pub check-entry-spec : {M : Type 1} → statement M
-check-entry-spec = tie.close (tie.spec (λ c κs. search needs) (λ c κs. search needs) returns)
+check-entry-spec =
+    tie.close (tie.spec returns (λ c κs. search needs) (λ c κs. search needs) returns-2)

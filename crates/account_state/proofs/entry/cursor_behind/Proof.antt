@@ -1,4 +1,8 @@
 -- `account_state::entry::cursor_behind` meets its contract: each field as it is read. Assumes nothing.
+use Prim.Native.Nat.{_-_}
+use native.Mathlib.Omega.{arith}
+use lib.ListN.{length}
+use Rattle.octets.proofs.Parts.{part-clip}
 use Rattle.account_state.specs.State.{cursorBehind}
 use borrow.Author.Needs.{needs}
 use Rattle.account_state.proofs.entry.cursor_behind.Statement.{statement}
@@ -7,13 +11,17 @@ use Rattle.account_state.proofs.entry.cursor_behind.Tie as tie
 returns : tie.Need-returns
 unfolding cursorBehind
 returns c =
-    rw (c .u16-at2 .ensures, c .before .u16-at .ensures, c .before .before .rest .ensures)
+    let a = c .before .before .before .before .args in
+    let s = a .state .now in
+    rw (c .u16-at2 .ensures, c .before .u16-at .ensures, part-clip s (a .at) (length s - a .at) (omega arith))
 
 pub cursor-behind-spec : {M : Type 1} → statement M
 cursor-behind-spec =
     tie.close
     (tie.spec
-    (λ c κs. search needs)
+    (λ c. search needs)
+    (λ c. search needs)
+    (λ c. search needs)
     (λ c κs. search needs)
     (λ c. search needs)
     (λ c. search needs)

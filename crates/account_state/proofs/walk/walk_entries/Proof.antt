@@ -1,12 +1,16 @@
 -- `account_state::walk::walk_entries` meets its contract: what is left to walk gives the whole.
 -- Assumes nothing.
 use mathlib.Core.Path.{_≡_, sym, _∙_}
-use Prim.Native.Nat.{_≤_}
+use Prim.Native.Nat.{_-_, _≤_}
 use native.Mathlib.Omega.{arith}
-use lib.ListN.{length}
+use lib.ListN.{length, take, drop}
 use borrow.Author.Needs.{needs}
+use Rattle.octets.proofs.Parts.{part-clip}
+use Rattle.protocol.specs.Rows.{decide}
+use Rattle.protocol.specs.declared.check.Check.the-variants.{Passed}
+use Rattle.account_state.specs.State.{entryRows}
 use Rattle.account_state.specs.Walk.{Light, walkAnswer, walkOf, walkEntries}
-use Rattle.account_state.proofs.WalkLaws.{Walking, walking-first, walking-next, walking-failed, walking-done}
+use Rattle.account_state.proofs.WalkLaws.{Walking, entry-room, walking-first, walking-next, walking-failed, walking-done}
 use Rattle.account_state.proofs.walk.walk_entries.Statement.{statement}
 use Rattle.account_state.proofs.walk.walk_entries.Tie as tie
 
@@ -21,26 +25,49 @@ loop-holds c =
     let s = c .before .before in
     (s .pre .1, rw (c .first .ensures) (walking-first (s .args .state .now) (s .args .count) (s .pre .0) (s .pre .1)))
 
+-- the rest of the state from the cursor on
+rest : (c : tie.After-entry Inv-loop μ-loop)
+    → let s = c .before .before .before .before .before .args .state .now in
+    let at = c .before .before .loop .cursor .offset in
+    take (length s - at) (drop at s) ≡ drop at s
+rest c =
+    let s = c .before .before .before .before .before .args .state .now in
+    let at = c .before .before .loop .cursor .offset in
+    part-clip s at (length s - at) (omega arith)
+
+-- the entry passed
+passed : (c : tie.After-enum-told Inv-loop μ-loop)
+    → let s = c .before .before .before .before .before .before .before .before .args .state .now in
+    let cursor = c .before .before .before .before .before .loop .cursor in
+    decide Passed (entryRows (drop (cursor .offset) s) (cursor .least)) ≡ Passed
+passed c =
+    let c3 = c .before .before .before in
+    rw (rest c3) at (sym (c .before .before .check-entry .ensures) ∙ c .enum-told .given .1)
+
 returns : tie.Need-returns Inv-loop μ-loop
 unfolding walkEntries walkAnswer
 returns c =
     let c4 = c .before .before .before .before in
-    let h = sym (c .before .before .before .next-entry .ensures) ∙ c .before .error .given .1 in
-    rw (walking-failed _ _ _ _ _ (c4 .loop-test .taken) (c4 .before .loop .inv .1) _ h)
+    let h = rw (rest c4) at (sym (c .before .before .before .check-entry .ensures) ∙ c .before .error .given .1) in
+    rw (walking-failed _ _ _ _ _ (c4 .before .loop-test .taken) (c4 .before .before .loop .inv .1) _ h)
 
 with-entry-requires : tie.Need-with-entry-requires Inv-loop μ-loop
 with-entry-requires c κs =
-    let l = c .before .before .before .before .before .loop .inv .1 .light in
+    let l = c .before .before .before .before .before .before .before .loop .inv .1 .light in
     record { spend = omega arith; rotate = omega arith; recovery = omega arith }
+
+cursor-behind-requires : tie.Need-cursor-behind-requires Inv-loop μ-loop
+cursor-behind-requires c κs = entry-room _ _ _ (passed (c .before .before .before))
 
 loop-again : tie.Need-loop-again Inv-loop μ-loop
 loop-again c =
     let c4 = c .before .before .before .before in
-    let h = sym (c4 .next-entry .ensures) ∙ c .before .before .entry .given .1 in
-    (omega arith, rw (c .with-entry .ensures) (walking-next _ _ _ _ _ (c4 .before .loop-test .taken) (c4 .before .before .loop .inv .1) (λ i. c4 .before .before .before .before .shared-slice-known .given i .fits) _ _ h))
+    let c7 = c4 .before .before .before in
+    let w = walking-next _ _ _ _ _ (c7 .before .loop-test .taken) (c7 .before .before .loop .inv .1) (λ i. c7 .before .before .before .before .shared-slice-known .given i .fits) (passed c4) in
+    (omega arith, rw (c .cursor-behind .ensures, c .before .with-entry .ensures, c .before .before .u16-at2 .ensures, c .before .before .before .u16-at .ensures, rest c7) w)
 
-sub-t12 : tie.Need-sub-t12 Inv-loop μ-loop
-sub-t12 c = c .before .before .loop .inv .1 .inside
+inside : tie.Need-sub-t17 Inv-loop μ-loop
+inside c = c .before .before .loop .inv .1 .inside
 
 returns-2 : tie.Need-returns-2 Inv-loop μ-loop
 unfolding walkEntries walkAnswer walkOf
@@ -57,13 +84,19 @@ walk-entries-spec =
     μ-loop
     (λ c κs. search needs)
     loop-holds
+    (λ c. c .before .loop .inv .1 .inside)
+    (λ c. omega arith)
+    (λ c. omega arith)
     (λ c κs. search needs)
     (λ c. search needs)
     returns
     (λ c. search needs)
+    (λ c κs. search needs)
+    (λ c κs. search needs)
     with-entry-requires
+    cursor-behind-requires
     (λ c. omega arith)
     (λ c. omega arith)
     loop-again
-    sub-t12
+    inside
     returns-2)

@@ -1,53 +1,26 @@
--- `export_answers::words::store_words` meets its contract: what is left to store, stored, is the whole. Assumes nothing.
-use mathlib.Core.Path.{_≡_, refl, sym, ap, _∙_}
-use Prim.Native.Nat.{_*_, _-_, _≤_}
-use native.Mathlib.Omega.{arith}
-use lib.ListN.{length, drop}
-use lib.Seq.{sets, length-sets}
-use Rattle.octets.specs.Table.{numbers}
-use Rattle.export_answers.specs.Words.{words, withWords}
-use Rattle.export_answers.proofs.Table64.{word-stored, words-stored}
+-- `export_answers::words::store_words` meets its contract: the front part is the words, and what is behind it stays. Assumes nothing.
+use Rattle.export_answers.proofs.Table64.{words-front}
 use borrow.Author.Needs.{needs}
 use Rattle.export_answers.proofs.words.store_words.Statement.{statement}
 use Rattle.export_answers.proofs.words.store_words.Tie as tie
 
-abbrev Inv-loop : tie.InvT-loop
-Inv-loop vs out₀ i₀ out i =
-    (i ≤ length vs) × (length out ≡ length out₀) × (sets out (8 * i) (numbers (words (drop i vs))) ≡ withWords vs out₀)
-
-abbrev μ-loop : tie.MeasureT-loop
-μ-loop vs out₀ i₀ out i = length vs - i
-
-loop-holds : tie.Need-loop-holds Inv-loop μ-loop
-unfolding withWords
-loop-holds c = (omega arith, refl, refl)
-
-loop-again : tie.Need-loop-again Inv-loop μ-loop
-loop-again c =
-    let s = c .before .before in
-    let l = s .before .before .before .before .loop in
-    let vs = s .before .before .before .before .before .before .before .args .words .now in
-    (omega arith, ap length (s .store-number .ensures) ∙ simp length-sets (l .inv .1), rw (s .store-number .ensures) (word-stored vs (l .out) (l .i) (omega arith) ∙ l .inv .2))
-
-returns : tie.Need-returns Inv-loop μ-loop
+returns : tie.Need-returns
 returns c =
-    let l = c .before .loop in
-    let vs = c .before .before .before .before .args .words .now in
-    sym (words-stored vs (l .out) (l .i) (omega arith)) ∙ l .inv .2
+    let c4 = c .before .before .before .before in
+    let a = c4 .before .before .before .args in
+    words-front (a .words .now) (a .out .now) _ (c4 .if1 .taken) (c .before .before .store-each .ensures)
 
 pub store-words-spec : {M : Type 1} → statement M
 store-words-spec =
     tie.close
     (tie.spec
-    Inv-loop
-    μ-loop
-    loop-holds
-    (λ c. omega arith)
-    (λ c. omega arith)
-    (λ c. omega arith)
+    (λ c. search needs)
+    (λ c. search needs)
+    (λ c. search needs)
+    (λ c. search needs)
     (λ c κs. search needs)
-    (λ c. omega arith)
-    (λ c. omega arith)
-    loop-again
-    (λ c. omega arith)
-    returns)
+    (λ c κs. search needs)
+    (λ c. search needs)
+    returns
+    (λ c. search needs)
+    (λ c. search needs))

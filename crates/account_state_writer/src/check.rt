@@ -1,0 +1,151 @@
+// The checks of the state that the slices say, before a byte of it is written.
+use account_state::share;
+use protocol::CAP_KNOWN_MASK;
+use protocol::CAP_RECOVERY;
+use protocol::CAP_ROTATE;
+use protocol::CAP_SPEND;
+use protocol::Check;
+use protocol::ProtocolError;
+use protocol::STATE_FLAGS_KNOWN_MASK;
+use protocol::VERIFIER_ABI_V1;
+use protocol::is_supported_algorithm;
+ghost use mathlib.Core.Path.{_≡_};
+ghost use Prim.Native.Nat.{_+_, _*_, _≤_};
+ghost use lib.ListN.{length};
+ghost use Rattle.protocol.specs.Rows.{decide};
+ghost use Rattle.protocol.specs.declared.check.Check.the-variants.{Passed};
+ghost use Rattle.account_state_writer.specs.Writer.{auxOf, entryFrom, entriesFrom, neededBytes, entryCount};
+ghost use Rattle.account_state_writer.specs.Checks.{headChecks, entryChecks, entriesChecks, recoveryChecks, endChecks, stateChecks, lentWeight};
+
+fn check_head(flags: u8, count: usize) -> Check
+    ensures { λ r. ⌜ r ≡ decide Passed (headChecks flags count) ⌝ }
+{
+    let invalid = ProtocolError::InvalidState;
+    Check::Passed
+        .require(flags <= STATE_FLAGS_KNOWN_MASK, invalid)
+        .require(1 <= count, invalid)
+        .require(count <= 16, invalid)
+}
+
+// The entry at the front of the slices.
+fn check_entry(fields: &[u16], bytes: &[u8], least: u32) -> Check
+    requires { ⌜ (5 ≤ length (now fields)) × (66 + auxOf (now fields) ≤ length (now bytes)) ⌝ }
+    ensures { λ r. ⌜ r ≡ decide Passed (entryChecks (entryFrom (now (fields .entry)) (now (bytes .entry))) least) ⌝ }
+{
+    let invalid = ProtocolError::InvalidState;
+    let verifier = ProtocolError::InvalidVerifierRef;
+    Check::Passed
+        .require(least <= fields[0] as u32, invalid)
+        .require(1 <= fields[3], invalid)
+        .require(fields[2] <= CAP_KNOWN_MASK, invalid)
+        .require(bytes[0] <= 1, verifier)
+        .require(bytes[1] == VERIFIER_ABI_V1, verifier)
+        .require(
+            is_supported_algorithm(fields[1]),
+            ProtocolError::UnsupportedAlgorithm,
+        )
+        .require(1 <= fields[4], invalid)
+}
+
+fn check_entries(fields: &[u16], bytes: &[u8], count: usize) -> Check
+    requires { ⌜ (5 * count ≤ length (now fields)) × (neededBytes count (now fields) ≡ length (now bytes)) ⌝ }
+    ensures { λ r. ⌜ r ≡ decide Passed (entriesChecks (entriesFrom count (now (fields .entry)) (now (bytes .entry))) 0) ⌝ }
+{
+    let mut i: usize = 0;
+    let mut from: usize = 0;
+    let mut least: u32 = 0;
+    while i < count {
+        let start = 5 * i;
+        match check_entry(&fields[start..], &bytes[from..], least) {
+            Check::Failed(error) => return Check::Failed(error),
+            Check::Passed => {
+                least = fields[start] as u32 + 1;
+                from += 66 + fields[start + 4] as usize;
+            }
+        }
+        i += 1;
+    }
+    Check::Passed
+}
+
+// The weight of the entries that have the capability of a bit.
+fn weight_of(bit: u16, fields: &[u16], count: usize) -> u32
+    requires { ⌜ (5 * count ≤ length (now fields)) × (count ≤ 16) ⌝ }
+    ensures { λ r. ⌜ r ≡ lentWeight bit count (now (fields .entry)) ⌝ }
+{
+    let mut i: usize = 0;
+    let mut sum: u32 = 0;
+    while i < count {
+        let start = 5 * i;
+        sum += share(bit, fields[start + 2], fields[start + 3]);
+        i += 1;
+    }
+    sum
+}
+
+fn check_recovery(check: Check, flags: u8, recovery: u16, since: u64, weight: u32) -> Check
+    ensures { λ r. ⌜ r ≡ decide check (recoveryChecks flags recovery since weight) ⌝ }
+{
+    let unmet = ProtocolError::UnsatisfiableThreshold;
+    let invalid = ProtocolError::InvalidState;
+    if flags % 2 == 1 {
+        check
+            .require(1 <= recovery, unmet)
+            .require(recovery as u32 <= weight, unmet)
+    } else {
+        check
+            .require(recovery == 0, invalid)
+            .require(since == 0, invalid)
+    }
+}
+
+// The thresholds.
+fn check_end(
+    flags: u8,
+    spend: u16,
+    rotate: u16,
+    recovery: u16,
+    since: u64,
+    fields: &[u16],
+    count: usize,
+) -> Check
+    requires { ⌜ (5 * count ≤ length (now fields)) × (count ≤ 16) ⌝ }
+    ensures { λ r. ⌜ r ≡ decide Passed (endChecks flags spend rotate recovery since (lentWeight 1 count (now (fields .entry))) (lentWeight 2 count (now (fields .entry))) (lentWeight 4 count (now (fields .entry)))) ⌝ }
+{
+    let unmet = ProtocolError::UnsatisfiableThreshold;
+    let check = Check::Passed
+        .require(1 <= spend, unmet)
+        .require(1 <= rotate, unmet)
+        .require(spend as u32 <= weight_of(CAP_SPEND, fields, count), unmet)
+        .require(rotate as u32 <= weight_of(CAP_ROTATE, fields, count), unmet);
+    let weight = weight_of(CAP_RECOVERY, fields, count);
+    check_recovery(check, flags, recovery, since, weight)
+}
+
+// All checks of the state.
+pub(crate) fn check_state(
+    flags: u8,
+    spend: u16,
+    rotate: u16,
+    recovery: u16,
+    since: u64,
+    fields: &[u16],
+    bytes: &[u8],
+) -> Check
+    requires { ⌜ neededBytes (entryCount (now fields)) (now fields) ≡ length (now bytes) ⌝ }
+    ensures { λ r. ⌜ r ≡ decide Passed (stateChecks flags spend rotate recovery since (entriesFrom (entryCount (now (fields .entry))) (now (fields .entry)) (now (bytes .entry)))) ⌝ }
+{
+    let count = fields.len() / 5;
+    match check_head(flags, count) {
+        Check::Failed(error) => Check::Failed(error),
+        Check::Passed => check_entries(fields, bytes, count).and(check_end(
+            flags,
+            spend,
+            rotate,
+            recovery,
+            since,
+            fields,
+            count,
+        )),
+    }
+}
