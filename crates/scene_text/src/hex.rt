@@ -1,9 +1,10 @@
 // Lower-case hexadecimal digits.
 ghost use mathlib.Core.Path.{_≡_};
-ghost use Prim.Native.Nat.{_+_, _/_, _<_, _≤_};
+ghost use mathlib.Core.Bool.{cond};
+ghost use Prim.Native.Nat.{_+_, _-_, _/_, _<_, _≤_};
 ghost use lib.ListN.{length};
 ghost use lib.Seq.{sets};
-ghost use Rattle.scene_text.specs.Text.{isHex, hexVal, hexOk, hexBytes};
+ghost use Rattle.scene_text.specs.Text.{between, isHex, hexVal, hexOk, hexBytes};
 
 // Whether x is a digit.
 fn is_hex(x: u8) -> bool
@@ -21,24 +22,27 @@ fn is_hex(x: u8) -> bool
     x <= 102
 }
 
-// The value of a digit; 0 for any other byte.
+// x less base where x is from low to high, else 0.
+fn offset(x: u8, low: u8, high: u8, base: u8) -> u8
+    requires { ⌜ base ≤ low ⌝ }
+    ensures { λ r. ⌜ r ≡ cond (between low high x) (x - base) 0 ⌝ }
+    ensures { λ r. ⌜ r ≤ high - base ⌝ }
+{
+    if x < low {
+        return 0;
+    }
+    if x <= high {
+        return x - base;
+    }
+    0
+}
+
+// The value of a digit; 0 for any other byte. A sum and no choice, so that random digits cost no wrong guesses.
 pub fn hex_value(x: u8) -> u8
     ensures { λ r. ⌜ r ≡ hexVal x ⌝ }
     ensures { λ r. ⌜ r < 16 ⌝ }
 {
-    if x < 48 {
-        return 0;
-    }
-    if x <= 57 {
-        return x - 48;
-    }
-    if x < 97 {
-        return 0;
-    }
-    if x <= 102 {
-        return x - 87;
-    }
-    0
+    offset(x, 48, 57, 48) + offset(x, 97, 102, 87)
 }
 
 // Whether s has two digits for each byte.
