@@ -17,6 +17,7 @@ use Rattle.scene_line.specs.Line.{formsOk, lineBytes}
 use Rattle.scene_line.specs.Kind.{place, firstForm}
 use Rattle.scene_reader.specs.Reader.{Held, Outcome, refused, held, seenWith, put, stepAs}
 
+-- the rows of one line, in the order of document 01's table
 unfoldable pub lineRows : Held → Kind → List (List ℕ) → List Row
 lineRows h k fs =
     row (not (eqb (place k) 0)) InvalidLine

@@ -20,3 +20,8 @@ pub decimal-grows : (v : ℕ) (s : List ℕ) → v ≤ decimal v s
 unfolding decimal
 decimal-grows v [] = omega arith
 decimal-grows v (x ∷ s) = let h = decimal-grows (v * 10 + (x - 48)) s in omega arith
+
+-- a number that exceeds a limit with its next digit exceeds it in the end
+pub decimal-over : (n v : ℕ) (s : List ℕ) (i : ℕ) → i < length s → n ≤ v * 10 + (getD s i 0 - 48) → n ≤ decimal v (drop i s)
+decimal-over n v s i h over =
+    omega (arith, decimal-on v s i h, decimal-grows (v * 10 + (getD s i 0 - 48)) (drop (i + 1) s))

@@ -37,7 +37,7 @@ fn offset(x: u8, low: u8, high: u8, base: u8) -> u8
     0
 }
 
-// The value of a digit; 0 for any other byte. A sum and no choice, so that random digits cost no wrong guesses.
+// The value of a digit; 0 for any other byte. It is a sum, of which one part is 0, since a branch on random digits is slow.
 pub fn hex_value(x: u8) -> u8
     ensures { λ r. ⌜ r ≡ hexVal x ⌝ }
     ensures { λ r. ⌜ r < 16 ⌝ }

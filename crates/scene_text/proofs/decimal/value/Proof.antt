@@ -1,12 +1,12 @@
 -- `scene_text::decimal::value` meets its contract. Assumes nothing.
 use borrow.Author.Needs.{needs}
 use native.Mathlib.Omega.{arith}
-use Prim.Native.Nat.{_+_, _-_, _*_, _≤_, _<_, _^_}
+use Prim.Native.Nat.{_-_, _≤_, _<_, _^_}
 use mathlib.Core.Path.{_≡_, refl, _∙_}
-use lib.ListN.{length, drop, getD}
+use lib.ListN.{length, drop}
 use borrow.Author.Tests.{lt-ltb, le-ltb}
 use Rattle.scene_text.proofs.Tests.{all-at, between-low}
-use Rattle.scene_text.proofs.DecimalLaws.{decimal-on, decimal-end, decimal-grows}
+use Rattle.scene_text.proofs.DecimalLaws.{decimal-on, decimal-end, decimal-over}
 use Rattle.scene_text.specs.Text.{between, decimal, numberOf}
 use Rattle.scene_text.proofs.decimal.value.Statement.{statement}
 use Rattle.scene_text.proofs.decimal.value.Tie as tie
@@ -31,7 +31,7 @@ unfolding numberOf
 returns c =
     let s = c .before .before .before .before .args .s .now in
     let l = c .before .before .before .loop in
-    let big : 2 ^ 64 ≤ decimal 0 s = omega (arith, decimal-on (l .v) s (l .i) (c .before .before .loop-test .taken), decimal-grows (l .v * 10 + (getD s (l .i) 0 - 48)) (drop (l .i + 1) s)) in
+    let big : 2 ^ 64 ≤ decimal 0 s = rw (l .inv .2) (decimal-over (2 ^ 64) (l .v) s (l .i) (c .before .before .loop-test .taken) (omega arith)) in
     rw (le-ltb _ _ big)
 
 returns-2 : tie.Need-returns-2 Inv-loop μ-loop
@@ -39,7 +39,7 @@ unfolding numberOf
 returns-2 c =
     let s = c .before .before .before .before .before .args .s .now in
     let l = c .before .before .before .before .loop in
-    let big : 2 ^ 64 ≤ decimal 0 s = omega (arith, decimal-on (l .v) s (l .i) (c .before .before .before .loop-test .taken), decimal-grows (l .v * 10 + (getD s (l .i) 0 - 48)) (drop (l .i + 1) s)) in
+    let big : 2 ^ 64 ≤ decimal 0 s = rw (l .inv .2) (decimal-over (2 ^ 64) (l .v) s (l .i) (c .before .before .before .loop-test .taken) (omega arith)) in
     rw (le-ltb _ _ big)
 
 loop-again : tie.Need-loop-again Inv-loop μ-loop
