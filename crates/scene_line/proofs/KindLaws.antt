@@ -1,0 +1,45 @@
+-- The kinds' places and fields, and what a line's kind says. Assumes nothing.
+use Prim.Native.Nat.{ℕ, _<_}
+use mathlib.Core.Bool.{Bool, true, false, cond, _&&_}
+use mathlib.Core.Path.{_≡_, refl}
+use mathlib.Core.List.{List, _∷_}
+use native.Mathlib.Omega.{arith}
+use borrow.Author.Tests.{eqb-true}
+use lib.ListN.{length}
+use lib.Dec.{eqb}
+use Rattle.scene_text.proofs.Tests.{and-left, and-right}
+use Rattle.scene_line.specs.declared.kind.Kind.{Kind}
+use Rattle.scene_line.specs.declared.kind.Kind.the-variants.{Script, Tx, Input, Output, Dep, Witness, Verdicts, Unknown}
+use Rattle.scene_line.specs.Kind.{place, fieldCount, kindOf, follows, lineKind}
+
+pub place-small : (k : Kind) → place k < 8
+place-small Script = omega arith
+place-small Tx = omega arith
+place-small Input = omega arith
+place-small Output = omega arith
+place-small Dep = omega arith
+place-small Witness = omega arith
+place-small Verdicts = omega arith
+place-small Unknown = omega arith
+
+-- a line has a field at least
+pub counted : (k : Kind) → eqb 0 (fieldCount k) ≡ false
+counted Script = refl
+counted Tx = refl
+counted Input = refl
+counted Output = refl
+counted Dep = refl
+counted Witness = refl
+counted Verdicts = refl
+counted Unknown = refl
+
+-- a line's kind is one whose row 2 holds
+pub shape : (last : ℕ) (w : List ℕ) (fs : List (List ℕ)) → (place (lineKind last (w ∷ fs)) ≡ 0 → ⊥)
+    → (length fs ≡ fieldCount (lineKind last (w ∷ fs))) × (follows last (place (lineKind last (w ∷ fs))) ≡ true)
+unfolding lineKind
+shape last w fs h = go (kindOf w) (follows last (place (kindOf w)) && eqb (length fs) (fieldCount (kindOf w))) refl h
+  where
+    go : (k : Kind) (b : Bool) → (follows last (place k) && eqb (length fs) (fieldCount k)) ≡ b → (place (cond b k Unknown) ≡ 0 → ⊥)
+        → (length fs ≡ fieldCount (cond b k Unknown)) × (follows last (place (cond b k Unknown)) ≡ true)
+    go k true t h = (eqb-true (length fs) (fieldCount k) (and-right (follows last (place k)) (eqb (length fs) (fieldCount k)) t), and-left (follows last (place k)) (eqb (length fs) (fieldCount k)) t)
+    go k false t h = absurd (h refl)

@@ -1,0 +1,118 @@
+// The kinds of lines.
+use crate::form::Form;
+use octets::same_bytes;
+use scene_text::count;
+ghost use mathlib.Core.Path.{_≡_};
+ghost use mathlib.Core.Bool.{cond};
+ghost use mathlib.Core.List.{_∷_};
+ghost use Rattle.scene_text.specs.Text.{pieces};
+ghost use Rattle.scene_line.specs.Kind.{place, fieldCount, firstForm, kindOf, follows, lineKind};
+
+pub enum Kind {
+    Script,
+    Tx,
+    Input,
+    Output,
+    Dep,
+    Witness,
+    Verdicts,
+    Unknown,
+}
+
+// A kind's place in the order, 0 for none.
+pub fn place_of(k: Kind) -> usize
+    ensures { λ r. ⌜ r ≡ place k ⌝ }
+{
+    match k {
+        Kind::Script => 1,
+        Kind::Tx => 2,
+        Kind::Input => 3,
+        Kind::Output => 4,
+        Kind::Dep => 5,
+        Kind::Witness => 6,
+        Kind::Verdicts => 7,
+        Kind::Unknown => 0,
+    }
+}
+
+// How many fields follow the word.
+fn field_count(k: Kind) -> usize
+    ensures { λ r. ⌜ r ≡ fieldCount k ⌝ }
+{
+    match k {
+        Kind::Script => 1,
+        Kind::Tx => 1,
+        Kind::Input => 6,
+        Kind::Output => 4,
+        Kind::Dep => 4,
+        Kind::Witness => 1,
+        Kind::Verdicts => 1,
+        Kind::Unknown => 1,
+    }
+}
+
+// The form of the first field.
+pub fn first_form(k: Kind) -> Form
+    ensures { λ r. ⌜ r ≡ firstForm k ⌝ }
+{
+    match k {
+        Kind::Script => Form::Hex,
+        Kind::Tx => Form::Hash,
+        Kind::Input => Form::Group,
+        Kind::Output => Form::TypeHash,
+        Kind::Dep => Form::TypeHash,
+        Kind::Witness => Form::Hex,
+        Kind::Verdicts => Form::Digits,
+        Kind::Unknown => Form::Hex,
+    }
+}
+
+// k where hit, else other.
+fn pick(hit: bool, k: Kind, other: Kind) -> Kind
+    ensures { λ r. ⌜ r ≡ cond hit k other ⌝ }
+{
+    if hit { k } else { other }
+}
+
+// The kind that a word names.
+fn kind_of(w: &[u8]) -> Kind
+    ensures { λ r. ⌜ r ≡ kindOf (now (w .entry)) ⌝ }
+{
+    let k = pick(same_bytes(w, b"verdicts"), Kind::Verdicts, Kind::Unknown);
+    let k = pick(same_bytes(w, b"witness"), Kind::Witness, k);
+    let k = pick(same_bytes(w, b"dep"), Kind::Dep, k);
+    let k = pick(same_bytes(w, b"output"), Kind::Output, k);
+    let k = pick(same_bytes(w, b"input"), Kind::Input, k);
+    let k = pick(same_bytes(w, b"tx"), Kind::Tx, k);
+    pick(same_bytes(w, b"script"), Kind::Script, k)
+}
+
+// Whether a line at place k may follow one at place last.
+fn may_follow(last: usize, k: usize) -> bool
+    ensures { λ r. ⌜ r ≡ follows last k ⌝ }
+{
+    if last < 2 {
+        return k == last + 1;
+    }
+    if k < 3 {
+        return false;
+    }
+    if k < last {
+        return false;
+    }
+    last != 7
+}
+
+// The kind of a line with this word and these fields, Unknown where its word, its place or its count of fields is wrong.
+pub fn line_kind(word: &[u8], fields: &[u8], last: usize) -> Kind
+    ensures { λ r. ⌜ r ≡ lineKind last (now (word .entry) ∷ pieces 44 (now (fields .entry))) ⌝ }
+{
+    let k = kind_of(word);
+    if !may_follow(last, place_of(k)) {
+        return Kind::Unknown;
+    }
+    if count(fields, 44) != field_count(k) {
+        return Kind::Unknown;
+    }
+    k
+}

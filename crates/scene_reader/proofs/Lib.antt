@@ -1,0 +1,5 @@
+pub mod Zeroed
+pub mod NumberLaws
+pub mod Bounds
+pub mod Runs
+pub mod LineRows

@@ -1,0 +1,46 @@
+-- `scene_reader::lines::read_line` meets its contract. Assumes nothing.
+use native.Mathlib.Omega.{arith}
+use mathlib.Core.Path.{_∙_}
+use lib.ListN.{length, take}
+use borrow.Author.Needs.{needs}
+use mathlib.Core.Bool.{and-false}
+use Rattle.scene_reader.proofs.Runs.{kept-more}
+use Rattle.scene_text.specs.Text.{pieces}
+use Rattle.scene_line.proofs.KindLaws.{shape, counted}
+use Rattle.scene_line.specs.Kind.{lineKind, kindOf, fieldsOf}
+use Rattle.scene_reader.specs.Reader.{stepAs, step}
+use Rattle.scene_reader.proofs.lines.read_line.Statement.{statement}
+use Rattle.scene_reader.proofs.lines.read_line.Tie as tie
+
+returns : tie.Need-returns
+unfolding step lineKind fieldsOf stepAs
+returns c = (rw (c .before .find .ensures .whole (c .if1 .taken), counted (kindOf (take (c .before .find .result) (c .before .before .before .before .before .args .line .now))), and-false), tt)
+
+read-as-requires : tie.Need-read-as-requires
+read-as-requires c κs =
+    let p = c .before .before .before .before .before .before .before .before .before .before .pre in (
+      record { known = p .known; few = p .few; inside = p .inside; small = omega arith; enough = p .enough; fits = p .fits },
+      rw (c .before .before .line-kind .ensures) (shape (c .before .before .before .before .before .before .before .before .before .before .args .s .last) _ (pieces 44 (c .before .before .before .before .tail .result .now))),
+    )
+
+returns-2 : tie.Need-returns-2
+unfolding step fieldsOf
+returns-2 c =
+    let a = c .before .before .before .before .before .before .before .before .before .before .before .before .before .before .before .args in (
+      c .before .before .before .before .read-as .ensures .0 ∙ rw (c .before .before .before .before .before .before .before .line-kind .ensures, c .before .before .before .before .before .before .before .before .head .ensures .0, c .before .before .before .before .before .before .before .before .before .tail .ensures .0, c .before .before .before .before .before .before .before .before .before .before .before .find .ensures .cut (omega arith)),
+      kept-more (a .s) (length (c .before .before .before .before .before .before .before .before .before .tail .result .now)) (length (a .line .now)) (length (a .store .now)) (length (a .table .now)) (omega arith) (c .before .before .before .before .read-as .result) (c .before .before .before .before .read-as .ensures .1),
+    )
+
+pub read-line-spec : {M : Type 1} → statement M
+read-line-spec =
+    tie.close
+    (tie.spec
+    (λ c κs. search needs)
+    returns
+    (λ c κs. search needs)
+    (λ c κs. search needs)
+    (λ c κs. search needs)
+    read-as-requires
+    (λ c. search needs)
+    (λ c. search needs)
+    returns-2)

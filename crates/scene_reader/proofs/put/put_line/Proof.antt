@@ -1,0 +1,50 @@
+-- `scene_reader::put::put_line` meets its contract. Assumes nothing.
+use mathlib.Core.Path.{_∙_}
+use native.Mathlib.Numerals.{add-one}
+use native.Mathlib.Omega.{arith}
+use borrow.Author.Needs.{needs}
+use lib.ListN.{length-set}
+use Rattle.scene_reader.specs.Reader.{put}
+use Rattle.scene_reader.proofs.Bounds.{seen-few}
+use Rattle.scene_reader.proofs.put.put_line.Statement.{statement}
+use Rattle.scene_reader.proofs.put.put_line.Tie as tie
+
+cast-table : tie.Need-cast-table
+cast-table c = let s = c .before .before .before .before .before .args .s in omega (arith, seen-few (s .last) (s .seen) (c .before .place-of .result))
+
+slice-write-table-2 : tie.Need-slice-write-table-2
+slice-write-table-2 c = simp length-set (omega arith)
+
+put-fields-requires : tie.Need-put-fields-requires
+put-fields-requires c κs =
+    let p = c .before .before .before .before .before .before .before .before .pre in
+    ((p .1 .1 .0 .0, p .1 .1 .0 .1), rw (c .before .before .first-form .ensures) (simp length-set (p .1 .1 .1 .1)))
+
+same-length-2 : tie.Need-same-length-2
+same-length-2 c = c .before .before .before .before .put-fields .kept .1 .1 .1 .1 .0 ∙ simp length-set
+
+returns : tie.Need-returns
+unfolding put
+returns c =
+    let e = c .before .before .before .before .put-fields .ensures in
+    rw (e .0, e .1 .0, e .1 .1, c .before .before .before .before .before .before .before .before .before .before .before .before .before .pre .0, c .before .before .before .before .before .before .before .before .seen-with .ensures, c .before .before .before .before .before .before .before .before .before .place-of .ensures, c .before .before .before .before .before .before .before .first-form .ensures, add-one (c .before .before .before .before .before .before .before .before .before .before .before .before .before .args .s .filled))
+
+pub put-line-spec : {M : Type 1} → statement M
+put-line-spec =
+    tie.close
+    (tie.spec
+    (λ c κs. search needs)
+    (λ c κs. search needs)
+    cast-table
+    (λ c. search needs)
+    (λ c. search needs)
+    (λ c. search needs)
+    (λ c. search needs)
+    slice-write-table-2
+    (λ c κs. search needs)
+    (λ c. search needs)
+    put-fields-requires
+    (λ c. search needs)
+    (λ c. search needs)
+    same-length-2
+    returns)

@@ -1,0 +1,4 @@
+pub mod Pieces
+pub mod Tests
+pub mod HexLaws
+pub mod DecimalLaws

@@ -1,0 +1,71 @@
+-- The scene's text: pieces between separators, and the values of fields. Byte values are ASCII.
+use Prim.Native.Nat.{ℕ, _+_, _-_, _*_, _%_, _^_, _≤_, _<_}
+use mathlib.Core.Bool.{Bool, true, cond, not, _&&_, _||_}
+use mathlib.Core.Path.{_≡_}
+use mathlib.Core.List.{List, [], _∷_, _++_}
+use lib.ListN.{length, take, drop, getD}
+use lib.Dec.{ltb, leb, eqb}
+use Rattle.scene_text.specs.declared.decimal.Number.{Number}
+use Rattle.scene_text.specs.declared.decimal.Number.the-variants.{Is, Bad}
+
+-- the first piece with a text before it
+unfoldable pub before : List ℕ → List (List ℕ) → List (List ℕ)
+before t [] = t ∷ []
+before t (p ∷ ps) = (t ++ p) ∷ ps
+
+-- 01: "Text lines ended by byte 10, fields parted by commas, no quoting": a text cut at each c, one piece more than there
+-- are separators
+unfoldable pub pieces : ℕ → List ℕ → List (List ℕ)
+unfolding before
+pieces c [] = [] ∷ []
+pieces c (x ∷ r) = cond (eqb x c) ([] ∷ pieces c r) (before (x ∷ []) (pieces c r))
+
+-- n is where the first c stands in s, or the length of s where there is none
+pub record Cut (c : ℕ) (s : List ℕ) (n : ℕ) : Type 0 where
+  pub within : n ≤ length s
+  pub cut : n < length s → pieces c s ≡ take n s ∷ pieces c (drop (n + 1) s)
+  pub whole : n ≡ length s → pieces c s ≡ take n s ∷ []
+
+-- each element of s passes p
+unfoldable pub all : (ℕ → Bool) → List ℕ → Bool
+all p [] = true
+all p (x ∷ r) = p x && all p r
+
+-- low ≤ x ≤ high
+abbrev pub between : ℕ → ℕ → ℕ → Bool
+between low high x = leb low x && leb x high
+
+-- 01: "two lower-case digits a byte": 0 to 9 or a to f
+abbrev pub isHex : ℕ → Bool
+isHex x = between 48 57 x || between 97 102 x
+
+-- a digit's value; 0 for any other byte
+unfoldable pub hexVal : ℕ → ℕ
+hexVal x = cond (between 48 57 x) (x - 48) (cond (between 97 102 x) (x - 87) 0)
+
+-- 01: "HEX, TYPESCRIPT and DATA have two lower-case digits a byte and may be empty."
+unfoldable pub hexOk : List ℕ → Bool
+hexOk s = eqb (length s % 2) 0 && all isHex s
+
+-- the bytes that pairs of digits stand for
+unfoldable pub hexBytes : List ℕ → List ℕ
+hexBytes [] = []
+hexBytes (x ∷ []) = []
+hexBytes (x ∷ y ∷ r) = (hexVal x * 16 + hexVal y) ∷ hexBytes r
+
+-- a number v followed by the decimal digits s
+unfoldable pub decimal : ℕ → List ℕ → ℕ
+decimal v [] = v
+decimal v (x ∷ r) = decimal (v * 10 + (x - 48)) r
+
+-- 01: "a decimal u64 without leading zeros, zero being `0`": its digits
+abbrev pub plain : List ℕ → Bool
+plain s = ltb 0 (length s) && (all (between 48 57) s && (eqb (length s) 1 || not (eqb (getD s 0 0) 48)))
+
+-- the u64 that decimal digits stand for
+unfoldable pub numberOf : List ℕ → Number
+numberOf s = cond (ltb (decimal 0 s) (2 ^ 64)) (Is (decimal 0 s)) Bad
+
+-- 01: "SINCE is a decimal u64 without leading zeros, zero being `0`."
+unfoldable pub sinceOf : List ℕ → Number
+sinceOf s = cond (plain s) (numberOf s) Bad

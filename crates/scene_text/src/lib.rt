@@ -1,0 +1,15 @@
+// Pieces of a scene's text, and the values of its fields. Every function is total.
+mod cut; // cut.rt
+mod hex; // hex.rt
+mod decimal; // decimal.rt
+
+pub use self::cut::count;
+pub use self::cut::find;
+pub use self::cut::head;
+pub use self::cut::tail;
+pub use self::decimal::Number;
+pub use self::decimal::all_between;
+pub use self::decimal::since;
+pub use self::hex::decode;
+pub use self::hex::hex_ok;
+pub use self::hex::hex_value;

@@ -1,0 +1,167 @@
+// One case: a scene that is put together, read, and counted.
+use octets::store_bytes;
+use protocol::Check;
+use protocol::error_number;
+use scene_reader::read_scene;
+use scene_text::Number;
+use scene_text::all_between;
+use scene_text::find;
+use scene_text::head;
+use scene_text::since;
+use scene_text::tail;
+ghost use Prim.Native.Nat.{_≤_};
+ghost use lib.ListN.{length};
+
+// The expected number, the lengths of the store and the table, the scene's length so far; and how many cases passed and failed.
+pub(crate) struct Case {
+    pub expected: u64,
+    pub store: usize,
+    pub table: usize,
+    pub at: usize,
+    pub passed: u64,
+    pub failed: u64,
+}
+
+fn value(f: &[u8]) -> u64 {
+    match since(f) {
+        Number::Is(v) => v,
+        Number::Bad => 0,
+    }
+}
+
+fn at_most(n: usize, most: usize) -> usize
+    ensures { λ r. ⌜ r ≤ most ⌝ }
+{
+    if n <= most { n } else { most }
+}
+
+// The first field.
+fn field(fields: &[u8]) -> &[u8] {
+    head(fields, find(fields, 44))
+}
+
+// The fields behind the first.
+fn behind(fields: &[u8]) -> &[u8] {
+    tail(fields, find(fields, 44))
+}
+
+// A case of these fields; its name is written.
+pub(crate) fn begin(case: Case, fields: &[u8]) -> Case
+    ensures { λ r. ⌜ r .at ≤ 0 ⌝ }
+{
+    io::write_all(1, field(fields));
+    io::write_all(1, b": ");
+    let expected = behind(fields);
+    let store = behind(expected);
+    let table = behind(store);
+    Case {
+        expected: value(field(expected)),
+        store: value(field(store)) as usize,
+        table: value(field(table)) as usize,
+        at: 0,
+        passed: case.passed,
+        failed: case.failed,
+    }
+}
+
+// The scene's length after text, as far as there is room for it whole.
+fn append(scene: &mut [u8], at: usize, text: &[u8]) -> usize
+    requires { ⌜ at ≤ length (now scene) ⌝ }
+    ensures { λ r. ⌜ r ≤ length (now (scene .entry)) ⌝ }
+{
+    if scene.len() - at < text.len() {
+        return at;
+    }
+    store_bytes(scene, at, text);
+    at + text.len()
+}
+
+fn append_times(scene: &mut [u8], start: usize, count: u64, text: &[u8], ending: &[u8]) -> usize
+    requires { ⌜ start ≤ length (now scene) ⌝ }
+    ensures { λ r. ⌜ r ≤ length (now (scene .entry)) ⌝ }
+{
+    let mut at = start;
+    let mut i: u64 = 0;
+    while i < count {
+        at = append(scene, at, text);
+        at = append(scene, at, ending);
+        i += 1;
+    }
+    at
+}
+
+// A count and a text, each time with the ending.
+pub(crate) fn add(case: Case, fields: &[u8], ending: &[u8], scene: &mut [u8]) -> Case
+    requires { ⌜ case .at ≤ length (now scene) ⌝ }
+    ensures { λ r. ⌜ r .at ≤ length (now (scene .entry)) ⌝ }
+{
+    let end = append_times(scene, case.at, value(field(fields)), behind(fields), ending);
+    Case {
+        expected: case.expected,
+        store: case.store,
+        table: case.table,
+        at: end,
+        passed: case.passed,
+        failed: case.failed,
+    }
+}
+
+fn all_zero(words: &[u32]) -> bool {
+    let mut i: usize = 0;
+    while i < words.len() {
+        if words[i] != 0 {
+            return false;
+        }
+        i += 1;
+    }
+    true
+}
+
+fn wide(x: u8) -> u64 {
+    x as u64
+}
+
+// The number of a scene; 99 where a refusal left something in the store or the table.
+fn number(scene: &[u8], store: &mut [u8], table: &mut [u32]) -> u64 {
+    match read_scene(scene, store, table) {
+        Check::Passed => 0,
+        Check::Failed(error) => {
+            if all_between(store, 0, 0) & all_zero(table) {
+                wide(error_number(error))
+            } else {
+                99
+            }
+        }
+    }
+}
+
+// Reads the case's scene, writes its number and counts it.
+pub(crate) fn run(case: Case, scene: &[u8], store: &mut [u8], table: &mut [u32]) -> Case
+    requires { ⌜ case .at ≤ length (now scene) ⌝ }
+    ensures { λ r. ⌜ r .at ≤ length (now (scene .entry)) ⌝ }
+{
+    let store_len = at_most(case.store, store.len());
+    let table_len = at_most(case.table, table.len());
+    let found = number(
+        head(scene, case.at),
+        &mut store[..store_len],
+        &mut table[..table_len],
+    );
+    io::print_decimal(1, found);
+    io::write_all(1, b"\n");
+    let mut passed = case.passed;
+    let mut failed = case.failed;
+    if found == case.expected {
+        passed = std::num::wrapping_add_u64(passed, 1);
+    } else {
+        failed = std::num::wrapping_add_u64(failed, 1);
+    }
+    Case {
+        expected: case.expected,
+        store: case.store,
+        table: case.table,
+        at: case.at,
+        passed,
+        failed,
+    }
+}

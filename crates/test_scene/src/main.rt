@@ -1,0 +1,82 @@
+// Runs the list of scenes of standard input, each refusal and each boundary of the reader. It writes the number of each, and
+// then how many passed: the number is the expected one, and after a refusal store and table are all zero. The lines of the list:
+//   case,NAME,NUMBER,STORE,TABLE   a scene begins: the expected number, and the lengths of the store and the table
+//   add,COUNT,TEXT                 the text, COUNT times
+//   line,COUNT,TEXT                the same, each with its ending
+//   run                            the scene is read
+mod case; // case.rt
+
+use crate::case::Case;
+use crate::case::add;
+use crate::case::begin;
+use crate::case::run;
+use octets::u8_at;
+use scene_text::find;
+use scene_text::head;
+use scene_text::tail;
+ghost use mathlib.Core.Path.{_≡_};
+ghost use Prim.Native.Nat.{_≤_};
+ghost use lib.ListN.{length};
+
+// What a line of the list, told by its first letter, makes of the case.
+fn step(case: Case, line: &[u8], scene: &mut [u8], store: &mut [u8], table: &mut [u32]) -> Case
+    requires { ⌜ case .at ≤ length (now scene) ⌝ }
+    ensures { λ r. ⌜ r .at ≤ length (now (scene .entry)) ⌝ }
+{
+    let fields = tail(line, find(line, 44));
+    match u8_at(line, 0) {
+        99 => begin(case, fields),
+        97 => add(case, fields, b"", scene),
+        108 => add(case, fields, b"\n", scene),
+        114 => run(case, scene, store, table),
+        _ => case,
+    }
+}
+
+fn run_all(list: &[u8], scene: &mut [u8], store: &mut [u8], table: &mut [u32]) -> Case {
+    let mut rest = list;
+    let mut case = Case {
+        expected: 0,
+        store: 0,
+        table: 0,
+        at: 0,
+        passed: 0,
+        failed: 0,
+    };
+    loop {
+        let e = find(rest, 10);
+        if e == rest.len() {
+            return case;
+        }
+        let after = step(case, head(rest, e), scene, store, table);
+        case = after;
+        let next = tail(rest, e);
+        rest = next;
+    }
+}
+
+// Room for a scene that is one byte too long.
+fn long_buffer() -> [u8; 1048577]
+    ensures { λ r. ⌜ 1048577 ≡ length r ⌝ }
+{
+    [1; 1048577]
+}
+
+fn words() -> [u32; 2048]
+    ensures { λ r. ⌜ 2048 ≡ length r ⌝ }
+{
+    [1; 2048]
+}
+
+fn main() {
+    let mut text = io::large_buffer();
+    let n = io::read_full(0, &mut text);
+    let mut scene = long_buffer();
+    let mut store = long_buffer();
+    let mut table = words();
+    let case = run_all(&text[..n], &mut scene, &mut store, &mut table);
+    io::print_decimal(1, case.passed);
+    io::write_all(1, b" passed, ");
+    io::print_decimal(1, case.failed);
+    io::write_all(1, b" failed\n");
+}
