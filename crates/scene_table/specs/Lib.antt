@@ -1,3 +1,4 @@
 pub mod Scene
 pub mod Lent
 pub mod Valid
+pub mod Places
