@@ -5,8 +5,25 @@ use mathlib.Core.List.{List, [], _∷_}
 use Prim.Native.Nat.{ℕ, zero, suc, _+_, _-_, _*_, _≤_, _<_}
 use native.Mathlib.Nat.{mul-suc, mul-zero, not-suc-le-zero, le-of-suc-le-suc}
 use native.Mathlib.Omega.{arith}
-use lib.ListN.{length, getD}
+use native.Mathlib.Numerals.{add-one}
+use lib.ListN.{length, drop, getD, drop-of-length-le}
+use lib.Seq.{drop-cons}
 use Rattle.scene_table.specs.Lent.{rowsAt}
+
+-- l is f 0, f 1, .. f (n - 1): its elements, and what is left of it at each turn of a loop
+pub record Listed {A : Type 0} (l : List A) (n : ℕ) (f : ℕ → A) : Type 0 where
+  pub long : length l ≡ n
+  pub nth : (i : ℕ) (d : A) → i < n → getD l i d ≡ f i
+  pub turn : (i : ℕ) → i < n → drop i l ≡ f i ∷ drop (i + 1) l
+  pub none : (i : ℕ) → n ≤ i → drop i l ≡ []
+
+pub listed : {A : Type 0} (l : List A) (n : ℕ) (f : ℕ → A) → length l ≡ n → ((i : ℕ) (d : A) → i < n → getD l i d ≡ f i) → Listed l n f
+listed l n f long nth = record {
+  long = long;
+  nth = nth;
+  turn = λ i h. let k : i < length l = rw long h in rw (add-one, drop-cons l i (f i) k, nth i (f i) h);
+  none = λ i h. let k : length l ≤ i = rw long h in drop-of-length-le l k;
+}
 
 module _ {A : Type 0} (read : ℕ → A) (w : ℕ) where
   -- the next row
@@ -45,3 +62,7 @@ module _ {A : Type 0} (read : ℕ → A) (w : ℕ) where
   pub rows-end : (n at i : ℕ) → n ≤ i → rowsAt read w (n - i) at ≡ []
   unfolding rowsAt
   rows-end n at i h = let e : n - i ≡ 0 = omega arith in rw e
+
+  -- the rows as a list
+  pub rows-listed : (n at : ℕ) → Listed (rowsAt read w n at) n (λ i. read (at + w * i))
+  rows-listed n at = listed (rowsAt read w n at) n (λ i. read (at + w * i)) (length-rows n at) (row-nth n at)

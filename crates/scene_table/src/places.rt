@@ -16,11 +16,7 @@ pub struct CellPlaces {
 pub(crate) fn entry_at(table: &[u32], at: usize) -> u32
     ensures { λ r. ⌜ r ≡ entryAt (now (table .entry)) at ⌝ }
 {
-    if at < table.len() {
-        table[at]
-    } else {
-        0
-    }
+    if at < table.len() { table[at] } else { 0 }
 }
 
 // Where the rows of each kind begin.
@@ -57,11 +53,7 @@ pub(crate) fn hash_length(script: u32) -> usize
     ensures { λ r. ⌜ r ≡ hashLength script ⌝ }
     ensures { λ r. ⌜ r ≤ 32 ⌝ }
 {
-    if script == 0 {
-        0
-    } else {
-        32
-    }
+    if script == 0 { 0 } else { 32 }
 }
 
 // The places of a cell whose bytes begin at `start`, by the lengths of its type script and its data.
@@ -107,7 +99,11 @@ fn row_places(table: &[u32], at: usize) -> CellPlaces
     requires { ⌜ at < 2 ^ 40 ⌝ }
     ensures { λ r. ⌜ r ≡ rowPlaces (now (table .entry)) at ⌝ }
 {
-    cell_places(entry_at(table, at), entry_at(table, at + 1), entry_at(table, at + 2))
+    cell_places(
+        entry_at(table, at),
+        entry_at(table, at + 1),
+        entry_at(table, at + 2),
+    )
 }
 
 pub fn script(table: &[u32]) -> Place
@@ -173,7 +169,11 @@ pub fn input_cell(table: &[u32], i: u32) -> CellPlaces
     ensures { λ r. ⌜ r ≡ inputPlaces (now (table .entry)) i ⌝ }
 {
     let at = 11 + 6 * i as usize;
-    cell_places(entry_at(table, at), entry_at(table, at + 4), entry_at(table, at + 5))
+    cell_places(
+        entry_at(table, at),
+        entry_at(table, at + 4),
+        entry_at(table, at + 5),
+    )
 }
 
 pub fn output_cell(table: &[u32], i: u32) -> CellPlaces
