@@ -2,3 +2,4 @@ pub mod Scene
 pub mod Lent
 pub mod Valid
 pub mod Places
+pub mod Walk

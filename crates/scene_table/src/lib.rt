@@ -1,5 +1,6 @@
 // The lent table: whether a scene leaves it, and what it and the store hold.
 mod places; // places.rt
+mod validity; // validity.rt
 
 pub use self::places::CellPlaces;
 pub use self::places::dep_cell;
@@ -16,3 +17,4 @@ pub use self::places::transaction_hash;
 pub use self::places::verdict;
 pub use self::places::witness;
 pub use self::places::witness_count;
+pub use self::validity::table_valid;

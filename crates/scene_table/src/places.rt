@@ -20,28 +20,28 @@ pub(crate) fn entry_at(table: &[u32], at: usize) -> u32
 }
 
 // Where the rows of each kind begin.
-fn outputs_at(table: &[u32]) -> usize
+pub(crate) fn outputs_at(table: &[u32]) -> usize
     ensures { λ r. ⌜ r ≡ outputsAt (now (table .entry)) ⌝ }
     ensures { λ r. ⌜ r < 2 ^ 36 ⌝ }
 {
     11 + 6 * entry_at(table, 3) as usize
 }
 
-fn deps_at(table: &[u32]) -> usize
+pub(crate) fn deps_at(table: &[u32]) -> usize
     ensures { λ r. ⌜ r ≡ depsAt (now (table .entry)) ⌝ }
     ensures { λ r. ⌜ r < 2 ^ 37 ⌝ }
 {
     outputs_at(table) + 3 * entry_at(table, 4) as usize
 }
 
-fn witnesses_at(table: &[u32]) -> usize
+pub(crate) fn witnesses_at(table: &[u32]) -> usize
     ensures { λ r. ⌜ r ≡ witnessesAt (now (table .entry)) ⌝ }
     ensures { λ r. ⌜ r < 2 ^ 38 ⌝ }
 {
     deps_at(table) + 3 * entry_at(table, 5) as usize
 }
 
-fn verdicts_at(table: &[u32]) -> usize
+pub(crate) fn verdicts_at(table: &[u32]) -> usize
     ensures { λ r. ⌜ r ≡ verdictsAt (now (table .entry)) ⌝ }
     ensures { λ r. ⌜ r < 2 ^ 39 ⌝ }
 {
