@@ -12,6 +12,7 @@ use Rattle.octets.specs.Lists.{joined}
 use Rattle.octets.proofs.Parts.{part-back}
 use Rattle.scene_table.specs.Scene.{Line, rowsFrom}
 use Rattle.scene_table.specs.Lent.{entryAt, rowsAt}
+use Rattle.scene_table.proofs.Rows.{length-rows}
 
 -- the bytes of lines
 unfoldable pub total : List Line → ℕ
@@ -54,6 +55,10 @@ rows-parts read (suc n) m at =
 pub cut-parts : (table : List ℕ) (n m at : ℕ) → cut table (n + m) at ≡ cut table n at ++ cut table m (at + n)
 unfolding cut
 cut-parts table n m at = rows-parts (entryAt table) n m at
+
+pub length-cut : (table : List ℕ) (n at : ℕ) → length (cut table n at) ≡ n
+unfolding cut
+length-cut table n at = length-rows (entryAt table) 1 n at
 
 -- entries that the table has
 pub cut-take : (table : List ℕ) (n at : ℕ) → at + n ≤ length table → cut table n at ≡ take n (drop at table)
