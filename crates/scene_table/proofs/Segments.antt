@@ -37,18 +37,18 @@ module _ (table : List ℕ) where
       → Segment table A k at n ls l → Segment table B l (at + n) p ms m → Segment table (A × B) k at (n + p) (ls ++ ms) m
   join {A} {B} {k} {l} {m} {at} {n} {p} {ls} {ms} s t = record {
     there = λ h.
-      let b = t .there h in
-      let a = s .there (b .0) in
-      let e : rowsFrom (k .used + total ls) ms ≡ cut table p (at + n) = rw (a .3) at (b .2) in
-      let u : m .used ≡ k .used + total (ls ++ ms) = b .3 ∙ rw (a .3, total-append ls ms, add-assoc) in
-      (a .0, (a .1, b .1), rows-append (k .used) ls ms ∙ (ap₂ (λ (x y : List ℕ). x ++ y) (a .2) e ∙ sym (cut-parts table n p at)), u);
+        let b = t .there h in
+        let a = s .there (b .0) in
+        let e : rowsFrom (k .used + total ls) ms ≡ cut table p (at + n) = rw (a .3) at (b .2) in
+        let u : m .used ≡ k .used + total (ls ++ ms) = b .3 ∙ rw (a .3, total-append ls ms, add-assoc) in
+        (a .0, (a .1, b .1), rows-append (k .used) ls ms ∙ (ap₂ (λ (x y : List ℕ). x ++ y) (a .2) e ∙ sym (cut-parts table n p at)), u);
     back = λ g x e.
-      let f = sym (rows-append (k .used) ls ms) ∙ (e ∙ cut-parts table n p at) in
-      let c : length (cut table n at) ≡ n = length-cut table n at in
-      let d = append-parts (rowsFrom (k .used) ls) (rowsFrom (k .used + total ls) ms) (cut table n at) (cut table p (at + n)) n (s .long (k .used)) c f in
-      let h = s .back g (x .0) (d .0) in
-      let u = s .there h .3 in
-      t .back h (x .1) (rw u (d .1));
+        let f = sym (rows-append (k .used) ls ms) ∙ (e ∙ cut-parts table n p at) in
+        let c : length (cut table n at) ≡ n = length-cut table n at in
+        let d = append-parts (rowsFrom (k .used) ls) (rowsFrom (k .used + total ls) ms) (cut table n at) (cut table p (at + n)) n (s .long (k .used)) c f in
+        let h = s .back g (x .0) (d .0) in
+        let u = s .there h .3 in
+        t .back h (x .1) (rw u (d .1));
     long = λ used. rw (rows-append used ls ms, length-append, s .long used, t .long (used + total ls));
   }
 
@@ -76,14 +76,14 @@ module _ (table : List ℕ) where
     unfolding rowsFrom total rowStep need placed
     row-segment k at v l sized own = record {
       there = λ h.
-        let a = and-both (k .good && ok at) (eqb (entryAt table at) (k .used)) h in
-        let b = and-both (k .good) (ok at) (a .0) in
-        let e = eqb-true (entryAt table at) (k .used) (a .1) in
-        let u : entryAt table at + size at ≡ k .used + (length (l .bytes) + 0) = rw (e, sized, add-zero) in
-        (b .0, b .1, rw (append-nil, own, ← e) (sym (cut-first v at)), u);
+          let a = and-both (k .good && ok at) (eqb (entryAt table at) (k .used)) h in
+          let b = and-both (k .good) (ok at) (a .0) in
+          let e = eqb-true (entryAt table at) (k .used) (a .1) in
+          let u : entryAt table at + size at ≡ k .used + (length (l .bytes) + 0) = rw (e, sized, add-zero) in
+          (b .0, b .1, rw (append-nil, own, ← e) (sym (cut-first v at)), u);
       back = λ g x e.
-        let f : k .used ≡ entryAt table at = ap (λ (r : List ℕ). getD r 0 0) (e ∙ cut-first v at) in
-        both-and (k .good && ok at) (eqb (entryAt table at) (k .used)) (both-and (k .good) (ok at) g x) (eq-eqb (entryAt table at) (k .used) (sym f));
+          let f : k .used ≡ entryAt table at = ap (λ (r : List ℕ). getD r 0 0) (e ∙ cut-first v at) in
+          both-and (k .good && ok at) (eqb (entryAt table at) (k .used)) (both-and (k .good) (ok at) g x) (eq-eqb (entryAt table at) (k .used) (sym f));
       long = λ used. ap length (append-nil (used ∷ l .numbers)) ∙ ap suc (ap length own ∙ length-cut table v (at + 1));
     }
 

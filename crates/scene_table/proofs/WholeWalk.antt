@@ -113,11 +113,12 @@ module _ (table : List ℕ) where
   lines-kinds : linesOf (blankScene table) ≡ kinds
   unfolding linesOf blankScene sceneFrom digitCount inputRows cellRows witnessRows digitsRow kinds
   lines-kinds =
-      rw
-      (map-rows inputLine (inputFrom blank table) 6 (entryAt table 3) inputsAt,
-      map-rows cellLine (cellRowFrom blank table) 3 (entryAt table 4) (outputsAt table),
-      map-rows cellLine (cellRowFrom blank table) 3 (entryAt table 5) (depsAt table),
-      map-rows bytesLine (bytesFrom blank table) 2 (entryAt table 6) (witnessesAt table))
+      rw (
+        map-rows inputLine (inputFrom blank table) 6 (entryAt table 3) inputsAt,
+        map-rows cellLine (cellRowFrom blank table) 3 (entryAt table 4) (outputsAt table),
+        map-rows cellLine (cellRowFrom blank table) 3 (entryAt table 5) (depsAt table),
+        map-rows bytesLine (bytesFrom blank table) 2 (entryAt table 6) (witnessesAt table),
+      )
       (regroup
       (bytesLine (bytesFrom blank table 8) ∷ hashLine (blank (entryAt table 10) 32) ∷ inputRows)
       (cellRows (entryAt table 4) (outputsAt table))

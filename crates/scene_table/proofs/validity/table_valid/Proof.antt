@@ -1,26 +1,26 @@
+-- `scene_table::validity::table_valid` meets its contract: the walk decides. Assumes nothing.
+use mathlib.Core.Path.{_≡_, sym, _∙_}
+use mathlib.Core.Bool.{true, false}
+use Rattle.scene_table.specs.Lent.{entryAt}
+use Rattle.scene_table.specs.Walk.{countsOk}
+use Rattle.scene_table.proofs.Decides.{decides}
 use borrow.Author.Needs.{needs}
 use Rattle.scene_table.proofs.validity.table_valid.Statement.{statement}
 use Rattle.scene_table.proofs.validity.table_valid.Tie as tie
-use Rattle.scene_table.proofs.validity.table_valid.Reads as reads
-use Rattle.scene_table.proofs.validity.table_valid.Lts as lts
-use Rattle.scene_table.proofs.validity.counts_valid.Reads as counts-valid-reads
-use Rattle.scene_table.proofs.validity.rest_valid.Reads as rest-valid-reads
 
--- src/validity.rt:216:8
-counts-valid-requires : tie.Need-counts-valid-requires
-counts-valid-requires c κs = search needs
-
--- src/validity.rt:217:9
-rest-valid-requires : tie.Need-rest-valid-requires
-rest-valid-requires c κs = search needs
-
--- src/validity.rt:213:1
 returns : tie.Need-returns
-returns c = ?
+unfolding entryAt
+returns c =
+    let a = c .before .before .before .before .args in
+    let counted : countsOk (a .table .now) ≡ true = sym (c .before .before .counts-valid .ensures) ∙ c .before .if1 .taken in
+    c .rest-valid .ensures ∙ rw counted at (decides (a .table .now) (λ i. c .before .before .before .shared-slice-known .given i .fits) (a .room))
 
--- src/validity.rt:213:1
 returns-2 : tie.Need-returns-2
-returns-2 c = ?
+unfolding entryAt
+returns-2 c =
+    let a = c .before .before .before .args in
+    let counted : countsOk (a .table .now) ≡ false = sym (c .before .counts-valid .ensures) ∙ c .if1 .left in
+    rw counted at (decides (a .table .now) (λ i. c .before .before .shared-slice-known .given i .fits) (a .room))
 
 pub table-valid-spec : {M : Type 1} → statement M
-table-valid-spec = tie.close (tie.spec counts-valid-requires rest-valid-requires returns returns-2)
+table-valid-spec = tie.close (tie.spec (λ c κs. search needs) (λ c κs. search needs) returns returns-2)
