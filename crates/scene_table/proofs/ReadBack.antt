@@ -79,26 +79,26 @@ module _ (from : ℕ → ℕ → List ℕ) (g : List ℕ → List ℕ) (table st
       gives (front ++ a ++ b) t (d ++ back) (used + length a + 32) (length t) et nt refl,
       gives (front ++ a ++ b ++ t) d back (used + length a + 32 + length t) (length d) ed nd refl)
 
-  bytes-back : (bs : List ℕ) (at used : ℕ) → bytesOk bs ≡ true → Stands table store at used (bytesLine bs ∷ []) → bytesFrom from table at ≡ g bs
+  pub bytes-back : (bs : List ℕ) (at used : ℕ) → bytesOk bs ≡ true → Stands table store at used (bytesLine bs ∷ []) → bytesFrom from table at ≡ g bs
   unfolding bytesFrom bytesLine
   bytes-back bs at used h s =
       rw
       (row-first table store s, row-entry table store {l = bytesLine bs} 0 (lit< tt) s)
       (gives (s .front) bs (s .back) used (length bs) (row-bytes table store s) (s .start) refl)
 
-  hash-back : (hash : List ℕ) (at used : ℕ) → hashOk hash ≡ true → Stands table store at used (hashLine hash ∷ []) → from (entryAt table at) 32 ≡ g hash
+  pub hash-back : (hash : List ℕ) (at used : ℕ) → hashOk hash ≡ true → Stands table store at used (hashLine hash ∷ []) → from (entryAt table at) 32 ≡ g hash
   unfolding hashLine
   hash-back hash at used h s =
       rw (row-first table store s) (gives (s .front) hash (s .back) used 32 (row-bytes table store s) (s .start) (hash-long hash h))
 
-  row-back : (c : Cell) (at used : ℕ) → cellOk c ≡ true → Stands table store at used (cellLine c ∷ []) → cellRowFrom from table at ≡ cellWith g c
+  pub row-back : (c : Cell) (at used : ℕ) → cellOk c ≡ true → Stands table store at used (cellLine c ∷ []) → cellRowFrom from table at ≡ cellWith g c
   unfolding cellRowFrom cellLine cellLengths
   row-back c at used h s =
       rw
       (row-first table store s, row-entry table store {l = cellLine c} 0 (lit< tt) s, row-entry table store {l = cellLine c} 1 (lit< tt) s)
       (cell-back c (s .front) (s .back) used h (row-bytes table store s) (s .start))
 
-  input-back : (i : Input) (at used : ℕ) → inputOk i ≡ true → Stands table store at used (inputLine i ∷ []) → inputFrom from table at ≡ inputWith g i
+  pub input-back : (i : Input) (at used : ℕ) → inputOk i ≡ true → Stands table store at used (inputLine i ∷ []) → inputFrom from table at ≡ inputWith g i
   unfolding inputFrom inputLine cellLengths inputWith inputOk
   input-back i at used h s =
       let ok = and-both (ltb (i .group) 2) (ltb (i .since) (2 ^ 64) && cellOk (i .cell)) h in
