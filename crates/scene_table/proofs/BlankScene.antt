@@ -31,7 +31,7 @@ type-hash : (b : Bool) → cond b (eqb (length {A = ℕ} (replicate (cond b 0 32
 type-hash true = refl
 type-hash false = blank-hash
 
-blank-cell : (start script content : ℕ) → cellOk (cellFrom blank start script content) ≡ true
+pub blank-cell : (start script content : ℕ) → cellOk (cellFrom blank start script content) ≡ true
 unfolding cellOk cellFrom hashLength
 blank-cell start script content =
     rw (length-replicate {A = ℕ} script 0, type-hash (eqb script 0), blank-hash, blank-bytes script, blank-bytes content)

@@ -53,18 +53,26 @@ pub hash-long : (hash : List ℕ) → hashOk hash ≡ true → length hash ≡ 3
 unfolding hashOk
 hash-long hash h = eqb-true (length hash) 32 (and-both (eqb (length hash) 32) (bytesOk hash) h .0)
 
+-- the hashes of a cell have the lengths that the table says
+pub cell-hashes : (c : Cell) → cellOk c ≡ true → (hashLength (length (c .typeScript)) ≡ length (c .typeHash)) × (length (c .dataHash) ≡ 32)
+unfolding cellOk hashLength
+cell-hashes c h =
+    let first = cond (eqb (length (c .typeScript)) 0) (eqb (length (c .typeHash)) 0) (hashOk (c .typeHash)) in
+    let last = bytesOk (c .typeScript) && bytesOk (c .content) in
+    let ok = and-both first (hashOk (c .dataHash) && last) h in
+    (type-hash (eqb (length (c .typeScript)) 0) (c .typeHash) (ok .0), hash-long (c .dataHash) (and-both (hashOk (c .dataHash)) last (ok .1) .0))
+
 module _ (from : ℕ → ℕ → List ℕ) (g : List ℕ → List ℕ) (table store : List ℕ) (gives : Gives from g store) where
   cell-back : (c : Cell) (front back : List ℕ) (used : ℕ) → cellOk c ≡ true → store ≡ front ++ (cellBytes c ++ back) → length front ≡ used
       → cellFrom from used (length (c .typeScript)) (length (c .content)) ≡ cellWith g c
-  unfolding cellOk cellBytes cellFrom cellWith hashLength
+  unfolding cellBytes cellFrom cellWith
   cell-back c front back used h e l =
       let a = c .typeHash in
       let b = c .dataHash in
       let t = c .typeScript in
       let d = c .content in
-      let ok = and-both (cond (eqb (length t) 0) (eqb (length a) 0) (hashOk a)) (hashOk b && (bytesOk t && bytesOk d)) h in
-      let la = type-hash (eqb (length t) 0) a (ok .0) in
-      let lb : length b ≡ 32 = hash-long b (and-both (hashOk b) (bytesOk t && bytesOk d) (ok .1) .0) in
+      let la = cell-hashes c h .0 in
+      let lb : length b ≡ 32 = cell-hashes c h .1 in
       let ea : store ≡ front ++ (a ++ (b ++ (t ++ (d ++ back)))) = e ∙ simp append-assoc in
       let eb : store ≡ (front ++ a) ++ (b ++ (t ++ (d ++ back))) = e ∙ simp append-assoc in
       let et : store ≡ (front ++ a ++ b) ++ (t ++ (d ++ back)) = e ∙ simp append-assoc in
