@@ -4,7 +4,7 @@ use mathlib.Core.Path.{_≡_, refl, sym, ap, ap₂, _∙_}
 use mathlib.Core.Bool.{Bool, true, false, _&&_}
 use mathlib.Core.List.{List, [], _∷_, _++_, map}
 use mathlib.Core.Logic.{_↔_}
-use Prim.Native.Nat.{ℕ, _+_, _*_, _≤_}
+use Prim.Native.Nat.{ℕ, _+_, _*_, _^_, _≤_}
 use native.Mathlib.Omega.{arith}
 use borrow.Author.Tests.{le-leb, leb-true}
 use lib.Dec.{leb, ltb}
@@ -90,3 +90,99 @@ alike-lines s =
     (alike-map cellLine (cellWith zeroed) alike-cell (s .deps)))
     (alike-map bytesLine zeroed alike-bytes (s .witnesses)))
     (record { rows = λ used. refl; long = refl })
+
+-- so a scene and its zeroed one have the same table and as many bytes
+zeroed-numbers : (s : Scene) → sceneNumbers (sceneWith zeroed s) ≡ sceneNumbers s
+unfolding sceneNumbers countsOf sceneWith
+zeroed-numbers s =
+    rw
+    (length-map (s .inputs) (inputWith zeroed),
+    length-map (s .outputs) (cellWith zeroed),
+    length-map (s .deps) (cellWith zeroed),
+    length-map (s .witnesses) zeroed,
+    alike-lines s .rows 0)
+
+zeroed-table : (s : Scene) (m : ℕ) → tableOf (sceneWith zeroed s) m ≡ tableOf s m
+unfolding tableOf
+zeroed-table s m = ap (padded m) (zeroed-numbers s)
+
+zeroed-long : (s : Scene) → length (sceneBytes (sceneWith zeroed s)) ≡ length (sceneBytes s)
+unfolding sceneBytes
+zeroed-long s = total-joined (linesOf (sceneWith zeroed s)) ∙ (alike-lines s .long ∙ sym (total-joined (linesOf s)))
+
+-- and one is a scene that a text can say where the other is
+every-map : {A : Type 0} (p : A → Bool) (f : A → A) → ((x : A) → p x ≡ true → p (f x) ≡ true) → (xs : List A) → every p xs ≡ true → every p (map f xs) ≡ true
+unfolding every
+every-map p f h [] e = refl
+every-map p f h (x ∷ xs) e =
+    let a = and-both (p x) (every p xs) e in
+    both-and (p (f x)) (every p (map f xs)) (h x (a .0)) (every-map p f h xs (a .1))
+
+zeroed-cell : (c : Cell) → cellOk c ≡ true → cellOk (cellWith zeroed c) ≡ true
+unfolding cellFrom cellWith
+zeroed-cell c h =
+    let l = cell-hashes c h in
+    rw (← l .0, l .1) (blank-cell 0 (length (c .typeScript)) (length (c .content)))
+
+zeroed-input : (i : Input) → inputOk i ≡ true → inputOk (inputWith zeroed i) ≡ true
+unfolding inputOk inputWith
+zeroed-input i h =
+    let group = ltb (i .group) 2 in
+    let since = ltb (i .since) (2 ^ 64) in
+    let a = and-both group (since && cellOk (i .cell)) h in
+    let b = and-both since (cellOk (i .cell)) (a .1) in
+    rw (a .0, b .0) (zeroed-cell (i .cell) (b .1))
+
+few : {A : Type 0} (p : A → Bool) (f : A → A) → ((x : A) → p x ≡ true → p (f x) ≡ true) → (xs : List A) → length xs ≤ 64 → every p xs ≡ true → fewOf p (map f xs) ≡ true
+unfolding fewOf
+few p f h xs l e = rw (length-map xs f, le-leb (length xs) 64 l) (every-map p f h xs e)
+
+zeroed-hash : (hash : List ℕ) → hashOk hash ≡ true → hashOk (zeroed hash) ≡ true
+zeroed-hash hash h = rw (hash-long hash h) blank-hash
+
+zeroed-ok : (s : Scene) → Sayable s → sceneOk (sceneWith zeroed s) ≡ true
+unfolding sceneOk sceneWith digitsOk
+zeroed-ok s ok =
+    rw
+    (blank-bytes (length (s .script)),
+    zeroed-hash (s .transaction) (ok .transaction),
+    few inputOk (inputWith zeroed) zeroed-input (s .inputs) (ok .fewInputs) (ok .inputs),
+    few cellOk (cellWith zeroed) zeroed-cell (s .outputs) (ok .fewOutputs) (ok .outputs),
+    few cellOk (cellWith zeroed) zeroed-cell (s .deps) (ok .fewDeps) (ok .deps),
+    few bytesOk zeroed (λ bs h. blank-bytes (length bs)) (s .witnesses) (ok .fewWitnesses) (ok .witnesses),
+    le-leb (length (s .digits)) 16 (ok .fewDigits),
+    ok .digits)
+
+-- a table says the zeroed scene of a scene that leaves it
+blank-scene : (s : Scene) (m : ℕ) → Sayable s → blankScene (tableOf s m) ≡ sceneWith zeroed s
+unfolding blankScene
+blank-scene s m ok = scene-back s m blank zeroed (λ p q r at n e lp lq. rw lq) ok
+
+-- a table that a scene leaves passes
+pub scene-passes : (table : List ℕ) (n : ℕ) (s : Scene) → 2048 ≤ length table → sceneOk s ≡ true → length (sceneBytes s) ≤ n → table ≡ tableOf s (length table)
+    → validTable table n ≡ true
+unfolding validTable
+scene-passes table n s enough ok room e =
+    let said : blankScene table ≡ sceneWith zeroed s = ap blankScene e ∙ blank-scene s (length table) (sayable s ok) in
+    rw
+    (le-leb 2048 (length table) enough, said, zeroed-ok s (sayable s ok), zeroed-long s, le-leb (length (sceneBytes s)) n room)
+    (eq-same table (tableOf (sceneWith zeroed s) (length table)) (e ∙ sym (zeroed-table s (length table))))
+
+-- a table that passes is the one of the scene that it says
+pub passes-scene : (table : List ℕ) (n : ℕ) → validTable table n ≡ true
+    → (2048 ≤ length table) × (s : Scene) × (sceneOk s ≡ true) × (length (sceneBytes s) ≤ n) × (table ≡ tableOf s (length table))
+unfolding validTable
+passes-scene table n h =
+    let a = and-both _ _ h in
+    let b = and-both _ _ (a .1) in
+    let c = and-both _ _ (b .1) in
+    (leb-true 2048 (length table) (a .0),
+    blankScene table,
+    b .0,
+    leb-true (length (sceneBytes (blankScene table))) n (c .0),
+    same-eq table (tableOf (blankScene table) (length table)) (c .1))
+
+-- 01, the row for 7: yes exactly for a table that some scene leaves, scene length aside, with a store of n bytes
+pub valid-table : (table : List ℕ) (n : ℕ) → (validTable table n ≡ true)
+    ↔ ((2048 ≤ length table) × (s : Scene) × (sceneOk s ≡ true) × (length (sceneBytes s) ≤ n) × (table ≡ tableOf s (length table)))
+valid-table table n = (passes-scene table n, λ t. scene-passes table n (t .1) (t .0) (t .2) (t .3) (t .4))
