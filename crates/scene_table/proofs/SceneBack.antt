@@ -13,7 +13,7 @@ use Rattle.octets.proofs.Parts.{part-back}
 use Rattle.scene_table.specs.Scene.{Cell, Input, Scene, Line, cellLengths, bytesLine, hashLine, inputLine, cellLine, digitsLine, linesOf, sceneBytes, countsOf, rowsFrom, sceneNumbers, padded, tableOf}
 use Rattle.scene_table.specs.Lent.{entryAt, inputsAt, outputsAt, depsAt, witnessesAt, verdictsAt, rowsAt, inputFrom, cellRowFrom, bytesFrom, sceneFrom}
 use Rattle.scene_table.specs.Valid.{every, bytesOk, hashOk, cellOk, inputOk, fewOf, digitsOk, sceneOk}
-use Rattle.scene_table.proofs.Lines.{total, cut, cut-take}
+use Rattle.scene_table.proofs.Lines.{total, rows-append, cut, cut-take}
 use Rattle.scene_table.proofs.Segments.{and-both}
 use Rattle.scene_table.proofs.Stands.{Stands, bytesOf, stands-left, stands-right, row-first, row-entry, rows-long, rows-back}
 use Rattle.scene_table.proofs.ReadBack.{cellWith, inputWith, sceneWith, Gives, bytes-back, hash-back, row-back, input-back}
@@ -126,6 +126,35 @@ digits-back table store digits at used s =
 counts-long : (s : Scene) → length (countsOf s) ≡ 8
 unfolding countsOf
 counts-long s = refl
+
+-- one list of lines behind another: how many entries
+both-long : (used : ℕ) (ls ms : List Line) (n m : ℕ) → length (rowsFrom used ls) ≡ n → length (rowsFrom (used + total ls) ms) ≡ m → length (rowsFrom used (ls ++ ms)) ≡ n + m
+both-long used ls ms n m p q = rw (rows-append used ls ms, length-append, p, q)
+
+digits-wide : (digits : List ℕ) (used : ℕ) → length (rowsFrom used (digitsLine digits ∷ [])) ≡ 2 + length digits
+unfolding rowsFrom digitsLine
+digits-wide digits used = ap length (append-nil (used ∷ length digits ∷ digits)) ∙ omega arith
+
+-- how many entries a scene fills
+pub numbers-long : (s : Scene) → length (sceneNumbers s)
+    ≡ 8 + (2 + (1 + (6 * length (s .inputs) + (3 * length (s .outputs) + (3 * length (s .deps) + (2 * length (s .witnesses) + (2 + length (s .digits))))))))
+unfolding sceneNumbers fromInputs fromOutputs fromDeps fromWitnesses
+numbers-long s =
+    length-append (countsOf s) (rowsFrom 0 (linesOf s))
+    ∙ rw
+    (counts-long s,
+    lines-by-kind s,
+    both-long 0 (bytesLine (s .script) ∷ []) (hashLine (s .transaction) ∷ fromInputs s) 2 _ (rows-long bytesLine 2 bytes-wide (s .script ∷ []) 0)
+    (both-long _ (hashLine (s .transaction) ∷ []) (fromInputs s) 1 _ (hash-wide (s .transaction) _)
+    (both-long _ (map inputLine (s .inputs)) (fromOutputs s) (6 * length (s .inputs)) _ (rows-long inputLine 6 input-wide (s .inputs) _)
+    (both-long _ (map cellLine (s .outputs)) (fromDeps s) (3 * length (s .outputs)) _ (rows-long cellLine 3 cell-wide (s .outputs) _)
+    (both-long _ (map cellLine (s .deps)) (fromWitnesses s) (3 * length (s .deps)) _ (rows-long cellLine 3 cell-wide (s .deps) _)
+    (both-long _ (map bytesLine (s .witnesses)) (digitsLine (s .digits) ∷ []) (2 * length (s .witnesses)) _ (rows-long bytesLine 2 bytes-wide (s .witnesses) _)
+    (digits-wide (s .digits) _)))))))
+
+-- a table of 2,048 entries has room for every scene
+pub numbers-few : (s : Scene) → sceneOk s ≡ true → length (sceneNumbers s) ≤ 925
+numbers-few s h = let ok = sayable s h in omega (arith, numbers-long s, ok)
 
 module _ (s : Scene) (m : ℕ) where
   -- the counts in the table
