@@ -80,12 +80,13 @@ module _ (from : ℕ → ℕ → List ℕ) (g : List ℕ → List ℕ) (table st
       let nb : length (front ++ a) ≡ used + length a = rw (length-append, l) in
       let nt : length (front ++ a ++ b) ≡ used + length a + 32 = rw (length-append, nb, lb) in
       let nd : length (front ++ a ++ b ++ t) ≡ used + length a + 32 + length t = rw (length-append, nt) in
-      rw
-      (la,
-      gives front a (b ++ (t ++ (d ++ back))) used (length a) ea l refl,
-      gives (front ++ a) b (t ++ (d ++ back)) (used + length a) 32 eb nb lb,
-      gives (front ++ a ++ b) t (d ++ back) (used + length a + 32) (length t) et nt refl,
-      gives (front ++ a ++ b ++ t) d back (used + length a + 32 + length t) (length d) ed nd refl)
+      rw (
+        la,
+        gives front a (b ++ (t ++ (d ++ back))) used (length a) ea l refl,
+        gives (front ++ a) b (t ++ (d ++ back)) (used + length a) 32 eb nb lb,
+        gives (front ++ a ++ b) t (d ++ back) (used + length a + 32) (length t) et nt refl,
+        gives (front ++ a ++ b ++ t) d back (used + length a + 32 + length t) (length d) ed nd refl,
+      )
 
   pub bytes-back : (bs : List ℕ) (at used : ℕ) → bytesOk bs ≡ true → Stands table store at used (bytesLine bs ∷ []) → bytesFrom from table at ≡ g bs
   unfolding bytesFrom bytesLine
@@ -112,12 +113,13 @@ module _ (from : ℕ → ℕ → List ℕ) (g : List ℕ → List ℕ) (table st
       let ok = and-both (ltb (i .group) 2) (ltb (i .since) (2 ^ 64) && cellOk (i .cell)) h in
       let cell = and-both (ltb (i .since) (2 ^ 64)) (cellOk (i .cell)) (ok .1) in
       let whole : i .since % 2 ^ 32 + 2 ^ 32 * (i .since / 2 ^ 32) ≡ i .since = omega arith in
-      rw
-      (row-first table store s,
-      row-entry table store {l = inputLine i} 0 (lit< tt) s,
-      row-entry table store {l = inputLine i} 1 (lit< tt) s,
-      row-entry table store {l = inputLine i} 2 (lit< tt) s,
-      row-entry table store {l = inputLine i} 3 (lit< tt) s,
-      row-entry table store {l = inputLine i} 4 (lit< tt) s,
-      whole,
-      cell-back (i .cell) (s .front) (s .back) used (cell .1) (row-bytes table store s) (s .start))
+      rw (
+        row-first table store s,
+        row-entry table store {l = inputLine i} 0 (lit< tt) s,
+        row-entry table store {l = inputLine i} 1 (lit< tt) s,
+        row-entry table store {l = inputLine i} 2 (lit< tt) s,
+        row-entry table store {l = inputLine i} 3 (lit< tt) s,
+        row-entry table store {l = inputLine i} 4 (lit< tt) s,
+        whole,
+        cell-back (i .cell) (s .front) (s .back) used (cell .1) (row-bytes table store s) (s .start),
+      )

@@ -141,16 +141,17 @@ pub numbers-long : (s : Scene) → length (sceneNumbers s)
 unfolding sceneNumbers fromInputs fromOutputs fromDeps fromWitnesses
 numbers-long s =
     length-append (countsOf s) (rowsFrom 0 (linesOf s))
-    ∙ rw
-    (counts-long s,
-    lines-by-kind s,
-    both-long 0 (bytesLine (s .script) ∷ []) (hashLine (s .transaction) ∷ fromInputs s) 2 _ (rows-long bytesLine 2 bytes-wide (s .script ∷ []) 0)
-    (both-long _ (hashLine (s .transaction) ∷ []) (fromInputs s) 1 _ (hash-wide (s .transaction) _)
-    (both-long _ (map inputLine (s .inputs)) (fromOutputs s) (6 * length (s .inputs)) _ (rows-long inputLine 6 input-wide (s .inputs) _)
-    (both-long _ (map cellLine (s .outputs)) (fromDeps s) (3 * length (s .outputs)) _ (rows-long cellLine 3 cell-wide (s .outputs) _)
-    (both-long _ (map cellLine (s .deps)) (fromWitnesses s) (3 * length (s .deps)) _ (rows-long cellLine 3 cell-wide (s .deps) _)
-    (both-long _ (map bytesLine (s .witnesses)) (digitsLine (s .digits) ∷ []) (2 * length (s .witnesses)) _ (rows-long bytesLine 2 bytes-wide (s .witnesses) _)
-    (digits-wide (s .digits) _)))))))
+    ∙ rw (
+      counts-long s,
+      lines-by-kind s,
+      both-long 0 (bytesLine (s .script) ∷ []) (hashLine (s .transaction) ∷ fromInputs s) 2 _ (rows-long bytesLine 2 bytes-wide (s .script ∷ []) 0)
+          (both-long _ (hashLine (s .transaction) ∷ []) (fromInputs s) 1 _ (hash-wide (s .transaction) _)
+          (both-long _ (map inputLine (s .inputs)) (fromOutputs s) (6 * length (s .inputs)) _ (rows-long inputLine 6 input-wide (s .inputs) _)
+          (both-long _ (map cellLine (s .outputs)) (fromDeps s) (3 * length (s .outputs)) _ (rows-long cellLine 3 cell-wide (s .outputs) _)
+          (both-long _ (map cellLine (s .deps)) (fromWitnesses s) (3 * length (s .deps)) _ (rows-long cellLine 3 cell-wide (s .deps) _)
+          (both-long _ (map bytesLine (s .witnesses)) (digitsLine (s .digits) ∷ []) (2 * length (s .witnesses)) _ (rows-long bytesLine 2 bytes-wide (s .witnesses) _)
+          (digits-wide (s .digits) _)))))),
+    )
 
 -- a table of 2,048 entries has room for every scene
 pub numbers-few : (s : Scene) → sceneOk s ≡ true → length (sceneNumbers s) ≤ 925
@@ -215,12 +216,20 @@ module _ (s : Scene) (m : ℕ) where
         let deps = stands-right T B (map cellLine o) (fromDeps s) (3 * length o) (rows-long cellLine 3 cell-wide o _) outputs in
         let witnesses = stands-right T B (map cellLine d) (fromWitnesses s) (3 * length d) (rows-long cellLine 3 cell-wide d _) deps in
         let verdicts = stands-right T B (map bytesLine w) (digitsLine (s .digits) ∷ []) (2 * length w) (rows-long bytesLine 2 bytes-wide w _) witnesses in
-        rw
-        (counts .0, counts .1, counts .2, counts .3, outputs-place, deps-place, witnesses-place, verdicts-place,
-        bytes-back from g T B gives (s .script) 8 0 (ok .script) (stands-left T B script (hash ++ fromInputs s) all-stand),
-        hash-back from g T B gives (s .transaction) 10 _ (ok .transaction) (stands-left T B hash (fromInputs s) behind),
-        rows-back inputLine 6 input-wide T B (inputFrom from T) (inputWith g) inputOk (input-back from g T B gives) i 11 _ (ok .inputs) (stands-left T B (map inputLine i) (fromOutputs s) inputs),
-        rows-back cellLine 3 cell-wide T B (cellRowFrom from T) (cellWith g) cellOk (row-back from g T B gives) o _ _ (ok .outputs) (stands-left T B (map cellLine o) (fromDeps s) outputs),
-        rows-back cellLine 3 cell-wide T B (cellRowFrom from T) (cellWith g) cellOk (row-back from g T B gives) d _ _ (ok .deps) (stands-left T B (map cellLine d) (fromWitnesses s) deps),
-        rows-back bytesLine 2 bytes-wide T B (bytesFrom from T) g bytesOk (bytes-back from g T B gives) w _ _ (ok .witnesses) (stands-left T B (map bytesLine w) (digitsLine (s .digits) ∷ []) witnesses),
-        digits-back T B (s .digits) _ _ verdicts)
+        rw (
+          counts .0,
+          counts .1,
+          counts .2,
+          counts .3,
+          outputs-place,
+          deps-place,
+          witnesses-place,
+          verdicts-place,
+          bytes-back from g T B gives (s .script) 8 0 (ok .script) (stands-left T B script (hash ++ fromInputs s) all-stand),
+          hash-back from g T B gives (s .transaction) 10 _ (ok .transaction) (stands-left T B hash (fromInputs s) behind),
+          rows-back inputLine 6 input-wide T B (inputFrom from T) (inputWith g) inputOk (input-back from g T B gives) i 11 _ (ok .inputs) (stands-left T B (map inputLine i) (fromOutputs s) inputs),
+          rows-back cellLine 3 cell-wide T B (cellRowFrom from T) (cellWith g) cellOk (row-back from g T B gives) o _ _ (ok .outputs) (stands-left T B (map cellLine o) (fromDeps s) outputs),
+          rows-back cellLine 3 cell-wide T B (cellRowFrom from T) (cellWith g) cellOk (row-back from g T B gives) d _ _ (ok .deps) (stands-left T B (map cellLine d) (fromWitnesses s) deps),
+          rows-back bytesLine 2 bytes-wide T B (bytesFrom from T) g bytesOk (bytes-back from g T B gives) w _ _ (ok .witnesses) (stands-left T B (map bytesLine w) (digitsLine (s .digits) ∷ []) witnesses),
+          digits-back T B (s .digits) _ _ verdicts,
+        )

@@ -102,5 +102,5 @@ module _ {A : Type 0} (line : A → Line) (w : ℕ) (wide : (x : A) → suc (len
       (one x at used (a .0) (stands-left table store (line x ∷ []) (map line xs) s))
       (rows-back table store read image ok one xs (at + w) (used + total (line x ∷ [])) (a .1) t)
     where
-    row-long : (x : A) (used : ℕ) → length (rowsFrom used (line x ∷ [])) ≡ w
-    row-long x used = rows-long (x ∷ []) used ∙ rw mul-suc (rw mul-zero (omega arith))
+      row-long : (x : A) (used : ℕ) → length (rowsFrom used (line x ∷ [])) ≡ w
+      row-long x used = rows-long (x ∷ []) used ∙ rw mul-suc (rw mul-zero (omega arith))

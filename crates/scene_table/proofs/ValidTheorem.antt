@@ -95,12 +95,13 @@ alike-lines s =
 zeroed-numbers : (s : Scene) → sceneNumbers (sceneWith zeroed s) ≡ sceneNumbers s
 unfolding sceneNumbers countsOf sceneWith
 zeroed-numbers s =
-    rw
-    (length-map (s .inputs) (inputWith zeroed),
-    length-map (s .outputs) (cellWith zeroed),
-    length-map (s .deps) (cellWith zeroed),
-    length-map (s .witnesses) zeroed,
-    alike-lines s .rows 0)
+    rw (
+      length-map (s .inputs) (inputWith zeroed),
+      length-map (s .outputs) (cellWith zeroed),
+      length-map (s .deps) (cellWith zeroed),
+      length-map (s .witnesses) zeroed,
+      alike-lines s .rows 0,
+    )
 
 zeroed-table : (s : Scene) (m : ℕ) → tableOf (sceneWith zeroed s) m ≡ tableOf s m
 unfolding tableOf
@@ -143,15 +144,16 @@ zeroed-hash hash h = rw (hash-long hash h) blank-hash
 zeroed-ok : (s : Scene) → Sayable s → sceneOk (sceneWith zeroed s) ≡ true
 unfolding sceneOk sceneWith digitsOk
 zeroed-ok s ok =
-    rw
-    (blank-bytes (length (s .script)),
-    zeroed-hash (s .transaction) (ok .transaction),
-    few inputOk (inputWith zeroed) zeroed-input (s .inputs) (ok .fewInputs) (ok .inputs),
-    few cellOk (cellWith zeroed) zeroed-cell (s .outputs) (ok .fewOutputs) (ok .outputs),
-    few cellOk (cellWith zeroed) zeroed-cell (s .deps) (ok .fewDeps) (ok .deps),
-    few bytesOk zeroed (λ bs h. blank-bytes (length bs)) (s .witnesses) (ok .fewWitnesses) (ok .witnesses),
-    le-leb (length (s .digits)) 16 (ok .fewDigits),
-    ok .digits)
+    rw (
+      blank-bytes (length (s .script)),
+      zeroed-hash (s .transaction) (ok .transaction),
+      few inputOk (inputWith zeroed) zeroed-input (s .inputs) (ok .fewInputs) (ok .inputs),
+      few cellOk (cellWith zeroed) zeroed-cell (s .outputs) (ok .fewOutputs) (ok .outputs),
+      few cellOk (cellWith zeroed) zeroed-cell (s .deps) (ok .fewDeps) (ok .deps),
+      few bytesOk zeroed (λ bs h. blank-bytes (length bs)) (s .witnesses) (ok .fewWitnesses) (ok .witnesses),
+      le-leb (length (s .digits)) 16 (ok .fewDigits),
+      ok .digits,
+    )
 
 -- a table says the zeroed scene of a scene that leaves it
 blank-scene : (s : Scene) (m : ℕ) → Sayable s → blankScene (tableOf s m) ≡ sceneWith zeroed s
@@ -175,12 +177,13 @@ unfolding validTable
 passes-scene table n h =
     let a = and-both _ _ h in
     let b = and-both _ _ (a .1) in
-    let c = and-both _ _ (b .1) in
-    (leb-true 2048 (length table) (a .0),
-    blankScene table,
-    b .0,
-    leb-true (length (sceneBytes (blankScene table))) n (c .0),
-    same-eq table (tableOf (blankScene table) (length table)) (c .1))
+    let c = and-both _ _ (b .1) in (
+      leb-true 2048 (length table) (a .0),
+      blankScene table,
+      b .0,
+      leb-true (length (sceneBytes (blankScene table))) n (c .0),
+      same-eq table (tableOf (blankScene table) (length table)) (c .1),
+    )
 
 -- 01, the row for 7: yes exactly for a table that some scene leaves, scene length aside, with a store of n bytes
 pub valid-table : (table : List ℕ) (n : ℕ) → (validTable table n ≡ true)
