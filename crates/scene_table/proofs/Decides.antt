@@ -3,23 +3,22 @@
 use mathlib.Core.Path.{_≡_, refl, sym, ap, ap₂, _∙_}
 use mathlib.Core.Bool.{Bool, true, false, _&&_}
 use mathlib.Core.List.{List, [], _∷_, _++_, append-assoc}
-use Prim.Native.Nat.{ℕ, zero, suc, _+_, _-_, _*_, _^_, _≤_, _<_}
+use Prim.Native.Nat.{ℕ, zero, suc, _+_, _-_, _^_, _≤_, _<_}
 use native.Mathlib.Omega.{arith}
 use borrow.Author.Tests.{eq-eqb, eqb-true, le-leb, leb-true}
 use lib.Dec.{leb, ltb, eqb}
-use lib.ListN.{length, take, drop, getD, replicate, length-append, length-drop, length-replicate, take-append-drop}
+use lib.ListN.{length, take, drop, getD, replicate, length-append, length-drop, take-append-drop}
 use lib.Seq.{drop-at, take-add}
-use Rattle.octets.specs.Lists.{same, joined}
 use Rattle.octets.proofs.Same.{same-eq, eq-same}
 use Rattle.octets.proofs.Parts.{part-back}
-use Rattle.scene_table.specs.Scene.{Scene, Line, linesOf, rowsFrom, countsOf, sceneBytes, sceneNumbers, padded, tableOf}
+use Rattle.scene_table.specs.Scene.{linesOf, rowsFrom, countsOf, sceneBytes, sceneNumbers, padded, tableOf}
 use Rattle.scene_table.specs.Lent.{entryAt, inputsAt, outputsAt, depsAt, witnessesAt, verdictsAt, rowsAt, inputFrom, cellRowFrom, bytesFrom, sceneFrom, blankScene}
 use Rattle.scene_table.specs.Places.{digitCount}
-use Rattle.scene_table.specs.Valid.{every, sceneOk, validTable}
-use Rattle.scene_table.specs.Walk.{groupOk, startWalk, walkLines, countsOk, zerosBehind, restOk}
+use Rattle.scene_table.specs.Valid.{every, validTable}
+use Rattle.scene_table.specs.Walk.{startWalk, walkLines, countsOk, zerosBehind, restOk}
 use Rattle.scene_table.proofs.Rows.{length-rows}
 use Rattle.scene_table.proofs.Lines.{total, total-joined, cut, cut-take}
-use Rattle.scene_table.proofs.Segments.{Segment, and-both, both-and}
+use Rattle.scene_table.proofs.Segments.{and-both, both-and}
 use Rattle.scene_table.proofs.WholeWalk.{blank, span, Groups, whole}
 use Rattle.scene_table.proofs.BlankScene.{blank-ok}
 

@@ -1,14 +1,15 @@
 -- A scene is what its table and its store hold.
 -- Assumes nothing.
-use mathlib.Core.Path.{_≡_, refl, sym, ap, _∙_}
+use mathlib.Core.Path.{_≡_, ap, _∙_}
 use mathlib.Core.Bool.{true}
-use mathlib.Core.List.{List, [], _∷_, _++_, map, append-assoc, map-id}
-use Prim.Native.Nat.{ℕ, _+_, _-_}
-use lib.ListN.{length, take, drop, replicate}
+use mathlib.Core.List.{List, _++_, append-assoc, map-id}
+use Prim.Native.Nat.{ℕ, _-_}
+use lib.ListN.{length, replicate}
 use Rattle.octets.proofs.Parts.{part-back}
-use Rattle.scene_table.specs.Scene.{Cell, Input, Scene, sceneBytes, padded, storeOf, tableOf}
+use Rattle.scene_table.specs.Scene.{Scene, sceneBytes, padded, storeOf, tableOf}
 use Rattle.scene_table.specs.Lent.{bytesAt, lentScene}
 use Rattle.scene_table.specs.Valid.{sceneOk}
+use Rattle.scene_table.proofs.PlaceLaws.{Given, lent-given}
 use Rattle.scene_table.proofs.ReadBack.{cellWith, inputWith, sceneWith, Gives}
 use Rattle.scene_table.proofs.SceneBack.{sayable, scene-back}
 
@@ -27,3 +28,7 @@ same-scene s = rw (map-id (s .inputs), map-id (s .outputs), map-id (s .deps), ma
 pub lent-back : (s : Scene) (m n : ℕ) → sceneOk s ≡ true → lentScene (tableOf s m) (storeOf s n) ≡ s
 unfolding lentScene
 lent-back s m n ok = scene-back s m (bytesAt (storeOf s n)) (λ q. q) (store-gives s n) (sayable s ok) ∙ same-scene s
+
+-- so the accessors give the scene that left the table and the store
+pub scene-given : (s : Scene) (m n : ℕ) → sceneOk s ≡ true → Given (tableOf s m) (storeOf s n) s
+scene-given s m n ok = rw (lent-back s m n ok) at (lent-given (tableOf s m) (storeOf s n))

@@ -1,16 +1,16 @@
--- Lines and their rows: how many entries and bytes, one list of lines behind another, and the entries of a table as a list.
+-- Lines and their rows: how many bytes, one list of lines behind another, the entries of a table as a list, and a scene's
+-- lines kind by kind.
 -- Assumes nothing.
-use mathlib.Core.Path.{_≡_, refl, sym, ap, ap₂, _∙_}
+use mathlib.Core.Path.{_≡_, refl, sym, ap, _∙_}
 use mathlib.Core.List.{List, [], _∷_, _++_, map, append-assoc}
-use Prim.Native.Nat.{ℕ, zero, suc, _+_, _-_, _*_, _≤_, _<_}
-use native.Mathlib.Nat.{zero-add, add-zero, add-assoc, suc-add, mul-suc, mul-zero}
+use Prim.Native.Nat.{ℕ, zero, suc, _+_, _≤_, _<_}
+use native.Mathlib.Nat.{zero-add, add-zero, add-assoc, suc-add}
 use native.Mathlib.Numerals.{add-one}
 use native.Mathlib.Omega.{arith}
-use lib.ListN.{length, take, drop, getD, length-append}
+use lib.ListN.{length, take, drop, length-append}
 use lib.Seq.{drop-cons, take-at, drop-at}
 use Rattle.octets.specs.Lists.{joined}
-use Rattle.octets.proofs.Parts.{part-back}
-use Rattle.scene_table.specs.Scene.{Line, rowsFrom}
+use Rattle.scene_table.specs.Scene.{Scene, Line, bytesLine, hashLine, inputLine, cellLine, digitsLine, linesOf, rowsFrom}
 use Rattle.scene_table.specs.Lent.{entryAt, rowsAt}
 use Rattle.scene_table.proofs.Rows.{length-rows}
 
@@ -68,3 +68,29 @@ cut-take table (suc n) at h =
     let l : at < length table = omega arith in
     let k : at + 1 + n ≤ length table = omega arith in
     rw (drop-cons table at 0 l, cut-take table n (at + 1) k, add-one)
+
+-- a scene's lines, kind by kind
+unfoldable pub fromWitnesses : Scene → List Line
+fromWitnesses s = map bytesLine (s .witnesses) ++ (digitsLine (s .digits) ∷ [])
+
+unfoldable pub fromDeps : Scene → List Line
+fromDeps s = map cellLine (s .deps) ++ fromWitnesses s
+
+unfoldable pub fromOutputs : Scene → List Line
+fromOutputs s = map cellLine (s .outputs) ++ fromDeps s
+
+unfoldable pub fromInputs : Scene → List Line
+fromInputs s = map inputLine (s .inputs) ++ fromOutputs s
+
+regroup : (a b c d e : List Line) → a ++ b ++ c ++ d ++ e ≡ a ++ (b ++ (c ++ (d ++ e)))
+regroup a b c d e = simp append-assoc
+
+pub lines-by-kind : (s : Scene) → linesOf s ≡ bytesLine (s .script) ∷ hashLine (s .transaction) ∷ fromInputs s
+unfolding linesOf fromInputs fromOutputs fromDeps fromWitnesses
+lines-by-kind s =
+    regroup
+    (bytesLine (s .script) ∷ hashLine (s .transaction) ∷ map inputLine (s .inputs))
+    (map cellLine (s .outputs))
+    (map cellLine (s .deps))
+    (map bytesLine (s .witnesses))
+    (digitsLine (s .digits) ∷ [])

@@ -1,21 +1,18 @@
 -- A scene's table read back: the scene itself, with what a function gives for each run of its bytes.
 -- Assumes nothing.
-use mathlib.Core.Path.{_≡_, refl, sym, ap, ap₂, _∙_}
+use mathlib.Core.Path.{_≡_, refl, sym, _∙_}
 use mathlib.Core.Bool.{Bool, true, false, cond, _&&_}
-use mathlib.Core.List.{List, [], _∷_, _++_, map, append-assoc, append-nil}
-use Prim.Native.Nat.{ℕ, zero, suc, _+_, _-_, _*_, _/_, _%_, _^_, _≤_, _<_}
+use mathlib.Core.List.{List, [], _∷_, _++_, map, append-assoc}
+use Prim.Native.Nat.{ℕ, _+_, _*_, _/_, _%_, _^_}
 use native.Mathlib.Omega.{arith}
 use borrow.Author.Tests.{eqb-true}
-use lib.Dec.{lit<, leb, ltb, eqb}
-use lib.ListN.{length, take, drop, getD, replicate, length-append, length-replicate}
-use Rattle.octets.specs.Lists.{joined}
-use Rattle.octets.proofs.Parts.{part-back}
-use Rattle.scene_table.specs.Scene.{Cell, Input, Scene, Line, cellBytes, cellLengths, bytesLine, hashLine, inputLine, cellLine, digitsLine, linesOf, sceneBytes, countsOf, rowsFrom, sceneNumbers, padded, tableOf}
-use Rattle.scene_table.specs.Lent.{entryAt, inputsAt, outputsAt, depsAt, witnessesAt, verdictsAt, rowsAt, hashLength, cellFrom, inputFrom, cellRowFrom, bytesFrom, sceneFrom}
-use Rattle.scene_table.specs.Valid.{every, bytesOk, hashOk, cellOk, inputOk, fewOf, digitsOk, sceneOk}
-use Rattle.scene_table.proofs.Lines.{total, cut, cut-take}
+use lib.Dec.{lit<, ltb, eqb}
+use lib.ListN.{length, length-append}
+use Rattle.scene_table.specs.Scene.{Cell, Input, Scene, cellBytes, cellLengths, bytesLine, hashLine, inputLine, cellLine}
+use Rattle.scene_table.specs.Lent.{entryAt, hashLength, cellFrom, inputFrom, cellRowFrom, bytesFrom}
+use Rattle.scene_table.specs.Valid.{bytesOk, hashOk, cellOk, inputOk}
 use Rattle.scene_table.proofs.Segments.{and-both}
-use Rattle.scene_table.proofs.Stands.{Stands, bytesOf, stands-left, stands-right, row-first, row-entry, row-bytes, rows-long, rows-back}
+use Rattle.scene_table.proofs.Stands.{Stands, row-first, row-entry, row-bytes}
 
 -- a scene with g of each run of bytes
 unfoldable pub cellWith : (List ℕ → List ℕ) → Cell → Cell

@@ -1,21 +1,21 @@
 -- The whole table of a scene read back.
 -- Assumes nothing.
-use mathlib.Core.Path.{_≡_, refl, sym, ap, ap₂, _∙_}
-use mathlib.Core.Bool.{Bool, true, false, _&&_}
+use mathlib.Core.Path.{_≡_, refl, sym, ap, _∙_}
+use mathlib.Core.Bool.{Bool, true}
 use mathlib.Core.List.{List, [], _∷_, _++_, map, append-assoc, append-nil}
-use Prim.Native.Nat.{ℕ, zero, suc, _+_, _-_, _*_, _^_, _≤_, _<_}
+use Prim.Native.Nat.{ℕ, suc, _+_, _-_, _*_, _≤_}
 use native.Mathlib.Nat.{zero-lt-suc}
 use native.Mathlib.Omega.{arith}
 use borrow.Author.Tests.{leb-true}
-use lib.Dec.{lit<, leb, ltb, eqb}
-use lib.ListN.{length, take, drop, replicate, length-append, length-replicate, length-map}
+use lib.Dec.{leb, ltb}
+use lib.ListN.{length, replicate, length-append}
 use Rattle.octets.proofs.Parts.{part-back}
 use Rattle.scene_table.specs.Scene.{Cell, Input, Scene, Line, cellLengths, bytesLine, hashLine, inputLine, cellLine, digitsLine, linesOf, sceneBytes, countsOf, rowsFrom, sceneNumbers, padded, tableOf}
 use Rattle.scene_table.specs.Lent.{entryAt, inputsAt, outputsAt, depsAt, witnessesAt, verdictsAt, rowsAt, inputFrom, cellRowFrom, bytesFrom, sceneFrom}
 use Rattle.scene_table.specs.Valid.{every, bytesOk, hashOk, cellOk, inputOk, fewOf, digitsOk, sceneOk}
-use Rattle.scene_table.proofs.Lines.{total, rows-append, cut, cut-take}
+use Rattle.scene_table.proofs.Lines.{total, rows-append, cut, cut-take, fromInputs, fromOutputs, fromDeps, fromWitnesses, lines-by-kind}
 use Rattle.scene_table.proofs.Segments.{and-both}
-use Rattle.scene_table.proofs.Stands.{Stands, bytesOf, stands-left, stands-right, row-first, row-entry, rows-long, rows-back}
+use Rattle.scene_table.proofs.Stands.{Stands, bytesOf, stands-left, stands-right, row-entry, rows-long, rows-back}
 use Rattle.scene_table.proofs.ReadBack.{cellWith, inputWith, sceneWith, Gives, bytes-back, hash-back, row-back, input-back}
 
 -- what a scene that a text can say has
@@ -65,32 +65,6 @@ sayable s h =
       fewDigits = leb-true (length (s .digits)) 16 (g .0);
       digits = g .1;
     }
-
--- a scene's lines, kind by kind
-unfoldable pub fromWitnesses : Scene → List Line
-fromWitnesses s = map bytesLine (s .witnesses) ++ (digitsLine (s .digits) ∷ [])
-
-unfoldable pub fromDeps : Scene → List Line
-fromDeps s = map cellLine (s .deps) ++ fromWitnesses s
-
-unfoldable pub fromOutputs : Scene → List Line
-fromOutputs s = map cellLine (s .outputs) ++ fromDeps s
-
-unfoldable pub fromInputs : Scene → List Line
-fromInputs s = map inputLine (s .inputs) ++ fromOutputs s
-
-regroup : (a b c d e : List Line) → a ++ b ++ c ++ d ++ e ≡ a ++ (b ++ (c ++ (d ++ e)))
-regroup a b c d e = simp append-assoc
-
-pub lines-by-kind : (s : Scene) → linesOf s ≡ bytesLine (s .script) ∷ hashLine (s .transaction) ∷ fromInputs s
-unfolding linesOf fromInputs fromOutputs fromDeps fromWitnesses
-lines-by-kind s =
-    regroup
-    (bytesLine (s .script) ∷ hashLine (s .transaction) ∷ map inputLine (s .inputs))
-    (map cellLine (s .outputs))
-    (map cellLine (s .deps))
-    (map bytesLine (s .witnesses))
-    (digitsLine (s .digits) ∷ [])
 
 input-wide : (i : Input) → suc (length (inputLine i .numbers)) ≡ 6
 unfolding inputLine cellLengths

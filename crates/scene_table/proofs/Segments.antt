@@ -3,9 +3,8 @@
 use mathlib.Core.Path.{_≡_, refl, sym, ap, ap₂, _∙_}
 use mathlib.Core.Bool.{Bool, true, false, _&&_}
 use mathlib.Core.List.{List, [], _∷_, _++_, append-nil}
-use Prim.Native.Nat.{ℕ, zero, suc, _+_, _-_, _*_, _≤_, _<_}
+use Prim.Native.Nat.{ℕ, zero, suc, _+_, _*_}
 use native.Mathlib.Nat.{add-zero, add-assoc, add-comm, mul-suc, mul-zero}
-use native.Mathlib.Numerals.{add-one}
 use native.Mathlib.Omega.{arith}
 use borrow.Author.Tests.{eq-eqb, eqb-true}
 use lib.Dec.{eqb}
@@ -15,7 +14,6 @@ use Rattle.scene_table.specs.Lent.{entryAt, rowsAt}
 use Rattle.scene_table.specs.Valid.{every}
 use Rattle.scene_table.specs.Walk.{need, placed, rowStep, walkRows}
 use Rattle.scene_table.specs.declared.validity.Walk.{Walk}
-use Rattle.scene_table.proofs.Rows.{length-rows}
 use Rattle.scene_table.proofs.Lines.{total, rows-append, total-append, append-parts, cut, cut-parts, length-cut}
 
 pub and-both : (a b : Bool) → (a && b) ≡ true → (a ≡ true) × (b ≡ true)

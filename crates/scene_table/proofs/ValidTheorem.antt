@@ -1,24 +1,22 @@
 -- The test of a table answers yes exactly where there is a scene that leaves it with a store this long.
 -- Assumes nothing.
-use mathlib.Core.Path.{_≡_, refl, sym, ap, ap₂, _∙_}
-use mathlib.Core.Bool.{Bool, true, false, _&&_}
+use mathlib.Core.Path.{_≡_, refl, sym, ap, _∙_}
+use mathlib.Core.Bool.{Bool, true, _&&_}
 use mathlib.Core.List.{List, [], _∷_, _++_, map}
 use mathlib.Core.Logic.{_↔_}
-use Prim.Native.Nat.{ℕ, _+_, _*_, _^_, _≤_}
-use native.Mathlib.Omega.{arith}
+use Prim.Native.Nat.{ℕ, _+_, _^_, _≤_}
 use borrow.Author.Tests.{le-leb, leb-true}
-use lib.Dec.{leb, ltb}
+use lib.Dec.{ltb}
 use lib.ListN.{length, replicate, length-append, length-replicate, length-map}
-use Rattle.octets.specs.Lists.{same}
 use Rattle.octets.proofs.Same.{same-eq, eq-same}
-use Rattle.scene_table.specs.Scene.{Cell, Input, Scene, Line, cellBytes, cellLengths, bytesLine, hashLine, inputLine, cellLine, digitsLine, linesOf, sceneBytes, countsOf, rowsFrom, sceneNumbers, padded, tableOf}
-use Rattle.scene_table.specs.Lent.{cellFrom, sceneFrom, blankScene}
+use Rattle.scene_table.specs.Scene.{Cell, Input, Scene, Line, cellBytes, cellLengths, bytesLine, hashLine, inputLine, cellLine, linesOf, sceneBytes, countsOf, rowsFrom, sceneNumbers, padded, tableOf}
+use Rattle.scene_table.specs.Lent.{cellFrom, blankScene}
 use Rattle.scene_table.specs.Valid.{every, bytesOk, hashOk, cellOk, inputOk, fewOf, digitsOk, sceneOk, validTable}
 use Rattle.scene_table.proofs.Lines.{total, total-joined, total-append, rows-append}
 use Rattle.scene_table.proofs.Segments.{and-both, both-and}
 use Rattle.scene_table.proofs.WholeWalk.{blank}
 use Rattle.scene_table.proofs.BlankScene.{blank-bytes, blank-hash, blank-cell}
-use Rattle.scene_table.proofs.ReadBack.{cellWith, inputWith, sceneWith, Gives, hash-long, cell-hashes}
+use Rattle.scene_table.proofs.ReadBack.{cellWith, inputWith, sceneWith, hash-long, cell-hashes}
 use Rattle.scene_table.proofs.SceneBack.{Sayable, sayable, scene-back}
 
 -- as many zeros as a list has elements

@@ -1,12 +1,12 @@
 -- The walk over all lines that a table says: each kind's rows hold the table's own numbers, so only their places are tested.
 -- Assumes nothing.
-use mathlib.Core.Path.{_≡_, refl, sym, ap, _∙_}
-use mathlib.Core.Bool.{Bool, true, false, _&&_}
-use mathlib.Core.List.{List, [], _∷_, _++_, map, append-assoc}
-use Prim.Native.Nat.{ℕ, zero, suc, _+_, _*_, _/_, _%_, _^_, _≤_, _<_}
+use mathlib.Core.Path.{_≡_, refl, _∙_}
+use mathlib.Core.Bool.{true}
+use mathlib.Core.List.{List, [], _∷_, _++_, map}
+use Prim.Native.Nat.{ℕ, zero, suc, _+_, _*_, _/_, _%_, _^_, _<_}
 use native.Mathlib.Omega.{arith}
 use lib.ListN.{length, replicate, length-append, length-replicate}
-use Rattle.scene_table.specs.Scene.{Cell, Input, Scene, Line, cellBytes, cellLengths, bytesLine, hashLine, inputLine, cellLine, digitsLine, linesOf}
+use Rattle.scene_table.specs.Scene.{Line, cellBytes, cellLengths, bytesLine, hashLine, inputLine, cellLine, digitsLine, linesOf}
 use Rattle.scene_table.specs.Lent.{entryAt, inputsAt, outputsAt, depsAt, witnessesAt, verdictsAt, rowsAt, cellFrom, inputFrom, cellRowFrom, bytesFrom, sceneFrom, blankScene}
 use Rattle.scene_table.specs.Places.{digitCount}
 use Rattle.scene_table.specs.Valid.{every}
@@ -14,7 +14,7 @@ use Rattle.scene_table.specs.Walk.{placed, cellSize, rowStep, walkRows, 
 use Rattle.scene_table.specs.declared.validity.Walk.{Walk}
 use Rattle.scene_table.proofs.Rows.{length-rows}
 use Rattle.scene_table.proofs.WalkLaws.{need-true}
-use Rattle.scene_table.proofs.Lines.{cut}
+use Rattle.scene_table.proofs.Lines.{cut, fromInputs, fromOutputs, fromDeps, fromWitnesses, lines-by-kind}
 use Rattle.scene_table.proofs.Segments.{Segment, join, retest, row-segment, rows-segment}
 
 -- bytes of a length, all zero
@@ -25,9 +25,6 @@ pub map-rows : {A B : Type 0} (f : A → B) (read : ℕ → A) (w n at : ℕ) �
 unfolding rowsAt
 map-rows f read w zero at = refl
 map-rows f read w (suc n) at = rw (map-rows f read w n (at + w))
-
-regroup : (a b c d e : List Line) → a ++ b ++ c ++ d ++ e ≡ a ++ (b ++ (c ++ (d ++ e)))
-regroup a b c d e = simp append-assoc
 
 pub every-any : (l : List ℕ) → every anyRow l ≡ true
 unfolding every anyRow
@@ -111,20 +108,15 @@ module _ (table : List ℕ) where
       ++ (cellRows (entryAt table 4) (outputsAt table) ++ (cellRows (entryAt table 5) (depsAt table) ++ (witnessRows ++ (digitsRow ∷ []))))))
 
   lines-kinds : linesOf (blankScene table) ≡ kinds
-  unfolding linesOf blankScene sceneFrom digitCount inputRows cellRows witnessRows digitsRow kinds
+  unfolding blankScene sceneFrom digitCount inputRows cellRows witnessRows digitsRow kinds fromInputs fromOutputs fromDeps fromWitnesses
   lines-kinds =
-      rw (
+      lines-by-kind (blankScene table)
+      ∙ rw (
         map-rows inputLine (inputFrom blank table) 6 (entryAt table 3) inputsAt,
         map-rows cellLine (cellRowFrom blank table) 3 (entryAt table 4) (outputsAt table),
         map-rows cellLine (cellRowFrom blank table) 3 (entryAt table 5) (depsAt table),
         map-rows bytesLine (bytesFrom blank table) 2 (entryAt table 6) (witnessesAt table),
       )
-      (regroup
-      (bytesLine (bytesFrom blank table 8) ∷ hashLine (blank (entryAt table 10) 32) ∷ inputRows)
-      (cellRows (entryAt table 4) (outputsAt table))
-      (cellRows (entryAt table 5) (depsAt table))
-      witnessRows
-      (digitsRow ∷ []))
 
   -- how many entries they have
   unfoldable pub span : ℕ

@@ -5,8 +5,9 @@ use mathlib.Core.List.{List}
 use lib.ListN.{getD}
 use lib.Dec.{eqb}
 use Rattle.molecule.specs.declared.bytes.Place.{Place}
-use Rattle.scene_table.specs.Scene.{Cell, Scene}
-use Rattle.scene_table.specs.Lent.{entryAt, inputsAt, outputsAt, depsAt, witnessesAt, verdictsAt, hashLength, bytesAt, blankScene}
+use Rattle.molecule.specs.Bytes as molecule
+use Rattle.scene_table.specs.Scene.{Cell}
+use Rattle.scene_table.specs.Lent.{entryAt, inputsAt, outputsAt, depsAt, witnessesAt, verdictsAt, hashLength, blankScene}
 use Rattle.scene_table.specs.declared.places.CellPlaces.{CellPlaces}
 
 -- a place of n bytes
@@ -70,14 +71,11 @@ verdictAt digits i = getD digits i 2
 unfoldable pub verdictOf : List ℕ → ℕ → ℕ
 verdictOf table i = verdictAt (blankScene table .digits) i
 
--- the bytes of the store at a place, and the cell at its places
-unfoldable pub atPlace : List ℕ → Place → List ℕ
-atPlace store p = bytesAt store (p .start) (p .len)
-
+-- the cell at its places in the store
 unfoldable pub cellAt : List ℕ → CellPlaces → Cell
 cellAt store p = record {
-  typeHash = atPlace store (p .«type_hash»);
-  dataHash = atPlace store (p .«data_hash»);
-  typeScript = atPlace store (p .«type_script»);
-  content = atPlace store (p .content);
+  typeHash = molecule.bytesAt store (p .«type_hash»);
+  dataHash = molecule.bytesAt store (p .«data_hash»);
+  typeScript = molecule.bytesAt store (p .«type_script»);
+  content = molecule.bytesAt store (p .content);
 }

@@ -4,7 +4,6 @@ use mathlib.Core.Bool.{Bool, true, _&&_}
 use mathlib.Core.List.{List}
 use lib.ListN.{length, drop}
 use lib.Dec.{leb, ltb, eqb}
-use Rattle.scene_table.specs.Scene.{Scene}
 use Rattle.scene_table.specs.Lent.{entryAt, inputsAt, outputsAt, depsAt, witnessesAt, verdictsAt, hashLength, blankScene}
 use Rattle.scene_table.specs.Places.{digitCount}
 use Rattle.scene_table.specs.Valid.{every}

@@ -7,11 +7,10 @@ use crate::places::outputs_at;
 use crate::places::verdicts_at;
 use crate::places::witnesses_at;
 ghost use mathlib.Core.Path.{_≡_};
-ghost use mathlib.Core.Bool.{_&&_};
-ghost use Prim.Native.Nat.{_≤_, _<_, _^_};
-ghost use lib.Dec.{leb, ltb, eqb};
+ghost use Prim.Native.Nat.{_<_, _^_};
+ghost use lib.Dec.{ltb, eqb};
 ghost use lib.ListN.{drop};
-ghost use Rattle.scene_table.specs.Lent.{entryAt, rowsAt, inputsAt, outputsAt, depsAt, witnessesAt};
+ghost use Rattle.scene_table.specs.Lent.{entryAt, rowsAt, inputsAt, witnessesAt};
 ghost use Rattle.scene_table.specs.Valid.{every, validTable};
 ghost use Rattle.scene_table.specs.Walk.{need, placed, cellSize, rowStep, walkRows, anyRow, groupOk, bytesSize, cellRowSize, inputSize, countsOk, walkLines, restOk};
 

@@ -5,7 +5,6 @@ use native.Mathlib.Nat.{sub-zero}
 use native.Mathlib.Omega.{arith}
 use Rattle.scene_table.specs.Walk.{walkRows, anyRow, cellRowSize}
 use Rattle.scene_table.proofs.WalkLaws.{walk-turn, walk-end}
-use borrow.Author.Needs.{needs}
 use Rattle.scene_table.proofs.validity.walk_cells.Statement.{statement}
 use Rattle.scene_table.proofs.validity.walk_cells.Tie as tie
 

@@ -1,5 +1,4 @@
 -- `scene_table::validity::Walk::require` meets its contract. Assumes nothing.
-use borrow.Author.Tests.{eqb-true}
 use Rattle.scene_table.specs.Walk.{need}
 use Rattle.scene_table.proofs.WalkLaws.{and-true, and-false}
 use Rattle.scene_table.proofs.validity.Walk.require.Statement.{statement}
