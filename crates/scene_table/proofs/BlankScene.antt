@@ -13,7 +13,7 @@ use Rattle.scene_table.specs.Places.{digitCount}
 use Rattle.scene_table.specs.Valid.{every, bytesOk, hashOk, cellOk, inputOk, fewOf, digitsOk, sceneOk}
 use Rattle.scene_table.specs.Walk.{groupOk}
 use Rattle.scene_table.proofs.Rows.{length-rows}
-use Rattle.scene_table.proofs.WalkLaws.{and-true}
+use Rattle.scene_table.proofs.Truth.{and-true}
 use Rattle.scene_table.proofs.WholeWalk.{blank}
 
 pub blank-bytes : (n : ℕ) → bytesOk (replicate n 0) ≡ true

@@ -1,7 +1,7 @@
 -- The walk decides whether a table is one that a scene leaves.
 -- Assumes nothing.
 use mathlib.Core.Path.{_≡_, refl, sym, ap, ap₂, _∙_}
-use mathlib.Core.Bool.{Bool, true, false, _&&_}
+use mathlib.Core.Bool.{true, _&&_}
 use mathlib.Core.List.{List, [], _∷_, _++_, append-assoc}
 use Prim.Native.Nat.{ℕ, zero, suc, _+_, _-_, _^_, _≤_, _<_}
 use native.Mathlib.Omega.{arith}
@@ -18,14 +18,9 @@ use Rattle.scene_table.specs.Valid.{every, validTable}
 use Rattle.scene_table.specs.Walk.{startWalk, walkLines, countsOk, zerosBehind, restOk}
 use Rattle.scene_table.proofs.Rows.{length-rows}
 use Rattle.scene_table.proofs.Lines.{total, total-joined, cut, cut-take}
-use Rattle.scene_table.proofs.Segments.{and-both, both-and}
+use Rattle.scene_table.proofs.Truth.{and-both, both-and, same-truth}
 use Rattle.scene_table.proofs.WholeWalk.{blank, span, Groups, whole}
 use Rattle.scene_table.proofs.BlankScene.{blank-ok}
-
-same-truth : (a b : Bool) → (a ≡ true → b ≡ true) → (b ≡ true → a ≡ true) → a ≡ b
-same-truth true b f g = sym (f refl)
-same-truth false true f g = g refl
-same-truth false false f g = refl
 
 -- zeros, and lists that are
 pub zeros-pass : (n : ℕ) → every (λ (e : ℕ). eqb e 0) (replicate n 0) ≡ true

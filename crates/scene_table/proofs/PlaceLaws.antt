@@ -6,7 +6,7 @@ use Prim.Native.Nat.{ℕ, _+_}
 use lib.Dec.{eqb}
 use lib.ListN.{length}
 use Rattle.molecule.specs.Bytes as molecule
-use Rattle.scene_table.specs.Scene.{Cell, Input, Scene}
+use Rattle.scene_table.specs.Scene.{Input, Scene}
 use Rattle.scene_table.specs.Lent.{entryAt, inputsAt, outputsAt, depsAt, witnessesAt, verdictsAt, cellFrom, inputFrom, cellRowFrom, bytesFrom, sceneFrom, bytesAt, lentScene, blankScene}
 use Rattle.scene_table.specs.Places.{placeOf, cellPlaces, bytesPlace, rowPlaces, scriptPlace, transactionPlace, digitCount, inputAt, inputGroup, inputSince, inputPlaces, outputPlaces, depPlaces, witnessPlace, verdictAt, verdictOf, cellAt}
 use Rattle.scene_table.proofs.Rows.{Listed, length-rows, rows-listed}

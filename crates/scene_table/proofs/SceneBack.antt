@@ -14,7 +14,7 @@ use Rattle.scene_table.specs.Scene.{Cell, Input, Scene, Line, cellLength
 use Rattle.scene_table.specs.Lent.{entryAt, inputsAt, outputsAt, depsAt, witnessesAt, verdictsAt, rowsAt, inputFrom, cellRowFrom, bytesFrom, sceneFrom}
 use Rattle.scene_table.specs.Valid.{every, bytesOk, hashOk, cellOk, inputOk, fewOf, digitsOk, sceneOk}
 use Rattle.scene_table.proofs.Lines.{total, rows-append, cut, cut-take, fromInputs, fromOutputs, fromDeps, fromWitnesses, lines-by-kind}
-use Rattle.scene_table.proofs.Segments.{and-both}
+use Rattle.scene_table.proofs.Truth.{and-both}
 use Rattle.scene_table.proofs.Stands.{Stands, bytesOf, stands-left, stands-right, row-entry, rows-long, rows-back}
 use Rattle.scene_table.proofs.ReadBack.{cellWith, inputWith, sceneWith, Gives, bytes-back, hash-back, row-back, input-back}
 

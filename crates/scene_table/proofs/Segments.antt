@@ -1,11 +1,10 @@
 -- The walk over a part of a table's rows: it goes well exactly where the rows are those of the part's lines.
 -- Assumes nothing.
 use mathlib.Core.Path.{_≡_, refl, sym, ap, ap₂, _∙_}
-use mathlib.Core.Bool.{Bool, true, false, _&&_}
+use mathlib.Core.Bool.{Bool, true, _&&_}
 use mathlib.Core.List.{List, [], _∷_, _++_, append-nil}
 use Prim.Native.Nat.{ℕ, zero, suc, _+_, _*_}
 use native.Mathlib.Nat.{add-zero, add-assoc, add-comm, mul-suc, mul-zero}
-use native.Mathlib.Omega.{arith}
 use borrow.Author.Tests.{eq-eqb, eqb-true}
 use lib.Dec.{eqb}
 use lib.ListN.{length, getD, length-append}
@@ -14,14 +13,8 @@ use Rattle.scene_table.specs.Lent.{entryAt, rowsAt}
 use Rattle.scene_table.specs.Valid.{every}
 use Rattle.scene_table.specs.Walk.{need, placed, rowStep, walkRows}
 use Rattle.scene_table.specs.declared.validity.Walk.{Walk}
+use Rattle.scene_table.proofs.Truth.{and-both, both-and}
 use Rattle.scene_table.proofs.Lines.{total, rows-append, total-append, append-parts, cut, cut-parts, length-cut}
-
-pub and-both : (a b : Bool) → (a && b) ≡ true → (a ≡ true) × (b ≡ true)
-and-both true b h = (refl, h)
-and-both false b h = absurd (let z : _≡_ {A = ℕ} 0 1 = cc in omega arith)
-
-pub both-and : (a b : Bool) → a ≡ true → b ≡ true → (a && b) ≡ true
-both-and a b p q = rw (p, q)
 
 -- the walk from k to k' over the rows of some lines, n entries from `at` on, where a further test of them passes
 pub record Segment (table : List ℕ) (Test : Type 0) (k : Walk) (at n : ℕ) (ls : List Line) (k' : Walk) : Type 0 where

@@ -13,7 +13,7 @@ use Rattle.scene_table.specs.Scene.{Line, rowsFrom}
 use Rattle.scene_table.specs.Lent.{entryAt, rowsAt}
 use Rattle.scene_table.specs.Valid.{every}
 use Rattle.scene_table.proofs.Lines.{total, total-joined, rows-append}
-use Rattle.scene_table.proofs.Segments.{and-both}
+use Rattle.scene_table.proofs.Truth.{and-both}
 
 -- the bytes of lines
 unfoldable pub bytesOf : List Line → List ℕ

@@ -13,7 +13,7 @@ use Rattle.scene_table.specs.Scene.{Cell, Input, Scene, Line, cellBytes,
 use Rattle.scene_table.specs.Lent.{cellFrom, blankScene}
 use Rattle.scene_table.specs.Valid.{every, bytesOk, hashOk, cellOk, inputOk, fewOf, digitsOk, sceneOk, validTable}
 use Rattle.scene_table.proofs.Lines.{total, total-joined, total-append, rows-append}
-use Rattle.scene_table.proofs.Segments.{and-both, both-and}
+use Rattle.scene_table.proofs.Truth.{and-both, both-and}
 use Rattle.scene_table.proofs.WholeWalk.{blank}
 use Rattle.scene_table.proofs.BlankScene.{blank-bytes, blank-hash, blank-cell}
 use Rattle.scene_table.proofs.ReadBack.{cellWith, inputWith, sceneWith, hash-long, cell-hashes}

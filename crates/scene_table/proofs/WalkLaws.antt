@@ -1,7 +1,7 @@
 -- The walk's laws: its turns, and the turns of the loops over digits and over the entries behind them.
 -- Assumes nothing.
-use mathlib.Core.Path.{_≡_, refl}
-use mathlib.Core.Bool.{Bool, true, false, _&&_}
+use mathlib.Core.Path.{_≡_}
+use mathlib.Core.Bool.{Bool, true, _&&_}
 use mathlib.Core.List.{List}
 use Prim.Native.Nat.{ℕ, suc, _+_, _-_, _≤_, _<_}
 use native.Mathlib.Numerals.{add-one}
@@ -13,14 +13,7 @@ use Rattle.scene_table.specs.Valid.{every}
 use Rattle.scene_table.specs.Walk.{need, rowStep, walkRows}
 use Rattle.scene_table.specs.declared.validity.Walk.{Walk}
 use Rattle.scene_table.proofs.Rows.{rows-end}
-
-pub and-true : (b : Bool) → b && true ≡ b
-and-true true = refl
-and-true false = refl
-
-pub and-false : (b : Bool) → b && false ≡ false
-and-false true = refl
-and-false false = refl
+use Rattle.scene_table.proofs.Truth.{and-true}
 
 -- a test that passes changes nothing
 pub need-true : (k : Walk) → need k true ≡ k

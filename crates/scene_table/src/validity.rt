@@ -14,7 +14,7 @@ ghost use Rattle.scene_table.specs.Lent.{entryAt, rowsAt, inputsAt, witn
 ghost use Rattle.scene_table.specs.Valid.{every, validTable};
 ghost use Rattle.scene_table.specs.Walk.{need, placed, cellSize, rowStep, walkRows, anyRow, groupOk, bytesSize, cellRowSize, inputSize, countsOk, walkLines, restOk};
 
-// The rows so far are good, and their bytes end at `used`.
+// Whether the rows so far are good, and where their bytes end.
 pub(crate) struct Walk {
     good: bool,
     used: u64,
