@@ -1,0 +1,240 @@
+-- The walk decides whether a table is one that a scene leaves.
+-- Assumes nothing.
+use mathlib.Core.Path.{_≡_, refl, sym, ap, ap₂, _∙_}
+use mathlib.Core.Bool.{true, _&&_}
+use mathlib.Core.List.{List, [], _∷_, _++_, append-assoc}
+use Prim.Native.Nat.{ℕ, zero, suc, _+_, _-_, _^_, _≤_, _<_}
+use native.Mathlib.Omega.{arith}
+use borrow.Author.Tests.{eq-eqb, eqb-true, le-leb, leb-true}
+use lib.Dec.{leb, ltb, eqb}
+use lib.ListN.{length, take, drop, getD, replicate, length-append, length-drop, take-append-drop}
+use lib.Seq.{drop-at, take-add}
+use Rattle.octets.proofs.Same.{same-eq, eq-same}
+use Rattle.octets.proofs.Parts.{part-back}
+use Rattle.scene_table.specs.Scene.{linesOf, rowsFrom, countsOf, sceneBytes, sceneNumbers, padded, tableOf}
+use Rattle.scene_table.specs.Lent.{entryAt, inputsAt, outputsAt, depsAt, witnessesAt, verdictsAt, rowsAt, inputFrom, cellRowFrom, bytesFrom, sceneFrom, blankScene}
+use Rattle.scene_table.specs.Places.{digitCount}
+use Rattle.scene_table.specs.Valid.{every, validTable}
+use Rattle.scene_table.specs.Walk.{startWalk, walkLines, countsOk, zerosBehind, restOk}
+use Rattle.scene_table.proofs.Rows.{length-rows}
+use Rattle.scene_table.proofs.Lines.{total, total-joined, cut, cut-take}
+use Rattle.scene_table.proofs.Truth.{and-both, both-and, same-truth}
+use Rattle.scene_table.proofs.WholeWalk.{blank, span, Groups, whole}
+use Rattle.scene_table.proofs.BlankScene.{blank-ok}
+
+-- zeros, and lists that are
+pub zeros-pass : (n : ℕ) → every (λ (e : ℕ). eqb e 0) (replicate n 0) ≡ true
+unfolding every
+zeros-pass zero = refl
+zeros-pass (suc n) = zeros-pass n
+
+pub pass-zeros : (l : List ℕ) → every (λ (e : ℕ). eqb e 0) l ≡ true → l ≡ replicate (length l) 0
+unfolding every
+pass-zeros [] h = refl
+pass-zeros (x ∷ xs) h =
+    let a = and-both (eqb x 0) (every (λ (e : ℕ). eqb e 0) xs) h in
+    ap₂ (λ (n : ℕ) (l : List ℕ). n ∷ l) (eqb-true x 0 (a .0)) (pass-zeros xs (a .1))
+
+-- the first eight entries
+cut-entries : (table : List ℕ) → cut table 8 0
+    ≡ entryAt table 0 ∷ entryAt table 1 ∷ entryAt table 2 ∷ entryAt table 3 ∷ entryAt table 4 ∷ entryAt table 5 ∷ entryAt table 6 ∷ entryAt table 7 ∷ []
+unfolding cut rowsAt
+cut-entries table = refl
+
+module _ (table : List ℕ) where
+  -- the counts that the table says
+  said-counts : countsOf (blankScene table) ≡ 0 ∷ 1 ∷ 1 ∷ entryAt table 3 ∷ entryAt table 4 ∷ entryAt table 5 ∷ entryAt table 6 ∷ 1 ∷ []
+  unfolding countsOf blankScene sceneFrom
+  said-counts =
+      rw (
+        length-rows (inputFrom blank table) 6 (entryAt table 3) inputsAt,
+        length-rows (cellRowFrom blank table) 3 (entryAt table 4) (outputsAt table),
+        length-rows (cellRowFrom blank table) 3 (entryAt table 5) (depsAt table),
+        length-rows (bytesFrom blank table) 2 (entryAt table 6) (witnessesAt table),
+      )
+
+  -- the rows end behind the last digit
+  ends : 8 + span table ≡ verdictsAt table + 2 + digitCount table
+  unfolding span verdictsAt witnessesAt depsAt outputsAt inputsAt
+  ends = omega arith
+
+  -- what it takes to be the table of the scene that it says
+  pub record Own : Type 0 where
+    pub zeroth : entryAt table 0 ≡ 0
+    pub scripts : entryAt table 1 ≡ 1
+    pub transactions : entryAt table 2 ≡ 1
+    pub verdicts : entryAt table 7 ≡ 1
+    pub rows : rowsFrom 0 (linesOf (blankScene table)) ≡ cut table (span table) 8
+    pub behind : zerosBehind table ≡ true
+
+  module _ (long : length (rowsFrom 0 (linesOf (blankScene table))) ≡ span table) (room : 8 + span table ≤ length table) where
+    own-counts : Own → cut table 8 0 ≡ countsOf (blankScene table)
+    own-counts o = rw (cut-entries table, said-counts, o .zeroth, o .scripts, o .transactions, o .verdicts)
+
+    numbers-long : length (sceneNumbers (blankScene table)) ≡ 8 + span table
+    unfolding sceneNumbers
+    numbers-long = rw (length-append, said-counts, long)
+
+    pub own-table : Own → table ≡ tableOf (blankScene table) (length table)
+    unfolding tableOf padded sceneNumbers zerosBehind
+    own-table o =
+        let k = 8 + span table in
+        let front : take k table ≡ countsOf (blankScene table) ++ rowsFrom 0 (linesOf (blankScene table)) =
+        take-add 8 (span table) table
+        ∙ ap₂ (λ (x y : List ℕ). x ++ y) (sym (cut-take table 8 0 (omega arith)) ∙ own-counts o) (sym (cut-take table (span table) 8 room) ∙ sym (o .rows)) in
+        let back : drop k table ≡ replicate (length table - k) 0 = rw (length-drop k table) at (pass-zeros (drop k table) (rw ends (o .behind))) in
+        sym (take-append-drop k table) ∙ (ap₂ (λ (x y : List ℕ). x ++ y) front back ∙ rw numbers-long)
+
+    pub table-own : table ≡ tableOf (blankScene table) (length table) → Own
+    unfolding tableOf padded sceneNumbers zerosBehind
+    table-own e =
+        let c = countsOf (blankScene table) in
+        let r = rowsFrom 0 (linesOf (blankScene table)) in
+        let z : List ℕ = replicate (length table - length (c ++ r)) 0 in
+        let f : table ≡ c ++ (r ++ z) = e ∙ append-assoc c r z in
+        let eight : length c ≡ 8 = rw said-counts in
+        let counts : cut table 8 0 ≡ c = cut-take table 8 0 (omega arith) ∙ part-back table [] c (r ++ z) 0 8 f refl eight in
+        let said = counts ∙ said-counts in
+        let behind : drop (8 + span table) table ≡ z = ap (drop (8 + span table)) e ∙ drop-at (c ++ r) z (8 + span table) numbers-long in
+        record {
+          zeroth = ap (λ (l : List ℕ). getD l 0 0) (sym (cut-entries table) ∙ said);
+          scripts = ap (λ (l : List ℕ). getD l 1 0) (sym (cut-entries table) ∙ said);
+          transactions = ap (λ (l : List ℕ). getD l 2 0) (sym (cut-entries table) ∙ said);
+          verdicts = ap (λ (l : List ℕ). getD l 7 0) (sym (cut-entries table) ∙ said);
+          rows = sym (cut-take table (span table) 8 room ∙ part-back table c r z 8 (span table) f eight long);
+          behind = rw (← ends, behind) (zeros-pass (length table - length (c ++ r)));
+        }
+
+  -- the counts in range
+  pub record Few : Type 0 where
+    pub enough : 2048 ≤ length table
+    pub inputs : entryAt table 3 ≤ 64
+    pub outputs : entryAt table 4 ≤ 64
+    pub deps : entryAt table 5 ≤ 64
+    pub witnesses : entryAt table 6 ≤ 64
+    pub digits : digitCount table ≤ 16
+
+  room-for : Few → 8 + span table ≤ length table
+  unfolding span
+  room-for f = omega arith
+
+  record Counted : Type 0 where
+    few : Few
+    zeroth : entryAt table 0 ≡ 0
+    scripts : entryAt table 1 ≡ 1
+    transactions : entryAt table 2 ≡ 1
+    verdicts : entryAt table 7 ≡ 1
+
+  counted : countsOk table ≡ true → Counted
+  unfolding countsOk
+  counted h =
+      let a = and-both _ _ h in
+      let b = and-both _ _ (a .0) in
+      let c = and-both _ _ (b .0) in
+      let d = and-both _ _ (c .0) in
+      let e = and-both _ _ (d .0) in
+      let f = and-both _ _ (e .0) in
+      let g = and-both _ _ (f .0) in
+      let i = and-both _ _ (g .0) in
+      let j = and-both _ _ (i .0) in
+      record {
+        few = record {
+          enough = leb-true 2048 (length table) (j .0);
+          inputs = leb-true (entryAt table 3) 64 (f .1);
+          outputs = leb-true (entryAt table 4) 64 (e .1);
+          deps = leb-true (entryAt table 5) 64 (d .1);
+          witnesses = leb-true (entryAt table 6) 64 (c .1);
+          digits = leb-true (digitCount table) 16 (a .1);
+        };
+        zeroth = eqb-true (entryAt table 0) 0 (j .1);
+        scripts = eqb-true (entryAt table 1) 1 (i .1);
+        transactions = eqb-true (entryAt table 2) 1 (g .1);
+        verdicts = eqb-true (entryAt table 7) 1 (b .1);
+      }
+
+  counts-pass : Counted → countsOk table ≡ true
+  unfolding countsOk
+  counts-pass c =
+      rw (
+        le-leb 2048 (length table) (c .few .enough),
+        eq-eqb (entryAt table 0) 0 (c .zeroth),
+        eq-eqb (entryAt table 1) 1 (c .scripts),
+        eq-eqb (entryAt table 2) 1 (c .transactions),
+        le-leb (entryAt table 3) 64 (c .few .inputs),
+        le-leb (entryAt table 4) 64 (c .few .outputs),
+        le-leb (entryAt table 5) 64 (c .few .deps),
+        le-leb (entryAt table 6) 64 (c .few .witnesses),
+        eq-eqb (entryAt table 7) 1 (c .verdicts),
+        le-leb (digitCount table) 16 (c .few .digits),
+      )
+
+  bytes-total : length (sceneBytes (blankScene table)) ≡ total (linesOf (blankScene table))
+  unfolding sceneBytes
+  bytes-total = total-joined (linesOf (blankScene table))
+
+  module _ (small : (i : ℕ) → entryAt table i < 2 ^ 32) (n : ℕ) where
+    walk-valid : countsOk table ≡ true → restOk table n ≡ true → validTable table n ≡ true
+    unfolding restOk validTable startWalk Groups
+    walk-valid h g =
+        let c = counted h in
+        let a = and-both _ _ g in
+        let b = and-both _ _ (a .0) in
+        let d = and-both _ _ (b .0) in
+        let w = whole table small in
+        let t = w .there (d .0) in
+        let u : walkLines table .used ≡ total (linesOf (blankScene table)) = omega (arith, t .3) in
+        let own : Own = record { zeroth = c .zeroth; scripts = c .scripts; transactions = c .transactions; verdicts = c .verdicts; rows = t .2; behind = a .1 } in
+        rw (
+          le-leb 2048 (length table) (c .few .enough),
+          blank-ok table small,
+          le-leb (entryAt table 3) 64 (c .few .inputs),
+          t .1,
+          le-leb (entryAt table 4) 64 (c .few .outputs),
+          le-leb (entryAt table 5) 64 (c .few .deps),
+          le-leb (entryAt table 6) 64 (c .few .witnesses),
+          le-leb (digitCount table) 16 (c .few .digits),
+          d .1,
+          bytes-total,
+          ← u,
+          b .1,
+        )
+        (eq-same _ _ (own-table (w .long 0) (room-for (c .few)) own))
+
+    valid-walk : validTable table n ≡ true → (countsOk table ≡ true) × (restOk table n ≡ true)
+    unfolding restOk validTable startWalk Groups
+    valid-walk h =
+        let a = and-both _ _ h in
+        let b = and-both _ _ (a .1) in
+        let c = and-both _ _ (b .1) in
+        let ok = and-both _ _ (sym (blank-ok table small) ∙ b .0) in
+        let inputs = and-both _ _ (ok .0) in
+        let outputs = and-both _ _ (ok .1) in
+        let deps = and-both _ _ (outputs .1) in
+        let witnesses = and-both _ _ (deps .1) in
+        let digits = and-both _ _ (witnesses .1) in
+        let few : Few = record {
+          enough = leb-true 2048 (length table) (a .0);
+          inputs = leb-true (entryAt table 3) 64 (inputs .0);
+          outputs = leb-true (entryAt table 4) 64 (outputs .0);
+          deps = leb-true (entryAt table 5) 64 (deps .0);
+          witnesses = leb-true (entryAt table 6) 64 (witnesses .0);
+          digits = leb-true (digitCount table) 16 (digits .0);
+        } in
+        let below : every (λ (d : ℕ). ltb d 3) (blankScene table .digits) ≡ true = digits .1 in
+        let fits : leb (length (sceneBytes (blankScene table))) n ≡ true = c .0 in
+        let w = whole table small in
+        let own = table-own (w .long 0) (room-for few) (same-eq table (tableOf (blankScene table) (length table)) (c .1)) in
+        let good = w .back refl (inputs .1) (own .rows) in
+        let u : walkLines table .used ≡ length (sceneBytes (blankScene table)) = omega (arith, w .there good .3, bytes-total) in (
+          counts-pass record { few = few; zeroth = own .zeroth; scripts = own .scripts; transactions = own .transactions; verdicts = own .verdicts },
+          rw (good, below, u, fits) (own .behind),
+        )
+
+    -- the walk decides
+    pub decides : (countsOk table && restOk table n) ≡ validTable table n
+    decides =
+        same-truth
+        (countsOk table && restOk table n)
+        (validTable table n)
+        (λ h. let a = and-both (countsOk table) (restOk table n) h in walk-valid (a .0) (a .1))
+        (λ h. let a = valid-walk h in both-and (countsOk table) (restOk table n) (a .0) (a .1))

@@ -1,0 +1,122 @@
+-- A scene's table read back: the scene itself, with what a function gives for each run of its bytes.
+-- Assumes nothing.
+use mathlib.Core.Path.{_≡_, refl, sym, _∙_}
+use mathlib.Core.Bool.{Bool, true, false, cond, _&&_}
+use mathlib.Core.List.{List, [], _∷_, _++_, map, append-assoc}
+use Prim.Native.Nat.{ℕ, _+_, _*_, _/_, _%_, _^_}
+use native.Mathlib.Omega.{arith}
+use borrow.Author.Tests.{eqb-true}
+use lib.Dec.{lit<, ltb, eqb}
+use lib.ListN.{length, length-append}
+use Rattle.scene_table.specs.Scene.{Cell, Input, Scene, cellBytes, cellLengths, bytesLine, hashLine, inputLine, cellLine}
+use Rattle.scene_table.specs.Lent.{entryAt, hashLength, cellFrom, inputFrom, cellRowFrom, bytesFrom}
+use Rattle.scene_table.specs.Valid.{bytesOk, hashOk, cellOk, inputOk}
+use Rattle.scene_table.proofs.Truth.{and-both}
+use Rattle.scene_table.proofs.Stands.{Stands, row-first, row-entry, row-bytes}
+
+-- a scene with g of each run of bytes
+unfoldable pub cellWith : (List ℕ → List ℕ) → Cell → Cell
+cellWith g c = record {
+  typeHash = g (c .typeHash);
+  dataHash = g (c .dataHash);
+  typeScript = g (c .typeScript);
+  content = g (c .content);
+}
+
+unfoldable pub inputWith : (List ℕ → List ℕ) → Input → Input
+inputWith g i = record { group = i .group; since = i .since; cell = cellWith g (i .cell) }
+
+unfoldable pub sceneWith : (List ℕ → List ℕ) → Scene → Scene
+sceneWith g s = record {
+  script = g (s .script);
+  transaction = g (s .transaction);
+  inputs = map (inputWith g) (s .inputs);
+  outputs = map (cellWith g) (s .outputs);
+  deps = map (cellWith g) (s .deps);
+  witnesses = map g (s .witnesses);
+  digits = s .digits;
+}
+
+-- what `from` gives at the place of a part of the bytes is g of the part
+abbrev pub Gives : (ℕ → ℕ → List ℕ) → (List ℕ → List ℕ) → List ℕ → Type 0
+Gives from g store = (p q r : List ℕ) (at n : ℕ) → store ≡ p ++ (q ++ r) → length p ≡ at → length q ≡ n → from at n ≡ g q
+
+type-hash : (b : Bool) (hash : List ℕ) → cond b (eqb (length hash) 0) (hashOk hash) ≡ true → cond b 0 32 ≡ length hash
+unfolding hashOk
+type-hash true hash h = sym (eqb-true (length hash) 0 h)
+type-hash false hash h = sym (eqb-true (length hash) 32 (and-both (eqb (length hash) 32) (bytesOk hash) h .0))
+
+pub hash-long : (hash : List ℕ) → hashOk hash ≡ true → length hash ≡ 32
+unfolding hashOk
+hash-long hash h = eqb-true (length hash) 32 (and-both (eqb (length hash) 32) (bytesOk hash) h .0)
+
+-- the hashes of a cell have the lengths that the table says
+pub cell-hashes : (c : Cell) → cellOk c ≡ true → (hashLength (length (c .typeScript)) ≡ length (c .typeHash)) × (length (c .dataHash) ≡ 32)
+unfolding cellOk hashLength
+cell-hashes c h =
+    let first = cond (eqb (length (c .typeScript)) 0) (eqb (length (c .typeHash)) 0) (hashOk (c .typeHash)) in
+    let last = bytesOk (c .typeScript) && bytesOk (c .content) in
+    let ok = and-both first (hashOk (c .dataHash) && last) h in
+    (type-hash (eqb (length (c .typeScript)) 0) (c .typeHash) (ok .0), hash-long (c .dataHash) (and-both (hashOk (c .dataHash)) last (ok .1) .0))
+
+module _ (from : ℕ → ℕ → List ℕ) (g : List ℕ → List ℕ) (table store : List ℕ) (gives : Gives from g store) where
+  cell-back : (c : Cell) (front back : List ℕ) (used : ℕ) → cellOk c ≡ true → store ≡ front ++ (cellBytes c ++ back) → length front ≡ used
+      → cellFrom from used (length (c .typeScript)) (length (c .content)) ≡ cellWith g c
+  unfolding cellBytes cellFrom cellWith
+  cell-back c front back used h e l =
+      let a = c .typeHash in
+      let b = c .dataHash in
+      let t = c .typeScript in
+      let d = c .content in
+      let la = cell-hashes c h .0 in
+      let lb : length b ≡ 32 = cell-hashes c h .1 in
+      let ea : store ≡ front ++ (a ++ (b ++ (t ++ (d ++ back)))) = e ∙ simp append-assoc in
+      let eb : store ≡ (front ++ a) ++ (b ++ (t ++ (d ++ back))) = e ∙ simp append-assoc in
+      let et : store ≡ (front ++ a ++ b) ++ (t ++ (d ++ back)) = e ∙ simp append-assoc in
+      let ed : store ≡ (front ++ a ++ b ++ t) ++ (d ++ back) = e ∙ simp append-assoc in
+      let nb : length (front ++ a) ≡ used + length a = rw (length-append, l) in
+      let nt : length (front ++ a ++ b) ≡ used + length a + 32 = rw (length-append, nb, lb) in
+      let nd : length (front ++ a ++ b ++ t) ≡ used + length a + 32 + length t = rw (length-append, nt) in
+      rw (
+        la,
+        gives front a (b ++ (t ++ (d ++ back))) used (length a) ea l refl,
+        gives (front ++ a) b (t ++ (d ++ back)) (used + length a) 32 eb nb lb,
+        gives (front ++ a ++ b) t (d ++ back) (used + length a + 32) (length t) et nt refl,
+        gives (front ++ a ++ b ++ t) d back (used + length a + 32 + length t) (length d) ed nd refl,
+      )
+
+  pub bytes-back : (bs : List ℕ) (at used : ℕ) → bytesOk bs ≡ true → Stands table store at used (bytesLine bs ∷ []) → bytesFrom from table at ≡ g bs
+  unfolding bytesFrom bytesLine
+  bytes-back bs at used h s =
+      rw
+      (row-first table store s, row-entry table store {l = bytesLine bs} 0 (lit< tt) s)
+      (gives (s .front) bs (s .back) used (length bs) (row-bytes table store s) (s .start) refl)
+
+  pub hash-back : (hash : List ℕ) (at used : ℕ) → hashOk hash ≡ true → Stands table store at used (hashLine hash ∷ []) → from (entryAt table at) 32 ≡ g hash
+  unfolding hashLine
+  hash-back hash at used h s =
+      rw (row-first table store s) (gives (s .front) hash (s .back) used 32 (row-bytes table store s) (s .start) (hash-long hash h))
+
+  pub row-back : (c : Cell) (at used : ℕ) → cellOk c ≡ true → Stands table store at used (cellLine c ∷ []) → cellRowFrom from table at ≡ cellWith g c
+  unfolding cellRowFrom cellLine cellLengths
+  row-back c at used h s =
+      rw
+      (row-first table store s, row-entry table store {l = cellLine c} 0 (lit< tt) s, row-entry table store {l = cellLine c} 1 (lit< tt) s)
+      (cell-back c (s .front) (s .back) used h (row-bytes table store s) (s .start))
+
+  pub input-back : (i : Input) (at used : ℕ) → inputOk i ≡ true → Stands table store at used (inputLine i ∷ []) → inputFrom from table at ≡ inputWith g i
+  unfolding inputFrom inputLine cellLengths inputWith inputOk
+  input-back i at used h s =
+      let ok = and-both (ltb (i .group) 2) (ltb (i .since) (2 ^ 64) && cellOk (i .cell)) h in
+      let cell = and-both (ltb (i .since) (2 ^ 64)) (cellOk (i .cell)) (ok .1) in
+      let whole : i .since % 2 ^ 32 + 2 ^ 32 * (i .since / 2 ^ 32) ≡ i .since = omega arith in
+      rw (
+        row-first table store s,
+        row-entry table store {l = inputLine i} 0 (lit< tt) s,
+        row-entry table store {l = inputLine i} 1 (lit< tt) s,
+        row-entry table store {l = inputLine i} 2 (lit< tt) s,
+        row-entry table store {l = inputLine i} 3 (lit< tt) s,
+        row-entry table store {l = inputLine i} 4 (lit< tt) s,
+        whole,
+        cell-back (i .cell) (s .front) (s .back) used (cell .1) (row-bytes table store s) (s .start),
+      )

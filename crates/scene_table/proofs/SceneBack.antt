@@ -1,0 +1,209 @@
+-- The whole table of a scene read back.
+-- Assumes nothing.
+use mathlib.Core.Path.{_≡_, refl, sym, ap, _∙_}
+use mathlib.Core.Bool.{Bool, true}
+use mathlib.Core.List.{List, [], _∷_, _++_, map, append-assoc, append-nil}
+use Prim.Native.Nat.{ℕ, suc, _+_, _-_, _*_, _≤_}
+use native.Mathlib.Nat.{zero-lt-suc}
+use native.Mathlib.Omega.{arith}
+use borrow.Author.Tests.{leb-true}
+use lib.Dec.{leb, ltb}
+use lib.ListN.{length, replicate, length-append}
+use Rattle.octets.proofs.Parts.{part-back}
+use Rattle.scene_table.specs.Scene.{Cell, Input, Scene, Line, cellLengths, bytesLine, hashLine, inputLine, cellLine, digitsLine, linesOf, sceneBytes, countsOf, rowsFrom, sceneNumbers, padded, tableOf}
+use Rattle.scene_table.specs.Lent.{entryAt, inputsAt, outputsAt, depsAt, witnessesAt, verdictsAt, rowsAt, inputFrom, cellRowFrom, bytesFrom, sceneFrom}
+use Rattle.scene_table.specs.Valid.{every, bytesOk, hashOk, cellOk, inputOk, fewOf, digitsOk, sceneOk}
+use Rattle.scene_table.proofs.Lines.{total, rows-append, cut, cut-take, fromInputs, fromOutputs, fromDeps, fromWitnesses, lines-by-kind}
+use Rattle.scene_table.proofs.Truth.{and-both}
+use Rattle.scene_table.proofs.Stands.{Stands, bytesOf, stands-left, stands-right, row-entry, rows-long, rows-back}
+use Rattle.scene_table.proofs.ReadBack.{cellWith, inputWith, sceneWith, Gives, bytes-back, hash-back, row-back, input-back}
+
+-- what a scene that a text can say has
+pub record Sayable (s : Scene) : Type 0 where
+  pub script : bytesOk (s .script) ≡ true
+  pub transaction : hashOk (s .transaction) ≡ true
+  pub fewInputs : length (s .inputs) ≤ 64
+  pub inputs : every inputOk (s .inputs) ≡ true
+  pub fewOutputs : length (s .outputs) ≤ 64
+  pub outputs : every cellOk (s .outputs) ≡ true
+  pub fewDeps : length (s .deps) ≤ 64
+  pub deps : every cellOk (s .deps) ≡ true
+  pub fewWitnesses : length (s .witnesses) ≤ 64
+  pub witnesses : every bytesOk (s .witnesses) ≡ true
+  pub fewDigits : length (s .digits) ≤ 16
+  pub digits : every (λ (d : ℕ). ltb d 3) (s .digits) ≡ true
+
+few-of : {A : Type 0} (p : A → Bool) (xs : List A) → fewOf p xs ≡ true → (length xs ≤ 64) × (every p xs ≡ true)
+unfolding fewOf
+few-of p xs h = let a = and-both (leb (length xs) 64) (every p xs) h in (leb-true (length xs) 64 (a .0), a .1)
+
+pub sayable : (s : Scene) → sceneOk s ≡ true → Sayable s
+unfolding sceneOk digitsOk
+sayable s h =
+    let a = and-both _ _ h in
+    let b = and-both _ _ (a .1) in
+    let c = and-both _ _ (b .1) in
+    let d = and-both _ _ (c .1) in
+    let e = and-both _ _ (d .1) in
+    let f = and-both _ _ (e .1) in
+    let g = and-both _ _ (f .1) in
+    let inputs = few-of inputOk (s .inputs) (c .0) in
+    let outputs = few-of cellOk (s .outputs) (d .0) in
+    let deps = few-of cellOk (s .deps) (e .0) in
+    let witnesses = few-of bytesOk (s .witnesses) (f .0) in
+    record {
+      script = a .0;
+      transaction = b .0;
+      fewInputs = inputs .0;
+      inputs = inputs .1;
+      fewOutputs = outputs .0;
+      outputs = outputs .1;
+      fewDeps = deps .0;
+      deps = deps .1;
+      fewWitnesses = witnesses .0;
+      witnesses = witnesses .1;
+      fewDigits = leb-true (length (s .digits)) 16 (g .0);
+      digits = g .1;
+    }
+
+input-wide : (i : Input) → suc (length (inputLine i .numbers)) ≡ 6
+unfolding inputLine cellLengths
+input-wide i = refl
+
+cell-wide : (c : Cell) → suc (length (cellLine c .numbers)) ≡ 3
+unfolding cellLine cellLengths
+cell-wide c = refl
+
+bytes-wide : (bs : List ℕ) → suc (length (bytesLine bs .numbers)) ≡ 2
+unfolding bytesLine
+bytes-wide bs = refl
+
+hash-wide : (hash : List ℕ) (used : ℕ) → length (rowsFrom used (hashLine hash ∷ [])) ≡ 1
+unfolding rowsFrom hashLine
+hash-wide hash used = refl
+
+-- the digits are read back
+digits-back : (table store digits : List ℕ) (at used : ℕ) → Stands table store at used (digitsLine digits ∷ [])
+    → rowsAt (entryAt table) 1 (entryAt table (at + 1)) (at + 2) ≡ digits
+unfolding digitsLine rowsFrom cut
+digits-back table store digits at used s =
+    let head = s .before ++ (used ∷ length digits ∷ []) in
+    let n : entryAt table (at + 1) ≡ length digits = row-entry table store {l = digitsLine digits} 0 (zero-lt-suc (length digits)) s in
+    let e : table ≡ head ++ (digits ++ s .after) =
+    s .rows
+    ∙ (ap (λ (r : List ℕ). s .before ++ (r ++ s .after)) (append-nil (used ∷ length digits ∷ digits))
+    ∙ sym (append-assoc (s .before) (used ∷ length digits ∷ []) (digits ++ s .after))) in
+    let l : length head ≡ at + 2 = rw (length-append, s .place) in
+    let room : at + 2 + length digits ≤ length table = omega (arith, simp length-append at (ap length e), simp length-append at l) in
+    rw n (cut-take table (length digits) (at + 2) room ∙ part-back table head digits (s .after) (at + 2) (length digits) e l refl)
+
+counts-long : (s : Scene) → length (countsOf s) ≡ 8
+unfolding countsOf
+counts-long s = refl
+
+-- one list of lines behind another: how many entries
+both-long : (used : ℕ) (ls ms : List Line) (n m : ℕ) → length (rowsFrom used ls) ≡ n → length (rowsFrom (used + total ls) ms) ≡ m → length (rowsFrom used (ls ++ ms)) ≡ n + m
+both-long used ls ms n m p q = rw (rows-append used ls ms, length-append, p, q)
+
+digits-wide : (digits : List ℕ) (used : ℕ) → length (rowsFrom used (digitsLine digits ∷ [])) ≡ 2 + length digits
+unfolding rowsFrom digitsLine
+digits-wide digits used = ap length (append-nil (used ∷ length digits ∷ digits)) ∙ omega arith
+
+-- how many entries a scene fills
+pub numbers-long : (s : Scene) → length (sceneNumbers s)
+    ≡ 8 + (2 + (1 + (6 * length (s .inputs) + (3 * length (s .outputs) + (3 * length (s .deps) + (2 * length (s .witnesses) + (2 + length (s .digits))))))))
+unfolding sceneNumbers fromInputs fromOutputs fromDeps fromWitnesses
+numbers-long s =
+    length-append (countsOf s) (rowsFrom 0 (linesOf s))
+    ∙ rw (
+      counts-long s,
+      lines-by-kind s,
+      both-long 0 (bytesLine (s .script) ∷ []) (hashLine (s .transaction) ∷ fromInputs s) 2 _ (rows-long bytesLine 2 bytes-wide (s .script ∷ []) 0)
+          (both-long _ (hashLine (s .transaction) ∷ []) (fromInputs s) 1 _ (hash-wide (s .transaction) _)
+          (both-long _ (map inputLine (s .inputs)) (fromOutputs s) (6 * length (s .inputs)) _ (rows-long inputLine 6 input-wide (s .inputs) _)
+          (both-long _ (map cellLine (s .outputs)) (fromDeps s) (3 * length (s .outputs)) _ (rows-long cellLine 3 cell-wide (s .outputs) _)
+          (both-long _ (map cellLine (s .deps)) (fromWitnesses s) (3 * length (s .deps)) _ (rows-long cellLine 3 cell-wide (s .deps) _)
+          (both-long _ (map bytesLine (s .witnesses)) (digitsLine (s .digits) ∷ []) (2 * length (s .witnesses)) _ (rows-long bytesLine 2 bytes-wide (s .witnesses) _)
+          (digits-wide (s .digits) _)))))),
+    )
+
+-- a table of 2,048 entries has room for every scene
+pub numbers-few : (s : Scene) → sceneOk s ≡ true → length (sceneNumbers s) ≤ 925
+numbers-few s h = let ok = sayable s h in omega (arith, numbers-long s, ok)
+
+module _ (s : Scene) (m : ℕ) where
+  -- the counts in the table
+  counts : (entryAt (tableOf s m) 3 ≡ length (s .inputs)) × (entryAt (tableOf s m) 4 ≡ length (s .outputs)) × (entryAt (tableOf s m) 5 ≡ length (s .deps)) × (entryAt (tableOf s m) 6 ≡ length (s .witnesses))
+  unfolding entryAt tableOf padded sceneNumbers countsOf
+  counts = (refl, refl, refl, refl)
+
+  all-stand : Stands (tableOf s m) (sceneBytes s) 8 0 (bytesLine (s .script) ∷ hashLine (s .transaction) ∷ fromInputs s)
+  unfolding tableOf padded sceneNumbers sceneBytes bytesOf
+  all-stand = record {
+    before = countsOf s;
+    after = replicate (m - length (sceneNumbers s)) 0;
+    front = [];
+    back = [];
+    rows = ap (λ (ls : List Line). (countsOf s ++ rowsFrom 0 ls) ++ replicate (m - length (sceneNumbers s)) 0) (lines-by-kind s) ∙ append-assoc (countsOf s) _ _;
+    place = counts-long s;
+    bytes = ap bytesOf (lines-by-kind s) ∙ sym (append-nil _);
+    start = refl;
+  }
+
+  -- where the rows of each kind begin
+  outputs-place : outputsAt (tableOf s m) ≡ 11 + 6 * length (s .inputs)
+  unfolding outputsAt inputsAt
+  outputs-place = rw (counts .0)
+
+  deps-place : depsAt (tableOf s m) ≡ 11 + 6 * length (s .inputs) + 3 * length (s .outputs)
+  unfolding depsAt
+  deps-place = rw (outputs-place, counts .1)
+
+  witnesses-place : witnessesAt (tableOf s m) ≡ 11 + 6 * length (s .inputs) + 3 * length (s .outputs) + 3 * length (s .deps)
+  unfolding witnessesAt
+  witnesses-place = rw (deps-place, counts .2)
+
+  verdicts-place : verdictsAt (tableOf s m) ≡ 11 + 6 * length (s .inputs) + 3 * length (s .outputs) + 3 * length (s .deps) + 2 * length (s .witnesses)
+  unfolding verdictsAt
+  verdicts-place = rw (witnesses-place, counts .3)
+
+  module _ (from : ℕ → ℕ → List ℕ) (g : List ℕ → List ℕ) (gives : Gives from g (sceneBytes s)) (ok : Sayable s) where
+    T : List ℕ
+    T = tableOf s m
+
+    B : List ℕ
+    B = sceneBytes s
+
+    -- a scene's table read back
+    pub scene-back : sceneFrom from (tableOf s m) ≡ sceneWith g s
+    unfolding sceneFrom sceneWith fromInputs fromOutputs fromDeps fromWitnesses inputsAt T B
+    scene-back =
+        let i = s .inputs in
+        let o = s .outputs in
+        let d = s .deps in
+        let w = s .witnesses in
+        let script = bytesLine (s .script) ∷ [] in
+        let hash = hashLine (s .transaction) ∷ [] in
+        let behind = stands-right T B script (hash ++ fromInputs s) 2 (rows-long bytesLine 2 bytes-wide (s .script ∷ []) 0) all-stand in
+        let inputs = stands-right T B hash (fromInputs s) 1 (hash-wide (s .transaction) _) behind in
+        let outputs = stands-right T B (map inputLine i) (fromOutputs s) (6 * length i) (rows-long inputLine 6 input-wide i _) inputs in
+        let deps = stands-right T B (map cellLine o) (fromDeps s) (3 * length o) (rows-long cellLine 3 cell-wide o _) outputs in
+        let witnesses = stands-right T B (map cellLine d) (fromWitnesses s) (3 * length d) (rows-long cellLine 3 cell-wide d _) deps in
+        let verdicts = stands-right T B (map bytesLine w) (digitsLine (s .digits) ∷ []) (2 * length w) (rows-long bytesLine 2 bytes-wide w _) witnesses in
+        rw (
+          counts .0,
+          counts .1,
+          counts .2,
+          counts .3,
+          outputs-place,
+          deps-place,
+          witnesses-place,
+          verdicts-place,
+          bytes-back from g T B gives (s .script) 8 0 (ok .script) (stands-left T B script (hash ++ fromInputs s) all-stand),
+          hash-back from g T B gives (s .transaction) 10 _ (ok .transaction) (stands-left T B hash (fromInputs s) behind),
+          rows-back inputLine 6 input-wide T B (inputFrom from T) (inputWith g) inputOk (input-back from g T B gives) i 11 _ (ok .inputs) (stands-left T B (map inputLine i) (fromOutputs s) inputs),
+          rows-back cellLine 3 cell-wide T B (cellRowFrom from T) (cellWith g) cellOk (row-back from g T B gives) o _ _ (ok .outputs) (stands-left T B (map cellLine o) (fromDeps s) outputs),
+          rows-back cellLine 3 cell-wide T B (cellRowFrom from T) (cellWith g) cellOk (row-back from g T B gives) d _ _ (ok .deps) (stands-left T B (map cellLine d) (fromWitnesses s) deps),
+          rows-back bytesLine 2 bytes-wide T B (bytesFrom from T) g bytesOk (bytes-back from g T B gives) w _ _ (ok .witnesses) (stands-left T B (map bytesLine w) (digitsLine (s .digits) ∷ []) witnesses),
+          digits-back T B (s .digits) _ _ verdicts,
+        )

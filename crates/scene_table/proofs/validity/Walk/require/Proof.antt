@@ -1,0 +1,16 @@
+-- `scene_table::validity::Walk::require` meets its contract. Assumes nothing.
+use Rattle.scene_table.specs.Walk.{need}
+use Rattle.scene_table.proofs.Truth.{and-true, and-false}
+use Rattle.scene_table.proofs.validity.Walk.require.Statement.{statement}
+use Rattle.scene_table.proofs.validity.Walk.require.Tie as tie
+
+returns : tie.Need-returns
+unfolding need
+returns c = rw (c .if1 .taken, and-true (c .before .args .self .good))
+
+returns-2 : tie.Need-returns-2
+unfolding need
+returns-2 c = rw (c .if1 .left, and-false (c .before .args .self .good))
+
+pub require-spec : {M : Type 1} → statement M
+require-spec = tie.close (tie.spec returns returns-2)

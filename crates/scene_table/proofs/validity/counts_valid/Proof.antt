@@ -1,0 +1,33 @@
+-- `scene_table::validity::counts_valid` meets its contract. Assumes nothing.
+use Rattle.scene_table.specs.Walk.{need, countsOk}
+use borrow.Author.Needs.{needs}
+use Rattle.scene_table.proofs.validity.counts_valid.Statement.{statement}
+use Rattle.scene_table.proofs.validity.counts_valid.Tie as tie
+
+returns : tie.Need-returns
+unfolding need countsOk
+returns c = rw (c .require9 .ensures, c .before .digit-count .ensures, c .before .before .require8 .ensures, c .before .before .before .entry-at8 .ensures, c .before .before .before .before .require7 .ensures, c .before .before .before .before .before .entry-at7 .ensures, c .before .before .before .before .before .before .require6 .ensures, c .before .before .before .before .before .before .before .entry-at6 .ensures, c .before .before .before .before .before .before .before .before .require5 .ensures, c .before .before .before .before .before .before .before .before .before .entry-at5 .ensures, c .before .before .before .before .before .before .before .before .before .before .require4 .ensures, c .before .before .before .before .before .before .before .before .before .before .before .entry-at4 .ensures, c .before .before .before .before .before .before .before .before .before .before .before .before .require3 .ensures, c .before .before .before .before .before .before .before .before .before .before .before .before .before .entry-at3 .ensures, c .before .before .before .before .before .before .before .before .before .before .before .before .before .before .require2 .ensures, c .before .before .before .before .before .before .before .before .before .before .before .before .before .before .before .entry-at2 .ensures, c .before .before .before .before .before .before .before .before .before .before .before .before .before .before .before .before .require .ensures, c .before .before .before .before .before .before .before .before .before .before .before .before .before .before .before .before .before .entry-at .ensures)
+
+pub counts-valid-spec : {M : Type 1} → statement M
+counts-valid-spec =
+    tie.close
+    (tie.spec
+    (λ c κs. search needs)
+    (λ c κs. search needs)
+    (λ c κs. search needs)
+    (λ c κs. search needs)
+    (λ c κs. search needs)
+    (λ c κs. search needs)
+    (λ c κs. search needs)
+    (λ c κs. search needs)
+    (λ c κs. search needs)
+    (λ c κs. search needs)
+    (λ c κs. search needs)
+    (λ c κs. search needs)
+    (λ c κs. search needs)
+    (λ c κs. search needs)
+    (λ c κs. search needs)
+    (λ c κs. search needs)
+    (λ c κs. search needs)
+    (λ c κs. search needs)
+    returns)

@@ -1,0 +1,5 @@
+pub mod Scene
+pub mod Lent
+pub mod Valid
+pub mod Places
+pub mod Walk

@@ -1,0 +1,206 @@
+// What the table says of the scene: numbers, and places of bytes in the store. An entry past the table's end counts as 0.
+use molecule::Place;
+ghost use mathlib.Core.Path.{_≡_};
+ghost use Prim.Native.Nat.{_≤_, _<_, _^_};
+ghost use Rattle.scene_table.specs.Lent.{entryAt, outputsAt, depsAt, witnessesAt, verdictsAt, hashLength};
+ghost use Rattle.scene_table.specs.Places.{cellPlaces, bytesPlace, rowPlaces, scriptPlace, transactionPlace, digitCount, inputGroup, inputSince, inputPlaces, outputPlaces, depPlaces, witnessPlace, verdictOf};
+
+// The places of a cell's fields. A cell without a type script has nothing at the first and the third.
+pub struct CellPlaces {
+    pub type_hash: Place,
+    pub data_hash: Place,
+    pub type_script: Place,
+    pub content: Place,
+}
+
+pub(crate) fn entry_at(table: &[u32], at: usize) -> u32
+    ensures { λ r. ⌜ r ≡ entryAt (now (table .entry)) at ⌝ }
+{
+    if at < table.len() { table[at] } else { 0 }
+}
+
+// Where the rows of each kind begin.
+pub(crate) fn outputs_at(table: &[u32]) -> usize
+    ensures { λ r. ⌜ r ≡ outputsAt (now (table .entry)) ⌝ }
+    ensures { λ r. ⌜ r < 2 ^ 36 ⌝ }
+{
+    11 + 6 * entry_at(table, 3) as usize
+}
+
+pub(crate) fn deps_at(table: &[u32]) -> usize
+    ensures { λ r. ⌜ r ≡ depsAt (now (table .entry)) ⌝ }
+    ensures { λ r. ⌜ r < 2 ^ 37 ⌝ }
+{
+    outputs_at(table) + 3 * entry_at(table, 4) as usize
+}
+
+pub(crate) fn witnesses_at(table: &[u32]) -> usize
+    ensures { λ r. ⌜ r ≡ witnessesAt (now (table .entry)) ⌝ }
+    ensures { λ r. ⌜ r < 2 ^ 38 ⌝ }
+{
+    deps_at(table) + 3 * entry_at(table, 5) as usize
+}
+
+pub(crate) fn verdicts_at(table: &[u32]) -> usize
+    ensures { λ r. ⌜ r ≡ verdictsAt (now (table .entry)) ⌝ }
+    ensures { λ r. ⌜ r < 2 ^ 39 ⌝ }
+{
+    witnesses_at(table) + 2 * entry_at(table, 6) as usize
+}
+
+// How many bytes the type hash has beside a type script of this length.
+pub(crate) fn hash_length(script: u32) -> usize
+    ensures { λ r. ⌜ r ≡ hashLength script ⌝ }
+    ensures { λ r. ⌜ r ≤ 32 ⌝ }
+{
+    if script == 0 { 0 } else { 32 }
+}
+
+// The places of a cell whose bytes begin at `start`, by the lengths of its type script and its data.
+fn cell_places(start: u32, script: u32, content: u32) -> CellPlaces
+    ensures { λ r. ⌜ r ≡ cellPlaces start script content ⌝ }
+{
+    let hash = hash_length(script);
+    let second = start as usize + hash;
+    let third = second + 32;
+    CellPlaces {
+        type_hash: Place {
+            start: start as usize,
+            len: hash,
+        },
+        data_hash: Place {
+            start: second,
+            len: 32,
+        },
+        type_script: Place {
+            start: third,
+            len: script as usize,
+        },
+        content: Place {
+            start: third + script as usize,
+            len: content as usize,
+        },
+    }
+}
+
+// The place of the bytes whose row begins at `at`.
+fn bytes_place(table: &[u32], at: usize) -> Place
+    requires { ⌜ at < 2 ^ 40 ⌝ }
+    ensures { λ r. ⌜ r ≡ bytesPlace (now (table .entry)) at ⌝ }
+{
+    Place {
+        start: entry_at(table, at) as usize,
+        len: entry_at(table, at + 1) as usize,
+    }
+}
+
+// The places of the output or the dep whose row begins at `at`.
+fn row_places(table: &[u32], at: usize) -> CellPlaces
+    requires { ⌜ at < 2 ^ 40 ⌝ }
+    ensures { λ r. ⌜ r ≡ rowPlaces (now (table .entry)) at ⌝ }
+{
+    cell_places(
+        entry_at(table, at),
+        entry_at(table, at + 1),
+        entry_at(table, at + 2),
+    )
+}
+
+pub fn script(table: &[u32]) -> Place
+    ensures { λ r. ⌜ r ≡ scriptPlace (now (table .entry)) ⌝ }
+{
+    bytes_place(table, 8)
+}
+
+pub fn transaction_hash(table: &[u32]) -> Place
+    ensures { λ r. ⌜ r ≡ transactionPlace (now (table .entry)) ⌝ }
+{
+    Place {
+        start: entry_at(table, 10) as usize,
+        len: 32,
+    }
+}
+
+pub fn input_count(table: &[u32]) -> u32
+    ensures { λ r. ⌜ r ≡ entryAt (now (table .entry)) 3 ⌝ }
+{
+    entry_at(table, 3)
+}
+
+pub fn output_count(table: &[u32]) -> u32
+    ensures { λ r. ⌜ r ≡ entryAt (now (table .entry)) 4 ⌝ }
+{
+    entry_at(table, 4)
+}
+
+pub fn dep_count(table: &[u32]) -> u32
+    ensures { λ r. ⌜ r ≡ entryAt (now (table .entry)) 5 ⌝ }
+{
+    entry_at(table, 5)
+}
+
+pub fn witness_count(table: &[u32]) -> u32
+    ensures { λ r. ⌜ r ≡ entryAt (now (table .entry)) 6 ⌝ }
+{
+    entry_at(table, 6)
+}
+
+pub fn digit_count(table: &[u32]) -> u32
+    ensures { λ r. ⌜ r ≡ digitCount (now (table .entry)) ⌝ }
+{
+    entry_at(table, verdicts_at(table) + 1)
+}
+
+// Whether input `i` runs this lock.
+pub fn input_group(table: &[u32], i: u32) -> bool
+    ensures { λ r. ⌜ r ≡ inputGroup (now (table .entry)) i ⌝ }
+{
+    entry_at(table, 11 + 6 * i as usize + 1) == 1
+}
+
+pub fn input_since(table: &[u32], i: u32) -> u64
+    ensures { λ r. ⌜ r ≡ inputSince (now (table .entry)) i ⌝ }
+{
+    let at = 11 + 6 * i as usize;
+    entry_at(table, at + 2) as u64 + 4294967296 * entry_at(table, at + 3) as u64
+}
+
+pub fn input_cell(table: &[u32], i: u32) -> CellPlaces
+    ensures { λ r. ⌜ r ≡ inputPlaces (now (table .entry)) i ⌝ }
+{
+    let at = 11 + 6 * i as usize;
+    cell_places(
+        entry_at(table, at),
+        entry_at(table, at + 4),
+        entry_at(table, at + 5),
+    )
+}
+
+pub fn output_cell(table: &[u32], i: u32) -> CellPlaces
+    ensures { λ r. ⌜ r ≡ outputPlaces (now (table .entry)) i ⌝ }
+{
+    row_places(table, outputs_at(table) + 3 * i as usize)
+}
+
+pub fn dep_cell(table: &[u32], i: u32) -> CellPlaces
+    ensures { λ r. ⌜ r ≡ depPlaces (now (table .entry)) i ⌝ }
+{
+    row_places(table, deps_at(table) + 3 * i as usize)
+}
+
+pub fn witness(table: &[u32], i: u32) -> Place
+    ensures { λ r. ⌜ r ≡ witnessPlace (now (table .entry)) i ⌝ }
+{
+    bytes_place(table, witnesses_at(table) + 2 * i as usize)
+}
+
+// The digit of proof `i`; 2 where there is none.
+pub fn verdict(table: &[u32], i: u32) -> u32
+    ensures { λ r. ⌜ r ≡ verdictOf (now (table .entry)) i ⌝ }
+{
+    if i < digit_count(table) {
+        entry_at(table, verdicts_at(table) + 2 + i as usize)
+    } else {
+        2
+    }
+}
