@@ -50,6 +50,11 @@ argsRows s = tableRows InvalidArgs s ++ bytesRows InvalidArgs (field3 s)
 unfoldable pub readScriptArgs : List ℕ → PlaceAnswer
 readScriptArgs s = placeAnswer (decide Passed (argsRows s)) (placeOf (numberAt s 12 4) (field3 s))
 
+-- the bytes of s that an answer places, none where it is a refusal
+unfoldable pub bytesIn : List ℕ → PlaceAnswer → List ℕ
+bytesIn s (At p) = bytesAt s p
+bytesIn s (Refused e) = []
+
 -- document 01's number of the answer
 abbrev pub placeNumber : PlaceAnswer → ℕ
 placeNumber (At p) = 0

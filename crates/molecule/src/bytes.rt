@@ -1,6 +1,7 @@
 // The lock of a witness and the args of a script: fields that hold a vector of bytes.
 use crate::table::bytes_between;
 use crate::table::check_table;
+use octets::part;
 use octets::rest;
 use octets::u32_at;
 use protocol::Check;
@@ -8,7 +9,7 @@ use protocol::ProtocolError;
 ghost use mathlib.Core.Path.{_≡_};
 ghost use Rattle.protocol.specs.Rows.{decide};
 ghost use Rattle.protocol.specs.declared.check.Check.the-variants.{Passed};
-ghost use Rattle.molecule.specs.Bytes.{bytesRows, placeOf, placeAnswer, readBytes, lockRows, readLock, argsRows, readScriptArgs};
+ghost use Rattle.molecule.specs.Bytes.{bytesRows, placeOf, placeAnswer, readBytes, lockRows, readLock, argsRows, readScriptArgs, bytesIn};
 
 // Where bytes begin, and how many they are.
 pub struct Place {
@@ -92,4 +93,14 @@ pub fn script_args(script: &[u8]) -> PlaceAnswer
     let third = u32_at(script, 12);
     let field = rest(script, third as usize);
     place_answer(check_args(script), place_of(third, field))
+}
+
+// The bytes that an answer places, none where it is a refusal.
+pub fn bytes_in(s: &[u8], answer: PlaceAnswer) -> &[u8]
+    ensures { λ r. ⌜ now r ≡ bytesIn (now (s .entry)) answer ⌝ }
+{
+    match answer {
+        PlaceAnswer::Refused(_) => part(s, 0, 0),
+        PlaceAnswer::At(place) => part(s, place.start, place.len),
+    }
 }

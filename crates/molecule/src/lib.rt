@@ -6,6 +6,7 @@ mod canonical; // canonical.rt
 
 pub use self::bytes::Place;
 pub use self::bytes::PlaceAnswer;
+pub use self::bytes::bytes_in;
 pub use self::bytes::molecule_bytes;
 pub use self::bytes::script_args;
 pub use self::bytes::witness_lock;

@@ -1,0 +1,14 @@
+use mathlib.Core.Path.{_≡_, refl, sym, ap, _∙_}
+use Rattle.account_lock.specs.Lock as lock
+use Rattle.account_lock.proofs.answer.refused.Statement.{statement}
+use Rattle.account_lock.proofs.answer.refused.Tie as tie
+use Rattle.account_lock.proofs.answer.refused.Reads as reads
+use Rattle.account_lock.proofs.answer.refused.Lts as lts
+
+-- src/answer.rt:18:1
+returns : tie.Need-returns
+unfolding lock.told lock.refused
+returns c = refl
+
+pub refused-spec : {M : Type 1} → statement M
+refused-spec = tie.close (tie.spec returns)

@@ -1,0 +1,54 @@
+// The account lock: what it decides of a transaction, lent as a table and a store, and the requests that it makes.
+mod answer; // answer.rt
+mod script; // script.rt
+mod account; // account.rt
+
+use self::account::lock_account;
+use self::answer::refused;
+use self::script::account_in;
+use self::script::check_script;
+use group_sighash::check_group;
+use group_sighash::first_witness;
+use group_sighash::lock_in;
+use octets::part;
+use protocol::Check;
+use protocol::ProtocolError;
+use scene_table::script;
+use scene_table::table_valid;
+ghost use mathlib.Core.Path.{_≡_};
+ghost use mathlib.Core.Logic.{_↔_};
+ghost use lib.ListN.{length};
+ghost use Rattle.scene_table.specs.Lent.{lentScene};
+ghost use Rattle.decision.specs.Walk.{answered};
+ghost use Rattle.account_lock.specs.Lock.{lockOf, lockScene, told};
+ghost use Rattle.account_lock.specs.Decides.{EarlierPass, LockQuorum};
+pub use self::answer::LockAnswer;
+
+// The lock over a transaction whose table is one that a scene leaves.
+fn lock_scene(table: &[u32], store: &[u8], answer: &mut [u8]) -> LockAnswer
+    ensures { λ r. ⌜ r ≡ told (lockScene (lentScene (now (table .entry)) (now (store .entry))) (length (now (answer .entry)))) ⌝ }
+    ensures { λ _. ⌜ now (answer .exit) ≡ answered (now (answer .entry)) (lockScene (lentScene (now (table .entry)) (now (store .entry))) (length (now (answer .entry))) .made) ⌝ }
+{
+    let place = script(table);
+    let script = part(store, place.start, place.len);
+    match check_script(script).and(check_group(table, store)) {
+        Check::Failed(error) => refused(error),
+        Check::Passed => {
+            let lock = lock_in(first_witness(table, store));
+            lock_account(table, store, account_in(script), lock, answer)
+        }
+    }
+}
+
+// Decides the transaction, and writes the requests of its proofs to the front of `answer`.
+pub fn lock(table: &[u32], store: &[u8], answer: &mut [u8]) -> LockAnswer
+    ensures outcome { λ r. ⌜ r ≡ told (lockOf (now (table .entry)) (now (store .entry)) (length (now (answer .entry)))) ⌝ }
+    ensures requests { λ _. ⌜ now (answer .exit) ≡ answered (now (answer .entry)) (lockOf (now (table .entry)) (now (store .entry)) (length (now (answer .entry))) .made) ⌝ }
+    ensures decision { λ r. ⌜ (r .found ≡ Check.Passed) ↔ (EarlierPass (now (table .entry)) (now (store .entry)) (length (now (answer .entry))) × LockQuorum (now (table .entry)) (now (store .entry)) (length (now (answer .entry)))) ⌝ }
+{
+    if table_valid(table, store.len()) {
+        lock_scene(table, store, answer)
+    } else {
+        refused(ProtocolError::SlicesDisagree)
+    }
+}

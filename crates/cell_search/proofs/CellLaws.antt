@@ -1,0 +1,118 @@
+-- The cells of a list, one by one, and a search over them.
+-- Assumes nothing.
+use mathlib.Core.Path.{_≡_, refl, sym, ap, _∙_}
+use mathlib.Core.Bool.{Bool, true, false, cond, not}
+use lib.Dec.{eqb, leb}
+use borrow.Author.Tests.{ne-eqb, le-leb, lt-leb}
+use mathlib.Core.Logic.{_⊎_, ⊎-elim}
+use mathlib.Core.List.{List, [], _∷_, _++_, map}
+use Prim.Native.Nat.{ℕ, zero, suc, _+_, _≤_, _<_}
+use native.Mathlib.Nat.{not-suc-le-zero, le-of-suc-le-suc}
+use native.Mathlib.Omega.{arith}
+use lib.ListN.{length, length-map, getD, drop, List·getD-eq-default}
+use denote.Enum.Declared.{tagOf, declared}
+use Rattle.octets.specs.Lists.{same}
+use Rattle.scene_table.specs.Scene.{Cell, Input}
+use Rattle.scene_table.specs.Lent.{lentScene}
+use Rattle.scene_table.specs.Places as places
+use Rattle.scene_table.proofs.Rows.{Listed, listed}
+use Rattle.scene_table.proofs.PlaceLaws.{lentInput, lent-given}
+use Rattle.cell_search.specs.declared.cells.Source.{Source}
+use Rattle.cell_search.specs.declared.cells.Source.the-variants as source
+use Rattle.cell_search.specs.declared.cells.CellField.{CellField}
+use Rattle.cell_search.specs.declared.search.Search.{Search}
+use Rattle.cell_search.specs.declared.search.Search.the-variants.{Missing, One, Several}
+use Rattle.cell_search.specs.Search.{cellsOf, hashOf, matching, matches, searchOf, isMissing, isOne, isSeveral, cellAt, noCell}
+use Rattle.cell_search.specs.Cells.{cellCount, cellPlaces}
+use Rattle.cell_search.proofs.search.Search.{enum}
+
+map-nth : {A B : Type 0} (f : A → B) (l : List A) (i : ℕ) (d : B) (a : A) → i < length l → getD (map f l) i d ≡ f (getD l i a)
+map-nth f [] i d a h = absurd (not-suc-le-zero h)
+map-nth f (x ∷ l) zero d a h = refl
+map-nth f (x ∷ l) (suc i) d a h = map-nth f l i d a (le-of-suc-le-suc h)
+
+map-listed : {A B : Type 0} (f : A → B) (l : List A) (n : ℕ) (g : ℕ → A) → Listed l n g → Listed (map f l) n (λ i. f (g i))
+map-listed f l n g h =
+    listed (map f l) n (λ i. f (g i)) (length-map l f ∙ h .long)
+    (λ i d k. map-nth f l i d (g i) (rw (h .long) k) ∙ ap f (h .nth i (g i) k))
+
+-- the cells of a list are the table's rows
+pub cells-listed : (from : Source) (table store : List ℕ)
+    → Listed (cellsOf from (lentScene table store)) (cellCount from table) (λ i. places.cellAt store (cellPlaces from table i))
+unfolding cellsOf cellCount cellPlaces lentInput
+cells-listed source.Input table store =
+    map-listed (λ (i : Input). i .cell) (lentScene table store .inputs) _ (lentInput table store) (lent-given table store .inputs)
+cells-listed source.Output table store = lent-given table store .outputs
+cells-listed source.CellDep table store = lent-given table store .deps
+
+module _ (from : Source) (table store : List ℕ) (i : ℕ) where
+  pub cell-there : i < cellCount from table
+      → cellAt (cellsOf from (lentScene table store)) i ≡ places.cellAt store (cellPlaces from table i)
+  unfolding cellAt
+  cell-there h = cells-listed from table store .nth i noCell h
+
+  pub cell-missing : cellCount from table ≤ i → cellAt (cellsOf from (lentScene table store)) i ≡ noCell
+  unfolding cellAt
+  cell-missing h = List·getD-eq-default (cellsOf from (lentScene table store)) noCell (rw (cells-listed from table store .long) h)
+
+-- the places of the cells that have the hash, from cell k on
+unfoldable pub matchFrom : CellField → List ℕ → List Cell → ℕ → List ℕ
+matchFrom f hash cells k = matching f hash k (drop k cells)
+
+module _ (f : CellField) (hash : List ℕ) {cells : List Cell} {n : ℕ} {g : ℕ → Cell} (l : Listed cells n g) (k : ℕ) where
+  pub match-yes : k < n → same (hashOf f (g k)) hash ≡ true → matchFrom f hash cells k ≡ k ∷ matchFrom f hash cells (k + 1)
+  unfolding matchFrom matching
+  match-yes h e = rw (l .turn k h, e)
+
+  pub match-no : k < n → same (hashOf f (g k)) hash ≡ false → matchFrom f hash cells k ≡ matchFrom f hash cells (k + 1)
+  unfolding matchFrom matching
+  match-no h e = rw (l .turn k h, e)
+
+  pub match-end : n ≤ k → matchFrom f hash cells k ≡ []
+  unfolding matchFrom matching
+  match-end h = rw (l .none k h)
+
+-- the places behind an answer, as many of them as tell the answers apart
+unfoldable pub placesOf : Search → List ℕ
+placesOf Missing = []
+placesOf (One k) = k ∷ []
+placesOf Several = 0 ∷ 0 ∷ []
+
+pub found-places : (v : Search) → searchOf (placesOf v ++ []) ≡ v
+unfolding searchOf placesOf
+found-places Missing = refl
+found-places (One k) = refl
+found-places Several = refl
+
+-- a further match where there was one
+pub second-match : (v : Search) (k : ℕ) (xs : List ℕ) → (tagOf (declared enum) v ≡ 1) ⊎ (tagOf (declared enum) v ≡ 2)
+    → searchOf (placesOf v ++ k ∷ xs) ≡ Several
+unfolding searchOf placesOf
+second-match Missing k xs o = absurd (⊎-elim (λ e. omega arith) (λ e. omega arith) o)
+second-match (One j) k xs o = refl
+second-match Several k xs o = refl
+
+-- none, one and several, told by how many places there are
+pub missing-count : (xs : List ℕ) → eqb (length xs) 0 ≡ isMissing (searchOf xs)
+unfolding searchOf
+missing-count [] = refl
+missing-count (x ∷ []) = refl
+missing-count (x ∷ y ∷ xs) = ne-eqb (length (x ∷ y ∷ xs)) 0 (λ e. omega arith)
+
+pub found-count : (xs : List ℕ) → leb 1 (length xs) ≡ not (isMissing (searchOf xs))
+unfolding searchOf
+found-count [] = refl
+found-count (x ∷ []) = refl
+found-count (x ∷ y ∷ xs) = le-leb 1 (length (x ∷ y ∷ xs)) (omega arith)
+
+pub several-count : (xs : List ℕ) → leb (length xs) 1 ≡ not (isSeveral (searchOf xs))
+unfolding searchOf
+several-count [] = refl
+several-count (x ∷ []) = refl
+several-count (x ∷ y ∷ xs) = lt-leb (length (x ∷ y ∷ xs)) 1 (omega arith)
+
+pub one-count : (xs : List ℕ) → eqb (length xs) 1 ≡ isOne (searchOf xs)
+unfolding searchOf
+one-count [] = refl
+one-count (x ∷ []) = refl
+one-count (x ∷ y ∷ xs) = ne-eqb (length (x ∷ y ∷ xs)) 1 (λ e. omega arith)

@@ -1,0 +1,107 @@
+use mathlib.Core.Path.{_≡_, refl, sym, ap, _∙_}
+use mathlib.Core.Logic.{⊎-elim}
+use mathlib.Core.List.{List, _∷_, _++_}
+use Prim.Native.Nat.{ℕ, _-_, _+_}
+use native.Mathlib.Omega.{arith}
+use denote.Ref.{now}
+use borrow.Author.Needs.{needs}
+use Rattle.scene_table.specs.Lent.{lentScene}
+use Rattle.cell_search.specs.Search.{cellsOf, matches, searchOf, cellSearch}
+use Rattle.cell_search.specs.Cells.{cellCount}
+use Rattle.cell_search.proofs.CellLaws.{cells-listed, matchFrom, match-yes, match-no, match-end, placesOf, found-places, second-match}
+use Rattle.cell_search.proofs.search.search_cells.Statement.{statement}
+use Rattle.cell_search.proofs.search.search_cells.Tie as tie
+use Rattle.cell_search.proofs.search.search_cells.Reads as reads
+use Rattle.cell_search.proofs.search.search_cells.Lts as lts
+use Rattle.cell_search.proofs.cells.cell_count.Reads as cell-count-reads
+use Rattle.cell_search.proofs.cells.cell_hash.Reads as cell-hash-reads
+use Rattle.octets.proofs.same_bytes.Reads as same-bytes-reads
+
+abbrev Inv-loop : tie.InvT-loop
+Inv-loop table store source field hash count found₀ i₀ found i =
+    (count ≡ cellCount source table)
+    × (cellSearch field hash (cellsOf source (lentScene table store)) ≡ searchOf (placesOf found ++ matchFrom field hash (cellsOf source (lentScene table store)) i))
+
+abbrev μ-loop : tie.MeasureT-loop
+μ-loop table store source field hash count found₀ i₀ found i = count - i
+
+-- src/search.rt:28:9
+cell-count-requires : tie.Need-cell-count-requires Inv-loop μ-loop
+cell-count-requires c κs = search needs
+
+-- src/search.rt:31:5
+loop-holds : tie.Need-loop-holds Inv-loop μ-loop
+unfolding cellSearch matches matchFrom placesOf
+loop-holds c = (c .cell-count .ensures, refl)
+
+-- src/search.rt:32:23
+cell-hash-requires : tie.Need-cell-hash-requires Inv-loop μ-loop
+cell-hash-requires c κs = search needs
+
+-- src/search.rt:32:12
+same-bytes-requires : tie.Need-same-bytes-requires Inv-loop μ-loop
+same-bytes-requires c κs = search needs
+
+-- src/search.rt:34:36
+enum-told : tie.Need-enum-told Inv-loop μ-loop
+enum-told c = search needs
+
+-- src/search.rt:41:9
+add-i : tie.Need-add-i Inv-loop μ-loop
+add-i c = omega arith
+
+-- src/search.rt:31:5
+loop-less : tie.Need-loop-less Inv-loop μ-loop
+loop-less c = omega arith
+
+-- src/search.rt:31:5
+loop-again : tie.Need-loop-again Inv-loop μ-loop
+unfolding placesOf
+loop-again c =
+    let l = c .before .before .before .before in
+    let a = c .before .before .before .before .before .before .before .before .before .args in
+    let rows = cells-listed (a .source) (now (a .table)) (now (a .store)) in
+    let more = rw (l .loop .inv .0) at (c .before .before .before .loop-test .taken) in (
+      l .loop .inv .0,
+      ⊎-elim
+          (λ w. l .loop .inv .1 ∙ rw (w .2 .given .1, w .3, match-yes (a .field) (now (a .hash)) rows (l .loop .i) more (sym (rw (c .before .before .cell-hash .ensures) at (c .before .same-bytes .ensures)) ∙ w .0 .taken)))
+          (λ w. l .loop .inv .1 ∙ rw (w .1, match-no (a .field) (now (a .hash)) rows (l .loop .i) more (sym (rw (c .before .before .cell-hash .ensures) at (c .before .same-bytes .ensures)) ∙ w .0 .left)))
+          (c .if1 .came),
+    )
+
+-- src/search.rt:19:1
+returns : tie.Need-returns Inv-loop μ-loop
+returns c =
+    let l = c .before in
+    let a = c .before .before .before .before .before .before .args in
+    let rows = cells-listed (a .source) (now (a .table)) (now (a .store)) in
+    sym (l .loop .inv .1 ∙ rw (match-end (a .field) (now (a .hash)) rows (l .loop .i) (rw (l .loop .inv .0) at (c .loop-test .left))) (found-places (l .loop .found)))
+
+-- src/search.rt:19:1
+returns-2 : tie.Need-returns-2 Inv-loop μ-loop
+returns-2 c =
+    let l = c .before .before .before .before .before in
+    let a = c .before .before .before .before .before .before .before .before .before .before .args in
+    let rows = cells-listed (a .source) (now (a .table)) (now (a .store)) in
+    let more = rw (l .loop .inv .0) at (c .before .before .before .before .loop-test .taken) in
+    sym
+    (l .loop .inv .1
+    ∙ rw (match-yes (a .field) (now (a .hash)) rows (l .loop .i) more (sym (rw (c .before .before .before .cell-hash .ensures) at (c .before .before .same-bytes .ensures)) ∙ c .before .if1 .taken))
+    (second-match (l .loop .found) (l .loop .i) _ (c .match .keys2)))
+
+pub search-cells-spec : {M : Type 1} → statement M
+search-cells-spec =
+    tie.close
+    (tie.spec
+    Inv-loop
+    μ-loop
+    cell-count-requires
+    loop-holds
+    cell-hash-requires
+    same-bytes-requires
+    enum-told
+    add-i
+    loop-less
+    loop-again
+    returns
+    returns-2)

@@ -1,0 +1,86 @@
+// The cells of a transaction, list by list.
+use octets::part;
+use scene_table::CellPlaces;
+use scene_table::dep_cell;
+use scene_table::dep_count;
+use scene_table::input_cell;
+use scene_table::input_count;
+use scene_table::output_cell;
+use scene_table::output_count;
+ghost use mathlib.Core.Path.{_≡_};
+ghost use Rattle.scene_table.specs.Lent.{lentScene};
+ghost use Rattle.scene_table.specs.Places as places;
+ghost use Rattle.cell_search.specs.Search.{cellsOf, cellAt, hashOf};
+ghost use Rattle.cell_search.specs.Cells.{cellCount, cellPlaces};
+
+// Which list of the transaction.
+pub enum Source {
+    Input,
+    Output,
+    CellDep,
+}
+
+// Which hash of a cell.
+pub enum CellField {
+    TypeHash,
+    DataHash,
+}
+
+pub(crate) fn cell_count(table: &[u32], source: Source) -> u32
+    ensures { λ r. ⌜ r ≡ cellCount source (now (table .entry)) ⌝ }
+{
+    match source {
+        Source::Input => input_count(table),
+        Source::Output => output_count(table),
+        Source::CellDep => dep_count(table),
+    }
+}
+
+fn cell_places(table: &[u32], source: Source, i: u32) -> CellPlaces
+    ensures { λ r. ⌜ r ≡ cellPlaces source (now (table .entry)) i ⌝ }
+{
+    match source {
+        Source::Input => input_cell(table, i),
+        Source::Output => output_cell(table, i),
+        Source::CellDep => dep_cell(table, i),
+    }
+}
+
+// A hash of the cell whose row is there.
+pub(crate) fn cell_hash<'a>(
+    table: &[u32],
+    store: &'a [u8],
+    source: Source,
+    field: CellField,
+    i: u32,
+) -> &'a [u8]
+    ensures { λ r. ⌜ now r ≡ hashOf field (places.cellAt (now (store .entry)) (cellPlaces source (now (table .entry)) i)) ⌝ }
+{
+    let places = cell_places(table, source, i);
+    match field {
+        CellField::TypeHash => part(store, places.type_hash.start, places.type_hash.len),
+        CellField::DataHash => part(store, places.data_hash.start, places.data_hash.len),
+    }
+}
+
+// The data of a cell, nothing where the list has no such cell.
+pub fn cell_content<'a>(table: &[u32], store: &'a [u8], source: Source, i: u32) -> &'a [u8]
+    ensures { λ r. ⌜ now r ≡ cellAt (cellsOf source (lentScene (now (table .entry)) (now (store .entry)))) i .content ⌝ }
+{
+    if cell_count(table, source) <= i {
+        return part(store, 0, 0);
+    }
+    let places = cell_places(table, source, i);
+    part(store, places.content.start, places.content.len)
+}
+
+// The type script of a cell, nothing where it has none or the list has no such cell.
+pub fn cell_type_script<'a>(table: &[u32], store: &'a [u8], source: Source, i: u32) -> &'a [u8]
+    ensures { λ r. ⌜ now r ≡ cellAt (cellsOf source (lentScene (now (table .entry)) (now (store .entry)))) i .typeScript ⌝ }
+{
+    if cell_count(table, source) <= i {
+        return part(store, 0, 0);
+    }
+    let places = cell_places(table, source, i);
+    part(store, places.type_script.start, places.type_script.len)
+}

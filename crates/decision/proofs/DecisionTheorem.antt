@@ -1,0 +1,63 @@
+-- Demand 3 for the proofs of a witness lock: the walk passes exactly where every row before the one for 28 passes and there is a
+-- quorum, and then it has made one request per proof.
+-- Assumes nothing.
+use mathlib.Core.Path.{_≡_}
+use mathlib.Core.Logic.{_↔_}
+use mathlib.Core.Bool.{true}
+use mathlib.Core.List.{List, []}
+use Prim.Native.Nat.{ℕ, _<_}
+use lib.ListN.{length, take}
+use Rattle.octets.specs.Le.{numberAt}
+use Rattle.protocol.specs.Rows.{Hold}
+use Rattle.protocol.specs.declared.check.Check.the-variants.{Passed}
+use Rattle.account_witness.specs.Walk.{proofsRows}
+use Rattle.decision.specs.Proofs.{Setting, requestsOf}
+use Rattle.decision.specs.Walk.{ProofList, proofsFrom, walk, walkList, walkLock}
+use Rattle.decision.specs.Decision.{EachPasses, proofsOf, ProofsPass, Quorum}
+use Rattle.decision.proofs.Quorum.{decision, answers, answers-always}
+use Rattle.decision.proofs.Listed.{listed-clean, listed-proofs, listed-rising}
+
+-- the proofs up to the first with a faulty layout
+abbrev pub listed : List ℕ → ProofList
+listed lock = proofsFrom lock (numberAt lock 6 1) 16 0
+
+-- where no layout is faulty these are the lock's
+pub listed-of : (lock : List ℕ) → Hold (proofsRows lock (numberAt lock 6 1) 16 0) → listed lock .proofs ≡ proofsOf lock
+unfolding proofsOf
+listed-of lock h = listed-proofs lock (numberAt lock 6 1) 16 0 h
+
+pub lock-decides : (c : Setting) (lock : List ℕ) → 0 < c .threshold
+    → (walkLock c lock .found ≡ Passed) ↔ (ProofsPass c lock × Quorum c (proofsOf lock))
+unfolding walkLock walkList
+lock-decides c lock above = (there, back)
+  where
+    decides : (walk c (listed lock .clean) 0 0 [] (listed lock .proofs) .found ≡ Passed)
+        ↔ ((listed lock .clean ≡ true) × EachPasses c 0 0 (listed lock .proofs) × Quorum c (listed lock .proofs))
+    decides = decision c (listed lock .clean) (listed lock .proofs) (listed-rising lock (numberAt lock 6 1) 16 0) above
+
+    there : walkLock c lock .found ≡ Passed → ProofsPass c lock × Quorum c (proofsOf lock)
+    there h =
+        let z = decides .0 h in
+        let l = listed-clean lock (numberAt lock 6 1) 16 0 .0 (z .0) in
+        let e = listed-of lock l in
+        (record { layout = l; each = rw e at (z .1) }, rw e at (z .2))
+
+    back : ProofsPass c lock × Quorum c (proofsOf lock) → walkLock c lock .found ≡ Passed
+    back h =
+        let l = h .0 .layout in
+        let e = listed-of lock l in
+        decides .1 (listed-clean lock (numberAt lock 6 1) 16 0 .1 l, rw e (h .0 .each), rw e (h .1))
+
+-- where every row before the one for 28 passes: one request for each proof, in order
+pub lock-answers : (c : Setting) (lock : List ℕ) → ProofsPass c lock
+    → (walkLock c lock .count ≡ length (proofsOf lock)) × (walkLock c lock .made ≡ requestsOf c (proofsOf lock))
+unfolding walkLock walkList
+lock-answers c lock h =
+    let e = listed-of lock (h .layout) in
+    rw (← e) (answers c (listed lock .clean) (listed lock .proofs) (rw e (h .each)))
+
+-- and where one does not: the requests of the proofs before the refusal
+pub lock-answers-always : (c : Setting) (lock : List ℕ)
+    → walkLock c lock .made ≡ requestsOf c (take (walkLock c lock .count) (listed lock .proofs))
+unfolding walkLock walkList
+lock-answers-always c lock = answers-always c (listed lock .clean) (listed lock .proofs)

@@ -1,0 +1,5 @@
+pub mod KeyField
+pub mod Quorum
+pub mod Listed
+pub mod DecisionTheorem
+pub mod RequestsRead

@@ -1,0 +1,122 @@
+-- Each request that is made is accepted by the request reader, and is read as what it was made from.
+-- Assumes nothing.
+use mathlib.Core.Path.{_≡_, refl}
+use mathlib.Core.Bool.{Bool, true, false, cond}
+use mathlib.Core.List.{List, [], _∷_}
+use Prim.Native.Nat.{ℕ, zero, suc, _+_, _^_, _<_}
+use native.Mathlib.Omega.{arith}
+use lib.Dec.{eqb}
+use lib.ListN.{length, drop}
+use borrow.Author.Tests.{eqb-true}
+use Rattle.octets.specs.Le.{Bytes, numberAt}
+use Rattle.octets.proofs.LeLaws.{bytes-drop, bytes-take}
+use Rattle.protocol.specs.Policy.{isOperation, capabilityFor}
+use Rattle.protocol.specs.Rows.{Hold}
+use Rattle.account_state.specs.Reading.{EntryReading, entryOf, entriesOf, lengthOf, keyLengthOf, auxLengthOf, stateReading, EntryTyped, EntriesTyped}
+use Rattle.account_state.specs.State.{stateRows}
+use Rattle.account_state.proofs.Inverse.{Keys, state-typed, state-keys}
+use Rattle.decision.proofs.KeyField.{key-kept}
+use Rattle.account_witness.specs.Reading.{ProofReading}
+use Rattle.verifier_request.specs.Reader.{requestRows}
+use Rattle.verifier_request.specs.Reading.{RequestTyped}
+use Rattle.verifier_request.specs.Reading as request
+use Rattle.verifier_request.specs.Writer as writer
+use Rattle.verifier_request.proofs.RequestTheorem.{request-accepted}
+use Rattle.scene_table.specs.Scene.{Cell}
+use Rattle.decision.specs.Proofs.{Setting, settingFor, known, entryFor, capable, hasBit, limitRows, entryRows, proofRows, requestReading, requestOf, keyField}
+use Rattle.decision.specs.Decision.{EachPasses, proofsOf, ProofsPass}
+
+-- an entry as an accepted state has it: of its types, with a key of 32 bytes, and with bytes in aux
+pub record EntryFits (e : EntryReading) : Type 0 where
+  pub typed : EntryTyped e
+  pub key : length (e .key) ≡ 32
+  pub aux : Bytes (e .aux)
+
+abbrev pub EntriesFit : List EntryReading → Type 0
+EntriesFit [] = Unit {0}
+EntriesFit (e ∷ es) = EntryFits e × EntriesFit es
+
+-- what is settled before the first proof fits the request's fields
+pub record SettingFits (c : Setting) : Type 0 where
+  pub entries : EntriesFit (c .entries)
+  pub digest : length (c .digest) ≡ 32
+
+-- the request of a proof passes every check of the request reader, and is read as what it was made from
+pub record RequestRead (c : Setting) (p : ProofReading) : Type 0 where
+  pub accepted : Hold (requestRows (requestOf c p))
+  pub reading : request.requestReading (requestOf c p) ≡ requestReading (c .operation) (c .digest) (entryFor (p .slot) (c .entries)) p
+  -- its key is the entry's
+  pub key : keyField (entryFor (p .slot) (c .entries) .key) ≡ entryFor (p .slot) (c .entries) .key
+
+abbrev pub RequestsRead : Setting → List ProofReading → Type 0
+RequestsRead c [] = Unit {0}
+RequestsRead c (p ∷ ps) = RequestRead c p × RequestsRead c ps
+
+entries-fit : (n : ℕ) (e : List ℕ) → Bytes e → EntriesTyped (entriesOf n e) → Keys (entriesOf n e) → EntriesFit (entriesOf n e)
+unfolding entriesOf entryOf
+entries-fit zero e b t k = tt
+entries-fit (suc n) e b t k =
+    let a = bytes-take (auxLengthOf e) (drop (48 + keyLengthOf e) e) (bytes-drop (48 + keyLengthOf e) e b) in
+    (record { typed = t .0; key = k .0; aux = a }, entries-fit n (drop (lengthOf e) e) (bytes-drop (lengthOf e) e b) (t .1) (k .1))
+
+-- an accepted state and a digest of 32 bytes settle so
+pub state-fits : (state : List ℕ) (deps : List Cell) (digits : List ℕ) (operation : ℕ) (digest : List ℕ) (room : ℕ) → Bytes state
+    → Hold (stateRows state) → length digest ≡ 32 → SettingFits (settingFor state deps digits operation digest room)
+unfolding settingFor stateReading
+state-fits state deps digits operation digest room b h l =
+    record {
+      entries = entries-fit (numberAt state 22 1) (drop 32 state) (bytes-drop 32 state b) (state-typed state b h .entries) (state-keys state b h);
+      digest = l;
+    }
+
+-- the entry of a known slot is one of them
+known-fits : (slot : ℕ) (es : List EntryReading) → EntriesFit es → known slot es ≡ true
+    → EntryFits (entryFor slot es) × (entryFor slot es .slot ≡ slot)
+unfolding known entryFor
+known-fits slot [] f h = absurd (let z : _≡_ {A = ℕ} 0 1 = cc in omega arith)
+known-fits slot (e ∷ es) f h = go (eqb (e .slot) slot) refl h (known-fits slot es (f .1))
+  where
+    go : (b : Bool) → eqb (e .slot) slot ≡ b → cond b true (known slot es) ≡ true
+        → (known slot es ≡ true → EntryFits (entryFor slot es) × (entryFor slot es .slot ≡ slot))
+        → EntryFits (cond b e (entryFor slot es)) × (cond b e (entryFor slot es) .slot ≡ slot)
+    go true q h later = (f .0, eqb-true (e .slot) slot q)
+    go false q h later = later h
+
+-- only the operations 1 to 3 have a capability
+capable-operation : (o capabilities : ℕ) → capable o capabilities ≡ true → (isOperation o ≡ true) × (o < 2 ^ 8)
+unfolding capable hasBit capabilityFor isOperation
+capable-operation o capabilities h = go (eqb o 1) (eqb o 2) (eqb o 3) refl refl refl
+  where
+    go : (a b c : Bool) → eqb o 1 ≡ a → eqb o 2 ≡ b → eqb o 3 ≡ c → (isOperation o ≡ true) × (o < 2 ^ 8)
+    go true b c p q r = let e = eqb-true o 1 p in (rw p, omega arith)
+    go false true c p q r = let e = eqb-true o 2 q in (rw (p, q), omega arith)
+    go false false true p q r = let e = eqb-true o 3 r in (rw (p, q, r), omega arith)
+    go false false false p q r = absurd (let z = rw (p, q, r) at h in let y : _≡_ {A = ℕ} 0 1 = cc in omega arith)
+
+pub request-read : (c : Setting) (used : ℕ) (p : ProofReading) → SettingFits c → Hold (proofRows c used p) → RequestRead c p
+unfolding proofRows entryRows limitRows requestOf requestReading writer.writerRows writer.limitRows
+request-read c used p f h =
+    let e = entryFor (p .slot) (c .entries) in
+    let r = requestReading (c .operation) (c .digest) e p in
+    let z = known-fits (p .slot) (c .entries) (f .entries) (h .0) in
+    let o = capable-operation (c .operation) (e .capabilities) (h .1 .0) in
+    let slot : p .slot < 2 ^ 16 = rw (z .1) at (z .0 .typed .slot) in
+    let t : RequestTyped r = record {
+      algorithm = z .0 .typed .algorithm;
+      slot = slot;
+      operation = o .1;
+      profile = z .0 .aux 0;
+      digest = f .digest;
+      key = rw (key-kept (entryFor (p .slot) (c .entries) .key) (z .0 .key)) (z .0 .key);
+    } in
+    let y = request-accepted r t (o .0, (h .1 .1 .1 .1 .1 .0, (h .1 .1 .1 .0, tt))) in
+    record { accepted = y .0; reading = y .1; key = key-kept (e .key) (z .0 .key) }
+
+-- where each proof's rows pass, each one's request is
+pub requests-read : (c : Setting) (i used : ℕ) (ps : List ProofReading) → SettingFits c → EachPasses c i used ps → RequestsRead c ps
+requests-read c i used [] f pass = tt
+requests-read c i used (p ∷ ps) f pass = (request-read c used p f (pass .0), requests-read c (i + 1) (used + length (requestOf c p)) ps f (pass .2))
+
+-- so all requests of a witness lock whose proofs pass
+pub lock-requests-read : (c : Setting) (lock : List ℕ) → SettingFits c → ProofsPass c lock → RequestsRead c (proofsOf lock)
+lock-requests-read c lock f h = requests-read c 0 0 (proofsOf lock) f (h .each)

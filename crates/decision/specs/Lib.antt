@@ -1,0 +1,3 @@
+pub mod Proofs
+pub mod Walk
+pub mod Decision

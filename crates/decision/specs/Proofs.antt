@@ -1,0 +1,121 @@
+-- One proof: the rows that it passes before its request is made, and the request.
+use Prim.Native.Nat.{ℕ, _+_, _-_}
+use mathlib.Core.Bool.{Bool, true, false, cond}
+use mathlib.Core.List.{List, [], _∷_, _++_}
+use lib.ListN.{length, getD, drop, replicate}
+use lib.Seq.{sets}
+use lib.Dec.{eqb, leb}
+use Rattle.octets.specs.Le.{numberAt}
+use Rattle.protocol.specs.Policy.{capabilityFor, hasCapability}
+use Rattle.protocol.specs.Rows.{Row, row}
+use Rattle.protocol.specs.declared.error.ProtocolError.the-variants.{InvalidWitness, InvalidCapability, InvalidVerifierRef, InvalidRequest, LengthOverflow, BufferTooShort}
+use Rattle.protocol.specs.declared.policy.OperationCapability.{OperationCapability}
+use Rattle.protocol.specs.declared.policy.OperationCapability.the-variants.{Capability, Refused}
+use Rattle.account_state.specs.Reading.{EntryReading, entriesOf}
+use Rattle.account_witness.specs.Reading.{ProofReading}
+use Rattle.verifier_request.specs.Reading.{RequestReading, reading, requestBytes}
+use Rattle.scene_table.specs.Scene.{Cell}
+use Rattle.cell_search.specs.declared.cells.CellField.{CellField}
+use Rattle.cell_search.specs.declared.cells.CellField.the-variants.{TypeHash, DataHash}
+use Rattle.cell_search.specs.Search.{matches}
+
+-- what is settled before the first proof: the current state's entries, the deps, the verdicts' digits, the operation and its
+-- threshold, the digest, and the length of the answer buffer
+pub record Setting : Type 0 where
+  pub entries : List EntryReading
+  pub deps : List Cell
+  pub digits : List ℕ
+  pub operation : ℕ
+  pub threshold : ℕ
+  pub digest : List ℕ
+  pub room : ℕ
+
+-- 01, State header: "spend, rotate and recovery thresholds", for the operations 1, 2 and 3
+unfoldable pub thresholdOf : ℕ → List ℕ → ℕ
+thresholdOf operation state =
+    cond (eqb operation 1) (numberAt state 16 2) (cond (eqb operation 2) (numberAt state 18 2) (numberAt state 20 2))
+
+-- what the bytes of the current state settle, beside the scene's deps and digits
+unfoldable pub settingFor : List ℕ → List Cell → List ℕ → ℕ → List ℕ → ℕ → Setting
+settingFor state deps digits operation digest room =
+    record {
+      entries = entriesOf (numberAt state 22 1) (drop 32 state);
+      deps = deps;
+      digits = digits;
+      operation = operation;
+      threshold = thresholdOf operation state;
+      digest = digest;
+      room = room;
+    }
+
+-- the state has an entry for the slot, and which
+unfoldable pub known : ℕ → List EntryReading → Bool
+known slot [] = false
+known slot (e ∷ es) = cond (eqb (e .slot) slot) true (known slot es)
+
+unfoldable pub noEntry : EntryReading
+noEntry =
+    record { slot = 0; algorithm = 0; capabilities = 0; weight = 0; hashType = 0; abi = 0; codeHash = []; key = []; aux = [] }
+
+unfoldable pub entryFor : ℕ → List EntryReading → EntryReading
+entryFor slot [] = noEntry
+entryFor slot (e ∷ es) = cond (eqb (e .slot) slot) e (entryFor slot es)
+
+-- the capabilities have the bit that the operation needs
+unfoldable pub hasBit : OperationCapability → ℕ → Bool
+hasBit (Capability bit) capabilities = hasCapability capabilities bit
+hasBit (Refused e) capabilities = false
+
+unfoldable pub capable : ℕ → ℕ → Bool
+capable operation capabilities = hasBit (capabilityFor operation) capabilities
+
+-- 01, each entry: "0 names a dep by data hash, 1 by type hash"
+unfoldable pub verifierField : ℕ → CellField
+verifierField hashType = cond (eqb hashType 0) DataHash TypeHash
+
+unfoldable pub verifiers : EntryReading → List Cell → List ℕ
+verifiers e deps = matches (verifierField (e .hashType)) (e .codeHash) deps
+
+-- 01, Request: "96 bytes then aux and proof"
+unfoldable pub requestSize : ℕ → ℕ → ℕ
+requestSize aux proof = 96 + aux + proof
+
+-- 01, main.rs: "In the lock a request of above 69,728 bytes is 39, tested before aux above 4,096 (35); a proof above 65,536 is 35
+-- before either."; "answer buffer too short for this request: 5", where `left` bytes of it are left
+unfoldable pub limitRows : ℕ → ℕ → ℕ → List Row
+limitRows aux proof left =
+    row (leb proof 65536) InvalidRequest
+    ∷ row (leb (requestSize aux proof) 69728) LengthOverflow
+    ∷ row (leb aux 4096) InvalidRequest
+    ∷ row (leb (requestSize aux proof) left) BufferTooShort
+    ∷ []
+
+-- 01, "Where each refusal is raised": "each proof: .. slot unknown 22; capability 29; verifier none or several 30; request 35, 39;
+-- answer buffer too short for this request 5"
+unfoldable pub entryRows : ℕ → List Cell → EntryReading → ℕ → ℕ → List Row
+entryRows operation deps e proof left =
+    row (capable operation (e .capabilities)) InvalidCapability
+    ∷ row (eqb (length (verifiers e deps)) 1) InvalidVerifierRef
+    ∷ limitRows (length (e .aux)) proof left
+
+unfoldable pub proofRows : Setting → ℕ → ProofReading → List Row
+proofRows c used p =
+    row (known (p .slot) (c .entries)) InvalidWitness
+    ∷ entryRows (c .operation) (c .deps) (entryFor (p .slot) (c .entries)) (length (p .bytes)) (c .room - used)
+
+-- 01, Request: "digest, key (32 bytes each)": a key in its field of 32 bytes. A state that passed its rows has keys of 32 bytes, and
+-- they stand there as they are
+unfoldable pub keyField : List ℕ → List ℕ
+keyField key = sets (replicate 32 0) 0 key
+
+-- the request: its profile is the first byte of aux
+unfoldable pub requestReading : ℕ → List ℕ → EntryReading → ProofReading → RequestReading
+requestReading operation digest e p =
+    reading (e .algorithm) (p .slot) operation (getD (e .aux) 0 0) digest (keyField (e .key)) (e .aux) (p .bytes)
+
+unfoldable pub requestOf : Setting → ProofReading → List ℕ
+requestOf c p = requestBytes (requestReading (c .operation) (c .digest) (entryFor (p .slot) (c .entries)) p)
+
+unfoldable pub requestsOf : Setting → List ProofReading → List ℕ
+requestsOf c [] = []
+requestsOf c (p ∷ ps) = requestOf c p ++ requestsOf c ps

@@ -1,0 +1,207 @@
+-- The hashed witnesses, one by one.
+-- Assumes nothing.
+use mathlib.Core.Path.{_≡_, refl, sym, ap, _∙_}
+use mathlib.Core.Bool.{Bool, true, false, cond, true≢false}
+use mathlib.Core.List.{List, [], _∷_, _++_, map}
+use Prim.Native.Nat.{ℕ, zero, suc, _+_, _-_, _≤_, _<_}
+use native.Mathlib.Nat.{sub-zero}
+use native.Mathlib.Omega.{arith}
+use lib.ListN.{length, drop, length-drop}
+use lib.Seq.{drop-drop}
+use lib.Dec.{eqb, leb, ltb}
+use borrow.Author.Tests.{le-leb, lt-leb, leb-true, leb-false, ltb-true, ltb-false, lt-ltb, le-ltb}
+use Rattle.octets.specs.Lists.{joined}
+use Rattle.blake2b.specs.declared.Blake2b.{Blake2b}
+use Rattle.blake2b.specs.State.{fedAll}
+use Rattle.blake2b.proofs.Feed.{fed-append}
+use Rattle.protocol.specs.Rows.{decide, _▷_}
+use Rattle.protocol.specs.declared.error.ProtocolError.the-variants.{InvalidWitness}
+use Rattle.protocol.specs.declared.check.Check.the-variants.{Passed, Failed}
+use Rattle.authorization.specs.Hashed.{hashedWitness}
+use Rattle.authorization.specs.Sighash.{hashedWitnesses}
+use Rattle.scene_table.specs.Valid.{every}
+use Rattle.scene_table.specs.Scene.{Input, Scene}
+use Rattle.scene_table.specs.Lent.{entryAt, lentScene}
+use Rattle.scene_table.specs.Places.{inputGroup}
+use Rattle.scene_table.proofs.PlaceLaws.{lentInput, lent-group, lent-given}
+use Rattle.group_sighash.specs.Witnesses.{groupWitnesses, groupOf, headOf, firstWitness, otherWitnesses, witnessFits, otherRows}
+use Rattle.group_sighash.specs.Hashed.{hashedOf, hashedFrom, groupFrom, witnessAt, isHashed, isInput, Next, FirstOther}
+
+-- the definition's two parts
+hashed-split : (is : List Input) (ws : List (List ℕ)) → hashedOf is ws ≡ groupWitnesses is ws ++ drop (length is) ws
+unfolding hashedOf groupWitnesses
+hashed-split [] ws = refl
+hashed-split (i ∷ is) [] = refl
+hashed-split (i ∷ is) (w ∷ ws) = go (eqb (i .group) 1) (hashed-split is ws)
+  where
+    go : (b : Bool) → hashedOf is ws ≡ groupWitnesses is ws ++ drop (length is) ws
+        → cond b (w ∷ hashedOf is ws) (hashedOf is ws) ≡ cond b (w ∷ groupWitnesses is ws) (groupWitnesses is ws) ++ drop (length is) ws
+    go true e = ap (λ x. w ∷ x) e
+    go false e = e
+
+hashed-none : (is : List Input) → hashedOf is [] ≡ []
+unfolding hashedOf
+hashed-none [] = refl
+hashed-none (i ∷ is) = refl
+
+group-none : (is : List Input) → groupWitnesses is [] ≡ []
+unfolding groupWitnesses
+group-none [] = refl
+group-none (i ∷ is) = refl
+
+module _ (table store : List ℕ) (i : ℕ) where
+  group-yes : i < entryAt table 3 → i < entryAt table 6 → inputGroup table i ≡ true
+      → groupFrom table store i ≡ witnessAt table store i ∷ groupFrom table store (i + 1)
+  unfolding groupFrom groupWitnesses witnessAt
+  group-yes n w g = rw (lent-given table store .inputs .turn i n, lent-given table store .witnesses .turn i w, lent-group table store i, g)
+
+  group-no : i < entryAt table 3 → i < entryAt table 6 → inputGroup table i ≡ false
+      → groupFrom table store i ≡ groupFrom table store (i + 1)
+  unfolding groupFrom groupWitnesses
+  group-no n w g = rw (lent-given table store .inputs .turn i n, lent-given table store .witnesses .turn i w, lent-group table store i, g)
+
+  group-past : entryAt table 3 ≤ i → groupFrom table store i ≡ []
+  unfolding groupFrom groupWitnesses
+  group-past n = rw (lent-given table store .inputs .none i n)
+
+  group-end : entryAt table 6 ≤ i → groupFrom table store i ≡ []
+  unfolding groupFrom
+  group-end w = rw (lent-given table store .witnesses .none i w) (group-none (drop i (lentScene table store .inputs)))
+
+  -- a hashed witness
+  pub hashed-take : i < entryAt table 6 → isHashed table i ≡ true
+      → hashedFrom table store i ≡ witnessAt table store i ∷ hashedFrom table store (i + 1)
+  unfolding isHashed hashedFrom hashedOf witnessAt
+  hashed-take w = go (leb (entryAt table 3) i) refl
+    where
+      go : (b : Bool) → leb (entryAt table 3) i ≡ b → cond b true (inputGroup table i) ≡ true
+          → hashedFrom table store i ≡ witnessAt table store i ∷ hashedFrom table store (i + 1)
+      go true e g =
+          let n : entryAt table 3 ≤ i = leb-true _ _ e in
+          let m : entryAt table 3 ≤ i + 1 = omega arith in
+          rw (lent-given table store .inputs .none i n, lent-given table store .inputs .none (i + 1) m, lent-given table store .witnesses .turn i w)
+      go false e g =
+          rw (lent-given table store .inputs .turn i (leb-false _ _ e), lent-given table store .witnesses .turn i w, lent-group table store i, g)
+
+  -- one that is not
+  pub hashed-skip : i < entryAt table 6 → isHashed table i ≡ false → hashedFrom table store i ≡ hashedFrom table store (i + 1)
+  unfolding isHashed hashedFrom hashedOf
+  hashed-skip w = go (leb (entryAt table 3) i) refl
+    where
+      go : (b : Bool) → leb (entryAt table 3) i ≡ b → cond b true (inputGroup table i) ≡ false
+          → hashedFrom table store i ≡ hashedFrom table store (i + 1)
+      go true e g = absurd (true≢false g)
+      go false e g =
+          rw (lent-given table store .inputs .turn i (leb-false _ _ e), lent-given table store .witnesses .turn i w, lent-group table store i, g)
+
+  pub group-skip : i < entryAt table 6 → isHashed table i ≡ false → groupFrom table store i ≡ groupFrom table store (i + 1)
+  unfolding isHashed
+  group-skip w = go (leb (entryAt table 3) i) refl
+    where
+      go : (b : Bool) → leb (entryAt table 3) i ≡ b → cond b true (inputGroup table i) ≡ false
+          → groupFrom table store i ≡ groupFrom table store (i + 1)
+      go true e g = absurd (true≢false g)
+      go false e g = group-no (leb-false _ _ e) w g
+
+  pub hashed-end : entryAt table 6 ≤ i → hashedFrom table store i ≡ []
+  unfolding hashedFrom
+  hashed-end w = rw (lent-given table store .witnesses .none i w) (hashed-none (drop i (lentScene table store .inputs)))
+
+-- there is an input and a witness at the place
+pub record Both (table : List ℕ) (i : ℕ) : Type 0 where
+  pub input : i < entryAt table 3
+  pub witness : i < entryAt table 6
+
+pub input-both : (table : List ℕ) (i : ℕ) → isInput table i ≡ true → Both table i
+unfolding isInput
+input-both table i = go (leb (entryAt table 6) i) refl
+  where
+    go : (b : Bool) → leb (entryAt table 6) i ≡ b → cond b false (ltb i (entryAt table 3)) ≡ true → Both table i
+    go true e g = absurd (true≢false (sym g))
+    go false e g = record { input = ltb-true _ _ g; witness = leb-false _ _ e }
+
+hashed-group : (table : List ℕ) (i : ℕ) → i < entryAt table 3 → isHashed table i ≡ true → inputGroup table i ≡ true
+unfolding isHashed
+hashed-group table i n e = rw (lt-leb (entryAt table 3) i n) at e
+
+-- the first hashed witness, from the front on
+module _ (table store : List ℕ) (r : ℕ) (first : Next table 0 r) where
+  group-first : isInput table r ≡ true → groupOf (lentScene table store) ≡ witnessAt table store r ∷ groupFrom table store (r + 1)
+  unfolding groupOf groupFrom
+  group-first e =
+      let b = input-both table r e in
+      first .group store ∙ group-yes table store r (b .input) (b .witness) (hashed-group table r (b .input) (first .hit (b .witness)))
+
+  group-missing : isInput table r ≡ false → groupOf (lentScene table store) ≡ []
+  unfolding groupOf groupFrom isInput
+  group-missing = go (leb (entryAt table 6) r) refl
+    where
+      go : (b : Bool) → leb (entryAt table 6) r ≡ b → cond b false (ltb r (entryAt table 3)) ≡ false → groupOf (lentScene table store) ≡ []
+      go true e g = first .group store ∙ group-end table store r (leb-true _ _ e)
+      go false e g = first .group store ∙ group-past table store r (ltb-false _ _ g)
+
+  pub first-there : isInput table r ≡ true → firstWitness (lentScene table store) ≡ witnessAt table store r
+  unfolding firstWitness headOf
+  first-there e = rw (group-first e)
+
+  pub first-missing : isInput table r ≡ false → firstWitness (lentScene table store) ≡ []
+  unfolding firstWitness headOf
+  first-missing e = rw (group-missing e)
+
+  pub group-count : leb 1 (length (groupOf (lentScene table store))) ≡ isInput table r
+  group-count = go (isInput table r) refl
+    where
+      go : (b : Bool) → isInput table r ≡ b → leb 1 (length (groupOf (lentScene table store))) ≡ b
+      go true e = rw (group-first e) (le-leb 1 (length (witnessAt table store r ∷ groupFrom table store (r + 1))) (omega arith))
+      go false e = rw (group-missing e)
+
+  pub other-there : isInput table r ≡ true → otherWitnesses (lentScene table store) ≡ hashedFrom table store (r + 1)
+  unfolding otherWitnesses hashedFrom groupFrom
+  other-there e =
+      let is = lentScene table store .inputs in
+      let ws = lentScene table store .witnesses in
+      let n : length is ≡ entryAt table 3 = lent-given table store .inputs .long in
+      let b = input-both table r e .input in
+      let m : r + 1 + (length is - (r + 1)) ≡ length is = rw n (omega arith) in
+      rw (group-first e)
+      (sym (hashed-split (drop (r + 1) is) (drop (r + 1) ws) ∙ rw (length-drop, drop-drop, m)))
+
+  pub other-missing : isInput table r ≡ false → otherWitnesses (lentScene table store) ≡ hashedFrom table store r
+  unfolding otherWitnesses hashedFrom groupOf
+  other-missing e =
+      let is = lentScene table store .inputs in
+      let ws = lentScene table store .witnesses in
+      rw (group-missing e) (sym (hashed-split is ws ∙ rw (group-missing e)) ∙ first .hashed store)
+
+-- each hashed witness fits
+module _ (w : List ℕ) (ws : List (List ℕ)) where
+  pub fits-more : length w ≤ 132096 → every witnessFits (w ∷ ws) ≡ every witnessFits ws
+  unfolding every witnessFits
+  fits-more h = rw (le-leb (length w) 132096 h)
+
+  pub fits-not : 132096 < length w → every witnessFits (w ∷ ws) ≡ false
+  unfolding every witnessFits
+  fits-not h = rw (lt-leb (length w) 132096 h)
+
+pub fits-none : every witnessFits [] ≡ true
+unfolding every
+fits-none = refl
+
+module _ (s : Scene) where
+  pub others-pass : every witnessFits (otherWitnesses s) ≡ true → decide Passed (otherRows s) ≡ Passed
+  unfolding otherRows decide _▷_
+  others-pass e = rw e
+
+  pub others-fail : every witnessFits (otherWitnesses s) ≡ false → decide Passed (otherRows s) ≡ Failed InvalidWitness
+  unfolding otherRows decide _▷_
+  others-fail e = rw e
+
+-- and is fed
+pub fed-next : (h : Blake2b) (w : List ℕ) (ws : List (List ℕ))
+    → fedAll h (hashedWitnesses (w ∷ ws)) ≡ fedAll (fedAll h (hashedWitness w)) (hashedWitnesses ws)
+unfolding hashedWitnesses joined
+fed-next h w ws = sym (fed-append h (hashedWitness w) (hashedWitnesses ws))
+
+pub fed-end : (h : Blake2b) → fedAll h (hashedWitnesses []) ≡ h
+unfolding hashedWitnesses joined fedAll
+fed-end h = refl

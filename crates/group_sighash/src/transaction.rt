@@ -1,0 +1,60 @@
+// The hash over the transaction and its witnesses.
+use crate::hashed::first_other;
+use crate::hashed::next_hashed;
+use crate::hashed::witness_at;
+use crate::witnesses::first_witness;
+use authorization::Sighash;
+use authorization::feed_canonical_witness;
+use authorization::feed_witness;
+use blake2b::Blake2b;
+use octets::part;
+use protocol::Check;
+use scene_table::transaction_hash;
+use scene_table::witness_count;
+ghost use mathlib.Core.Path.{_≡_};
+ghost use Rattle.blake2b.specs.State.{fedAll};
+ghost use Rattle.authorization.specs.Sighash.{hashedWitnesses};
+ghost use Rattle.scene_table.specs.Lent.{lentScene};
+ghost use Rattle.group_sighash.specs.Witnesses.{otherWitnesses};
+ghost use Rattle.group_sighash.specs.GroupSighash.{groupAnswer};
+
+// The hashed witnesses behind the first of the group are fed.
+fn feed_others(hash: Blake2b, table: &[u32], store: &[u8]) -> Blake2b
+    ensures { λ r. ⌜ r ≡ fedAll hash (hashedWitnesses (otherWitnesses (lentScene (now (table .entry)) (now (store .entry))))) ⌝ }
+{
+    let count = witness_count(table);
+    let mut fed = hash;
+    let mut i = next_hashed(table, first_other(table));
+    while i < count {
+        fed = feed_witness(fed, witness_at(table, store, i));
+        i = next_hashed(table, i + 1);
+    }
+    fed
+}
+
+// The sighash of the transaction, or 22 where the first witness of the group is no table.
+pub fn canonical_group_sighash(table: &[u32], store: &[u8]) -> Sighash
+    ensures { λ r. ⌜ r ≡ groupAnswer (lentScene (now (table .entry)) (now (store .entry))) ⌝ }
+{
+    let place = transaction_hash(table);
+    let begun = Blake2b::new().update(part(store, place.start, place.len));
+    let canonical = feed_canonical_witness(begun, first_witness(table, store));
+    let found = canonical.found;
+    match found {
+        Check::Failed(error) => {
+            let none = [0u8; 32];
+            Sighash {
+                found: Check::Failed(error),
+                hash: none,
+            }
+        }
+        Check::Passed => {
+            let fed = canonical.hash;
+            let hash = feed_others(fed, table, store).finish().digest();
+            Sighash {
+                found: Check::Passed,
+                hash: hash,
+            }
+        }
+    }
+}

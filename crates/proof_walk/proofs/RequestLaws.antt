@@ -1,0 +1,94 @@
+-- The rows and the request of one proof: by the entry that was found, and how long the request is.
+-- Assumes nothing.
+use mathlib.Core.Path.{_≡_, refl, sym, ap, _∙_}
+use mathlib.Core.Bool.{Bool, true, false}
+use mathlib.Core.List.{List, [], _∷_}
+use Prim.Native.Nat.{ℕ, suc, _≤_}
+use native.Mathlib.Nat.{sub-zero}
+use native.Mathlib.Omega.{arith}
+use lib.Dec.{eqb}
+use lib.ListN.{length, take, drop}
+use lib.Seq.{sets, length-sets}
+use borrow.Author.Tests.{ne-eqb, leb-true}
+use Rattle.octets.specs.Le.{numberAt}
+use Rattle.octets.proofs.Stores.{sets-front}
+use Rattle.protocol.specs.Rows.{decide}
+use Rattle.protocol.specs.declared.check.Check.the-variants.{Passed}
+use Rattle.protocol.proofs.Hold.{passed-hold}
+use Rattle.account_state.specs.Reading.{EntryReading, entryOf}
+use Rattle.account_witness.specs.Reading.{ProofReading}
+use Rattle.verifier_request.specs.Writer.{requestTotal}
+use Rattle.verifier_request.proofs.Form.{length-request}
+use Rattle.scene_table.specs.Scene.{Cell}
+use Rattle.scene_table.specs.Lent.{lentScene}
+use Rattle.cell_search.specs.declared.cells.Source.the-variants.{CellDep}
+use Rattle.cell_search.specs.declared.search.Search.{Search}
+use Rattle.cell_search.specs.declared.search.Search.the-variants.{Missing, One, Several}
+use Rattle.cell_search.specs.Search.{cellsOf, matches, searchOf, cellSearch}
+use Rattle.decision.specs.Proofs.{settingFor, known, entryFor, verifierField, verifiers, requestSize, limitRows, entryRows, proofRows, keyField, requestReading, requestOf}
+use Rattle.decision.specs.Walk.{answered}
+use Rattle.proof_walk.specs.Answer.{sceneDeps, walkSetting}
+use Rattle.proof_walk.specs.Steps.{stateEntries, isKnown, entryIn, FoundIs, proofOf, rowsOf, requestFor}
+use Rattle.proof_walk.specs.declared.authenticator.Found.{Found}
+
+-- just one place
+abbrev pub isOne : Search → Bool
+isOne Missing = false
+isOne (One k) = true
+isOne Several = false
+
+one-found : (places : List ℕ) → isOne (searchOf places) ≡ eqb (length places) 1
+unfolding searchOf
+one-found [] = refl
+one-found (k ∷ []) = refl
+one-found (k ∷ j ∷ ks) = sym (ne-eqb (suc (suc (length ks))) 1 (λ e. omega arith))
+
+-- what the search for an entry's verifier says
+pub resolved : (table store entry : List ℕ) (s : Search)
+    → s ≡ cellSearch (verifierField (numberAt entry 10 1)) (take 32 (drop 12 entry)) (cellsOf CellDep (lentScene table store))
+    → isOne s ≡ eqb (length (verifiers (entryOf entry) (sceneDeps table store))) 1
+unfolding entryOf verifiers cellsOf sceneDeps cellSearch
+resolved table store entry s e =
+    ap isOne e ∙ one-found (matches (verifierField (numberAt entry 10 1)) (take 32 (drop 12 entry)) (lentScene table store .deps))
+
+-- a key's field has 32 bytes
+pub length-key : (key : List ℕ) → length (keyField key) ≡ 32
+unfolding keyField
+length-key key = simp length-sets
+
+-- the request's length, and the request stored at the front
+module _ (operation : ℕ) (digest : List ℕ) (e : EntryReading) (p : ProofReading) (d : length digest ≡ 32) where
+  pub request-long : length (requestFor operation digest e p) ≡ requestSize (length (e .aux)) (length (p .bytes))
+  unfolding requestFor requestReading requestSize requestTotal
+  request-long = length-request (requestReading operation digest e p) (record { digest = d; key = length-key (e .key) })
+
+  pub request-stored : (out after : List ℕ) → requestSize (length (e .aux)) (length (p .bytes)) ≤ length out
+      → after ≡ sets out 0 (requestFor operation digest e p) → after ≡ answered out (requestFor operation digest e p)
+  unfolding answered
+  request-stored out after h stored = stored ∙ sets-front out (requestFor operation digest e p) (rw request-long h)
+
+-- where every row passes there is room for the request
+pub rows-room : (known : Bool) (operation : ℕ) (deps : List Cell) (e : EntryReading) (proof left : ℕ)
+    → decide Passed (rowsOf known operation deps e proof left) ≡ Passed → requestSize (length (e .aux)) proof ≤ left
+unfolding rowsOf entryRows limitRows
+rows-room known operation deps e proof left h =
+    let z = passed-hold (rowsOf known operation deps e proof left) h in
+    leb-true _ _ (z .1 .1 .1 .1 .1 .1 .0)
+
+-- rows, request and weight by the entry that was found
+module _ (table store state : List ℕ) (operation : ℕ) (digest : List ℕ) (room slot : ℕ) (bytes : List ℕ) (found : Found)
+    (f : FoundIs (stateEntries state) state slot found) where
+  pub found-rows : rowsOf (isKnown found) operation (sceneDeps table store) (entryOf (entryIn state found)) (length bytes) room
+      ≡ proofRows (walkSetting table store state operation digest room) 0 (proofOf slot bytes)
+  unfolding proofRows walkSetting settingFor rowsOf
+  found-rows = rw (f .itsKnown, f .itsEntry, sub-zero)
+
+  pub found-request : requestFor operation digest (entryOf (entryIn state found)) (proofOf slot bytes)
+      ≡ requestOf (walkSetting table store state operation digest room) (proofOf slot bytes)
+  unfolding requestOf requestFor walkSetting settingFor
+  found-request = rw (f .itsEntry)
+
+  pub found-weight : numberAt (entryIn state found) 8 2
+      ≡ entryFor slot (walkSetting table store state operation digest room .entries) .weight
+  unfolding walkSetting settingFor entryOf
+  found-weight = ap (λ (e : EntryReading). e .weight) (f .itsEntry)

@@ -1,0 +1,131 @@
+-- One turn of the walk: its layout, its step and its verdict; and what is checked behind the last proof.
+-- Assumes nothing.
+use mathlib.Core.Path.{_≡_, refl, sym, _∙_}
+use mathlib.Core.Logic.{_⊎_, inl, inr, ⊎-elim}
+use mathlib.Core.Bool.{Bool, true, false, cond}
+use mathlib.Core.List.{List, [], _∷_}
+use Prim.Native.Nat.{ℕ}
+use lib.Dec.{eqb, leb}
+use lib.ListN.{take, drop}
+use borrow.Author.Tests.{eqb-true, eqb-false, leb-true, leb-false, lt-ltb, le-ltb}
+use Rattle.protocol.specs.Rows.{Row, row, _▷_, _then_, decide, First}
+use Rattle.protocol.specs.declared.error.ProtocolError.{ProtocolError}
+use Rattle.protocol.specs.declared.error.ProtocolError.the-variants.{InvalidWitness, ThresholdUnsatisfied}
+use Rattle.protocol.specs.declared.check.Check.{Check}
+use Rattle.protocol.specs.declared.check.Check.the-variants.{Passed, Failed}
+use Rattle.protocol.proofs.Hold.{failed-passed, failed-first}
+use Rattle.account_witness.specs.Reading.{proofReading}
+use Rattle.account_witness.specs.Walk as witness
+use Rattle.account_witness.specs.declared.walk.Proof.{Proof}
+use Rattle.account_witness.specs.declared.walk.ProofCursor.{ProofCursor}
+use Rattle.account_witness.specs.declared.walk.ProofStep.the-variants as proof-step
+use Rattle.account_witness.proofs.WalkLaws.{step-next, step-refused}
+use Rattle.decision.specs.Proofs.{Setting, entryFor, proofRows}
+use Rattle.decision.specs.Walk.{verdict, earned, weighed, ended, walk}
+use Rattle.proof_walk.specs.Steps.{proofOf, StepIs, Made, readAt, turnCheck, judgedAs, Went, TurnIs}
+use Rattle.proof_walk.specs.declared.request.Step.the-variants as step
+use Rattle.proof_walk.specs.declared.walk.Turn.the-variants as turn
+
+-- ---- behind the last proof
+
+weighed-row : (weight threshold : ℕ) (b : Bool) → leb threshold weight ≡ b
+    → cond b Passed (Failed ThresholdUnsatisfied) ≡ weighed weight threshold
+unfolding weighed
+weighed-row weight threshold true h = rw (le-ltb weight threshold (leb-true threshold weight h))
+weighed-row weight threshold false h = rw (lt-ltb weight threshold (leb-false threshold weight h))
+
+pub ended-rows : (clean : Bool) (weight threshold : ℕ)
+    → Passed ▷ row clean InvalidWitness ▷ row (leb threshold weight) ThresholdUnsatisfied ≡ ended clean weight threshold
+unfolding _▷_ ended
+ended-rows true weight threshold = weighed-row weight threshold (leb threshold weight) refl
+ended-rows false weight threshold = refl
+
+-- ---- one turn
+
+-- what two checks one after another find
+then-failed : (a b : Check) (e : ProtocolError) → a then b ≡ Failed e → (a ≡ Failed e) ⊎ ((a ≡ Passed) × (b ≡ Failed e))
+unfolding _then_
+then-failed Passed b e h = inr (refl, h)
+then-failed (Failed x) b e h = inl h
+
+then-passed : (a b : Check) → a then b ≡ Passed → (a ≡ Passed) × (b ≡ Passed)
+unfolding _then_
+then-passed Passed b h = (refl, h)
+then-passed (Failed x) b h = failed-passed x h
+
+-- rows that have only one refusal find that one
+abbrev Only : ProtocolError → List Row → Type 0
+Only x [] = Unit {0}
+Only x (r ∷ rs) = (r .error ≡ x) × Only x rs
+
+only-first : (x e : ProtocolError) (rs : List Row) → Only x rs → First rs e → x ≡ e
+only-first x e [] o f = absurd f
+only-first x e (r ∷ rs) o f = ⊎-elim (λ l. sym (o .0) ∙ l .1) (λ q. only-first x e rs (o .1) (q .1)) f
+
+pub layout-error : (lock : List ℕ) (at least : ℕ) (e : ProtocolError) → decide Passed (witness.proofRows lock at least) ≡ Failed e
+    → InvalidWitness ≡ e
+unfolding witness.proofRows
+layout-error lock at least e h =
+    only-first InvalidWitness e (witness.proofRows lock at least) (refl, (refl, (refl, (refl, (refl, tt)))))
+    (failed-first (witness.proofRows lock at least) e h)
+
+-- the turn by the verdict on its request
+pub turn-judged : (c : Setting) (lock : List ℕ) (cursor : ProofCursor) (i : ℕ) (out after : List ℕ) (v len weight : ℕ) (next : ProofCursor)
+    → v ≡ verdict c i → Went c lock cursor out after len
+    → weight ≡ entryFor (readAt lock (cursor .offset) .slot) (c .entries) .weight
+    → next ≡ witness.cursorBehind lock (cursor .offset)
+    → TurnIs c lock cursor i out after (judgedAs v len weight next)
+unfolding judgedAs earned
+turn-judged c lock cursor i out after v len weight next k w wt n = go (eqb v 2) refl
+  where
+    go : (b : Bool) → eqb v 2 ≡ b
+        → TurnIs c lock cursor i out after (cond b (turn.Failed len) (turn.Onward len (cond (eqb v 0) weight 0) next))
+    go true e = (w, sym k ∙ eqb-true v 2 e)
+    go false e = (w, (λ z. eqb-false v 2 e (k ∙ z)), rw (k, wt), n)
+
+module _ (c : Setting) (lock : List ℕ) (cursor : ProofCursor) where
+  pub turn-faulty : (e : ProtocolError) → witness.proofStep lock cursor ≡ proof-step.Refused e → turnCheck c lock cursor ≡ Failed e
+  unfolding turnCheck _then_
+  turn-faulty e h = rw (step-refused lock cursor e h)
+
+  -- a proof was read
+  module _ (p : Proof) (next : ProofCursor) (h : witness.proofStep lock cursor ≡ proof-step.Next p next) where
+    pub turn-proof : readAt lock (cursor .offset) ≡ proofOf (p .slot) (take (p .len) (drop (p .start) lock))
+    unfolding readAt proofReading
+    turn-proof = rw (step-next lock cursor p next h .1)
+
+    pub turn-next : next ≡ witness.cursorBehind lock (cursor .offset)
+    turn-next = sym (step-next lock cursor p next h .2)
+
+    pub turn-rows : turnCheck c lock cursor ≡ decide Passed (proofRows c 0 (readAt lock (cursor .offset)))
+    unfolding turnCheck _then_
+    turn-rows = rw (step-next lock cursor p next h .0)
+
+    -- and its step was made from these bytes
+    module _ (i : ℕ) (bytes : List ℕ) (b : bytes ≡ take (p .len) (drop (p .start) lock)) (out after : List ℕ) where
+      pub turn-refused : (e : ProtocolError) → StepIs c (proofOf (p .slot) bytes) out after (step.Refused e)
+          → TurnIs c lock cursor i out after (turn.Refused e)
+      turn-refused e s = (turn-rows ∙ rw (turn-proof, ← b) (s .0), s .1)
+
+      pub turn-made : (v len weight : ℕ) → v ≡ verdict c i → StepIs c (proofOf (p .slot) bytes) out after (step.Made len weight)
+          → TurnIs c lock cursor i out after (judgedAs v len weight next)
+      turn-made v len weight k s =
+          turn-judged c lock cursor i out after v len weight next k
+          (record { passed = turn-rows ∙ rw (turn-proof, ← b) (s .0 .passed); made = rw (turn-proof, ← b) (s .0) })
+          (rw turn-proof (s .1))
+          turn-next
+
+-- what a turn's check says of the layout and of the rows
+pub turn-split : (c : Setting) (lock : List ℕ) (cursor : ProofCursor) (e : ProtocolError) → turnCheck c lock cursor ≡ Failed e
+    → let layout = decide Passed (witness.proofRows lock (cursor .offset) (cursor .least)) in
+    (layout ≡ Failed e) ⊎ ((layout ≡ Passed) × (decide Passed (proofRows c 0 (readAt lock (cursor .offset))) ≡ Failed e))
+unfolding turnCheck
+turn-split c lock cursor e h =
+    then-failed (decide Passed (witness.proofRows lock (cursor .offset) (cursor .least))) (decide Passed (proofRows c 0 (readAt lock (cursor .offset)))) e h
+
+pub turn-both : (c : Setting) (lock : List ℕ) (cursor : ProofCursor) → turnCheck c lock cursor ≡ Passed
+    → (decide Passed (witness.proofRows lock (cursor .offset) (cursor .least)) ≡ Passed)
+    × (decide Passed (proofRows c 0 (readAt lock (cursor .offset))) ≡ Passed)
+unfolding turnCheck
+turn-both c lock cursor h =
+    then-passed (decide Passed (witness.proofRows lock (cursor .offset) (cursor .least))) (decide Passed (proofRows c 0 (readAt lock (cursor .offset)))) h

@@ -1,0 +1,216 @@
+-- The head of the walk's loop, and each way on from it.
+-- Assumes nothing.
+use mathlib.Core.Path.{_≡_, refl, sym, ap, _∙_}
+use mathlib.Core.Logic.{_≢_, ⊎-elim}
+use mathlib.Core.Bool.{cond}
+use mathlib.Core.List.{List, [], _∷_, _++_}
+use Prim.Native.Nat.{ℕ, suc, _+_, _-_, _*_, _≤_, _<_}
+use native.Mathlib.Nat.{sub-zero}
+use native.Mathlib.Omega.{arith}
+use lib.Dec.{eqb}
+use lib.ListN.{length, length-append}
+use borrow.Author.Tests.{ne-eqb}
+use borrow.Rule.Slice.PartMut.{mid-len}
+use Rattle.octets.specs.Le.{numberAt}
+use Rattle.protocol.specs.Rows.{row, decide}
+use Rattle.protocol.specs.declared.error.ProtocolError.{ProtocolError}
+use Rattle.protocol.specs.declared.error.ProtocolError.the-variants.{InvalidWitness, VerifierFailure}
+use Rattle.protocol.specs.declared.check.Check.{Check}
+use Rattle.protocol.specs.declared.check.Check.the-variants.{Passed, Failed}
+use Rattle.account_witness.specs.Reading.{ProofReading}
+use Rattle.account_witness.specs.Walk as witness
+use Rattle.account_witness.specs.declared.walk.ProofCursor.{ProofCursor}
+use Rattle.scene_table.specs.Lent.{sceneFrom, lentScene, blankScene}
+use Rattle.scene_table.specs.Places.{verdictAt, verdictOf}
+use Rattle.decision.specs.Proofs.{Setting, settingFor, thresholdOf, known, entryFor, entryRows, proofRows, requestOf}
+use Rattle.decision.specs.Walk.{Outcome, outcome, verdict, earned, ended, orElse, walk, orFault, proofsFrom, walkList, walkLock, answered}
+use Rattle.proof_walk.specs.Answer.{sceneDeps, walkSetting, walkedOf}
+use Rattle.proof_walk.specs.Steps.{readAt, Went, TurnIs}
+use Rattle.proof_walk.specs.declared.walk.Turn.the-variants as turn
+use Rattle.proof_walk.specs.declared.walk.Walked.{Walked}
+use Rattle.proof_walk.proofs.Answered.{answered-length, part-put, lentOf, backIn}
+use Rattle.proof_walk.proofs.Turn.{layout-error, turn-split, turn-both}
+
+-- ---- the settings of one walk, which differ only in the room of the answer buffer
+
+module _ (table store state : List ℕ) (operation : ℕ) (digest : List ℕ) where
+  abbrev pub S : ℕ → Setting
+  S room = walkSetting table store state operation digest room
+
+  -- the table's digit is the verdict
+  pub verdict-lent : (room i : ℕ) → verdictOf table i ≡ verdict (S room) i
+  unfolding verdictOf verdictAt blankScene lentScene sceneFrom verdict walkSetting settingFor
+  verdict-lent room i = refl
+
+  -- rows go by what is left of it, and request, verdict and weight not by it
+  rows-alike : (a b used : ℕ) (p : ProofReading) → a - 0 ≡ b - used → proofRows (S a) 0 p ≡ proofRows (S b) used p
+  unfolding proofRows walkSetting settingFor
+  rows-alike a b used p e =
+      ap
+      (λ (left : ℕ). row (known (p .slot) (S a .entries)) InvalidWitness ∷ entryRows operation (sceneDeps table store) (entryFor (p .slot) (S a .entries)) (length (p .bytes)) left)
+      e
+
+  request-alike : (a b : ℕ) (p : ProofReading) → requestOf (S a) p ≡ requestOf (S b) p
+  unfolding requestOf walkSetting settingFor
+  request-alike a b p = refl
+
+  verdict-alike : (a b i : ℕ) → verdict (S a) i ≡ verdict (S b) i
+  unfolding verdict walkSetting settingFor
+  verdict-alike a b i = refl
+
+  earned-alike : (a b i : ℕ) (p : ProofReading) → earned (S a) i p ≡ earned (S b) i p
+  unfolding earned verdict walkSetting settingFor
+  earned-alike a b i p = refl
+
+-- ---- the head of the loop
+
+-- the walk from a cursor on, n proofs being left
+abbrev pub walkFrom : Setting → List ℕ → ℕ → ProofCursor → ℕ → ℕ → List ℕ → Outcome
+walkFrom c lock n cursor i weight made =
+    let ps = proofsFrom lock n (cursor .offset) (cursor .least) in
+    walk c (ps .clean) i weight made (ps .proofs)
+
+-- what holds where a turn begins: `made` is written, and the walk goes on from proof i
+pub record Head (c : Setting) (lock : List ℕ) (count : ℕ) (answer₀ answer : List ℕ) (cursor : ProofCursor) (weight total i : ℕ) : Type 0 where
+  pub made : List ℕ
+  pub wrote : answer ≡ answered answer₀ made
+  pub long : length made ≡ total
+  pub fits : total ≤ length answer₀
+  pub kept : length answer ≡ length answer₀
+  pub bounded : weight ≤ 65535 * i
+  pub goes : walkLock c lock ≡ walkFrom c lock (count - i) cursor i weight made
+
+-- before the first turn
+pub head-first : (c : Setting) (lock answer₀ : List ℕ) (count : ℕ) → count ≡ numberAt lock 6 1
+    → Head c lock count answer₀ answer₀ witness.firstCursor 0 0 0
+unfolding walkLock walkList answered
+head-first c lock answer₀ count e =
+    record { made = []; wrote = refl; long = refl; fits = omega arith; kept = refl; bounded = omega arith; goes = rw (e, sub-zero) }
+
+-- a proof with a faulty layout
+walk-faulty : (c : Setting) (lock : List ℕ) (n : ℕ) (cursor : ProofCursor) (i weight : ℕ) (made : List ℕ) (e : ProtocolError)
+    → decide Passed (witness.proofRows lock (cursor .offset) (cursor .least)) ≡ Failed e
+    → walkFrom c lock (suc n) cursor i weight made ≡ outcome (Failed e) i made
+unfolding proofsFrom orFault walk ended
+walk-faulty c lock n cursor i weight made e h =
+    rw h (ap (λ (x : ProtocolError). outcome (Failed x) i made) (layout-error lock (cursor .offset) (cursor .least) e h))
+
+-- a proof with a sound one
+walk-read : (c : Setting) (lock : List ℕ) (n : ℕ) (cursor : ProofCursor) (i weight : ℕ) (made : List ℕ)
+    → decide Passed (witness.proofRows lock (cursor .offset) (cursor .least)) ≡ Passed
+    → let p = readAt lock (cursor .offset) in
+    walkFrom c lock (suc n) cursor i weight made
+    ≡ orElse (decide Passed (proofRows c (length made) p)) i made
+    (cond (eqb (verdict c i) 2) (outcome (Failed VerifierFailure) (i + 1) (made ++ requestOf c p))
+    (walkFrom c lock n (witness.cursorBehind lock (cursor .offset)) (i + 1) (weight + earned c i p) (made ++ requestOf c p)))
+unfolding proofsFrom orFault walk readAt witness.cursorBehind
+walk-read c lock n cursor i weight made h = rw h
+
+-- a return, from the outcome that was come to
+pub finish : {o : Outcome} (answer₀ : List ℕ) {answer made : List ℕ} {f : Check} {i total : ℕ} {r : Walked} → o ≡ outcome f i made
+    → length made ≡ total → answer ≡ answered answer₀ made → r ≡ record { found = f; count = i; length = total }
+    → (r ≡ walkedOf o) × (answer ≡ answered answer₀ (o .made))
+unfolding walkedOf
+finish answer₀ {f = f} {i = i} e l a t = (
+  t ∙ (ap (λ (n : ℕ). record { found = f; count = i; length = n }) (sym l) ∙ sym (ap walkedOf e)),
+  a ∙ sym (ap (λ (x : Outcome). answered answer₀ (x .made)) e),
+)
+
+-- ---- the ways on from the head
+
+-- a request was written behind the others
+pub record Wrote (c : Setting) (answer₀ answer made : List ℕ) (total : ℕ) (p : ProofReading) (after : List ℕ) (len : ℕ) : Type 0 where
+  pub wrote : backIn total answer after ≡ answered answer₀ (made ++ requestOf c p)
+  pub long : length (made ++ requestOf c p) ≡ total + len
+  pub fits : total + len ≤ length answer₀
+  pub kept : length (backIn total answer after) ≡ length answer₀
+
+module _ (table store state : List ℕ) (operation : ℕ) (digest : List ℕ) {lock answer₀ answer : List ℕ} {count : ℕ}
+    {cursor : ProofCursor} {weight total i : ℕ}
+    (h : Head (S table store state operation digest (length answer₀)) lock count answer₀ answer cursor weight total i) where
+  -- the walk's setting, the one of the lent part, and the proof
+  abbrev C : Setting
+  C = S table store state operation digest (length answer₀)
+
+  abbrev L : Setting
+  L = S table store state operation digest (length (lentOf total answer))
+
+  abbrev P : ProofReading
+  P = readAt lock (cursor .offset)
+
+  -- every proof is passed
+  pub passed-all : count ≤ i
+      → walkLock C lock ≡ outcome (ended (eqb (cursor .offset) (length lock)) weight (thresholdOf operation state)) i (h .made)
+  unfolding walk proofsFrom walkSetting settingFor
+  passed-all e = let z : count - i ≡ 0 = omega arith in h .goes ∙ rw z
+
+  lent-length : length (lentOf total answer) ≡ length answer₀ - total
+  lent-length =
+      let k : total ≤ length answer = omega arith in
+      let n = mid-len total (length answer) answer (omega arith) in
+      omega arith
+
+  lent-rows : proofRows L 0 P ≡ proofRows C (length (h .made)) P
+  lent-rows =
+      let n = lent-length in
+      rows-alike table store state operation digest (length (lentOf total answer)) (length answer₀) (length (h .made)) P (omega arith)
+
+  module _ (m : i < count) (after : List ℕ) where
+    from-here : walkLock C lock ≡ walkFrom C lock (suc (count - (i + 1))) cursor i weight (h .made)
+    from-here =
+        let z : count - i ≡ suc (count - (i + 1)) = omega arith in
+        h .goes ∙ ap (λ (n : ℕ). walkFrom C lock n cursor i weight (h .made)) z
+
+    -- it was refused
+    pub stopped : (e : ProtocolError) → TurnIs L lock cursor i (lentOf total answer) after (turn.Refused e)
+        → walkLock C lock ≡ outcome (Failed e) i (h .made)
+    unfolding orElse
+    stopped e t =
+        from-here
+        ∙ ⊎-elim
+        (λ l. walk-faulty C lock _ cursor i weight (h .made) e l)
+        (λ r. walk-read C lock _ cursor i weight (h .made) (r .0) ∙ rw (← lent-rows, r .1))
+        (turn-split L lock cursor e (t .0))
+
+    -- a request was made
+    module _ (len : ℕ) (w : Went L lock cursor (lentOf total answer) after len) where
+      same-request : requestOf L P ≡ requestOf C P
+      same-request = request-alike table store state operation digest (length (lentOf total answer)) (length answer₀) P
+
+      pub written : Wrote C answer₀ answer (h .made) total P after len
+      written =
+          let n = lent-length in
+          let b : backIn total answer after ≡ answered answer₀ (h .made ++ requestOf C P) = part-put answer₀ (h .made) (requestOf C P) total (h .long) (h .fits) (h .wrote) (w .made .wrote ∙ ap (answered (lentOf total answer)) same-request) in
+          let l : length (h .made ++ requestOf C P) ≡ total + len = omega (arith, length-append (h .made) (requestOf C P), w .made .long ∙ ap length same-request) in
+          let f : total + len ≤ length answer₀ = omega (arith, w .made .fits) in
+          record { wrote = b; long = l; fits = f; kept = ap length b ∙ answered-length answer₀ (h .made ++ requestOf C P) (omega arith) }
+
+      gone : walkLock C lock
+          ≡ cond (eqb (verdict C i) 2) (outcome (Failed VerifierFailure) (i + 1) (h .made ++ requestOf C P))
+          (walkFrom C lock (count - (i + 1)) (witness.cursorBehind lock (cursor .offset)) (i + 1) (weight + earned C i P) (h .made ++ requestOf C P))
+      unfolding orElse
+      gone =
+          let b = turn-both L lock cursor (w .passed) in
+          from-here ∙ (walk-read C lock _ cursor i weight (h .made) (b .0) ∙ rw (← lent-rows, b .1))
+
+      pub failed : verdict L i ≡ 2 → walkLock C lock ≡ outcome (Failed VerifierFailure) (i + 1) (h .made ++ requestOf C P)
+      failed v =
+          let v₀ : verdict C i ≡ 2 = verdict-alike table store state operation digest (length answer₀) (length (lentOf total answer)) i ∙ v in
+          gone ∙ rw v₀
+
+      pub onward : (added : ℕ) (next : ProofCursor) → added ≤ 65535
+          → TurnIs L lock cursor i (lentOf total answer) after (turn.Onward len added next)
+          → Head C lock count answer₀ (backIn total answer after) next (weight + added) (total + len) (i + 1)
+      onward added next small t =
+          let r = written in
+          let v : verdict C i ≢ 2 = λ z. t .1 (verdict-alike table store state operation digest (length (lentOf total answer)) (length answer₀) i ∙ z) in
+          let a : added ≡ earned C i P = t .2 ∙ earned-alike table store state operation digest (length (lentOf total answer)) (length answer₀) i P in
+          record {
+            made = h .made ++ requestOf C P;
+            wrote = r .wrote;
+            long = r .long;
+            fits = r .fits;
+            kept = r .kept;
+            bounded = omega (arith, h .bounded);
+            goes = gone ∙ rw (ne-eqb (verdict C i) 2 v, a, t .3);
+          }

@@ -1,0 +1,22 @@
+-- What the walk over a lent table, store and state answers.
+use Prim.Native.Nat.{ℕ}
+use mathlib.Core.List.{List}
+use lib.ListN.{length}
+use Rattle.scene_table.specs.Scene.{Cell}
+use Rattle.scene_table.specs.Lent.{lentScene}
+use Rattle.decision.specs.Proofs.{Setting, settingFor}
+use Rattle.decision.specs.Walk.{Outcome}
+use Rattle.proof_walk.specs.declared.walk.Walked.{Walked}
+
+-- the deps of the lent scene
+unfoldable pub sceneDeps : List ℕ → List ℕ → List Cell
+sceneDeps table store = lentScene table store .deps
+
+-- what the proofs are walked with, for an answer buffer of `room` bytes
+unfoldable pub walkSetting : List ℕ → List ℕ → List ℕ → ℕ → List ℕ → ℕ → Setting
+walkSetting table store state operation digest room =
+    settingFor state (sceneDeps table store) (lentScene table store .digits) operation digest room
+
+-- what the walk answers of its outcome
+unfoldable pub walkedOf : Outcome → Walked
+walkedOf o = record { found = o .found; count = o .count; length = length (o .made) }

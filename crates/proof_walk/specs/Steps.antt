@@ -1,0 +1,103 @@
+-- What each step of the walk gives: the search for an entry, the request of a proof, a turn.
+use Prim.Native.Nat.{ℕ, _≤_}
+use mathlib.Core.Path.{_≡_}
+use mathlib.Core.Logic.{_≢_}
+use mathlib.Core.Bool.{Bool, true, false, cond}
+use mathlib.Core.List.{List, [], _∷_}
+use lib.Dec.{eqb}
+use lib.ListN.{length, drop}
+use Rattle.octets.specs.Le.{numberAt}
+use Rattle.protocol.specs.Rows.{Row, row, _then_, decide}
+use Rattle.protocol.specs.declared.error.ProtocolError.the-variants.{InvalidWitness}
+use Rattle.protocol.specs.declared.check.Check.{Check}
+use Rattle.protocol.specs.declared.check.Check.the-variants as check
+use Rattle.account_state.specs.Reading.{EntryReading, entryOf, entriesOf}
+use Rattle.account_witness.specs.Reading.{ProofReading, proofReading}
+use Rattle.account_witness.specs.Walk as witness
+use Rattle.account_witness.specs.declared.walk.ProofCursor.{ProofCursor}
+use Rattle.verifier_request.specs.Reading.{requestBytes}
+use Rattle.scene_table.specs.Scene.{Cell}
+use Rattle.decision.specs.Proofs.{Setting, known, entryFor, entryRows, proofRows, requestReading, requestOf}
+use Rattle.decision.specs.Walk.{verdict, earned, answered}
+use Rattle.proof_walk.specs.declared.authenticator.Found.{Found}
+use Rattle.proof_walk.specs.declared.authenticator.Found.the-variants.{At, Missing}
+use Rattle.proof_walk.specs.declared.request.Step.{Step}
+use Rattle.proof_walk.specs.declared.request.Step.the-variants as step
+use Rattle.proof_walk.specs.declared.walk.Turn.{Turn}
+use Rattle.proof_walk.specs.declared.walk.Turn.the-variants as turn
+
+-- ---- the entry of a slot
+
+-- the entries of a state
+abbrev pub stateEntries : List ℕ → List EntryReading
+stateEntries state = entriesOf (numberAt state 22 1) (drop 32 state)
+
+-- whether an entry was found, and the bytes from it on
+abbrev pub isKnown : Found → Bool
+isKnown (At at) = true
+isKnown Missing = false
+
+abbrev pub entryIn : List ℕ → Found → List ℕ
+entryIn state (At at) = drop at state
+entryIn state Missing = []
+
+-- what the search for a slot's entry finds is what the entries say
+pub record FoundIs (entries : List EntryReading) (state : List ℕ) (slot : ℕ) (found : Found) : Type 0 where
+  pub itsKnown : isKnown found ≡ known slot entries
+  pub itsEntry : entryOf (entryIn state found) ≡ entryFor slot entries
+
+-- ---- the request of one proof
+
+abbrev pub proofOf : ℕ → List ℕ → ProofReading
+proofOf slot bytes = record { slot = slot; bytes = bytes }
+
+-- the rows by what was found of the entry
+unfoldable pub rowsOf : Bool → ℕ → List Cell → EntryReading → ℕ → ℕ → List Row
+rowsOf isKnown operation deps e proof left = row isKnown InvalidWitness ∷ entryRows operation deps e proof left
+
+unfoldable pub requestFor : ℕ → List ℕ → EntryReading → ProofReading → List ℕ
+requestFor operation digest e p = requestBytes (requestReading operation digest e p)
+
+-- the rows pass, and the request stands at the front of what was lent
+pub record Made (c : Setting) (p : ProofReading) (out after : List ℕ) (len : ℕ) : Type 0 where
+  pub passed : decide check.Passed (proofRows c 0 p) ≡ check.Passed
+  pub wrote : after ≡ answered out (requestOf c p)
+  pub long : len ≡ length (requestOf c p)
+  pub fits : len ≤ length out
+
+-- what a step comes to: a refusal, which writes nothing, or a request and the weight of its slot
+abbrev pub StepIs : Setting → ProofReading → List ℕ → List ℕ → Step → Type 0
+StepIs c p out after (step.Refused e) = (decide check.Passed (proofRows c 0 p) ≡ check.Failed e) × (after ≡ out)
+StepIs c p out after (step.Made len weight) = Made c p out after len × (weight ≡ entryFor (p .slot) (c .entries) .weight)
+
+-- ---- one turn
+
+-- the proof at a place of the witness lock
+unfoldable pub readAt : List ℕ → ℕ → ProofReading
+readAt lock at = proofReading lock (witness.proofAt lock at)
+
+-- its layout, then its rows
+unfoldable pub turnCheck : Setting → List ℕ → ProofCursor → Check
+turnCheck c lock cursor =
+    decide check.Passed (witness.proofRows lock (cursor .offset) (cursor .least))
+    then decide check.Passed (proofRows c 0 (readAt lock (cursor .offset)))
+
+-- the turn by the verdict on its request: 0 approved, 1 refused, 2 failed
+unfoldable pub judgedAs : ℕ → ℕ → ℕ → ProofCursor → Turn
+judgedAs verdict len weight next =
+    cond (eqb verdict 2) (turn.Failed len) (turn.Onward len (cond (eqb verdict 0) weight 0) next)
+
+-- its request was made
+pub record Went (c : Setting) (lock : List ℕ) (cursor : ProofCursor) (out after : List ℕ) (len : ℕ) : Type 0 where
+  pub passed : turnCheck c lock cursor ≡ check.Passed
+  pub made : Made c (readAt lock (cursor .offset)) out after len
+
+-- what a turn comes to
+abbrev pub TurnIs : Setting → List ℕ → ProofCursor → ℕ → List ℕ → List ℕ → Turn → Type 0
+TurnIs c lock cursor i out after (turn.Refused e) = (turnCheck c lock cursor ≡ check.Failed e) × (after ≡ out)
+TurnIs c lock cursor i out after (turn.Failed len) = Went c lock cursor out after len × (verdict c i ≡ 2)
+TurnIs c lock cursor i out after (turn.Onward len weight next) =
+    Went c lock cursor out after len
+    × (verdict c i ≢ 2)
+    × (weight ≡ earned c i (readAt lock (cursor .offset)))
+    × (next ≡ witness.cursorBehind lock (cursor .offset))

@@ -1,0 +1,7 @@
+// The walk over the proofs of a witness lock: each one's rows, its request in the answer buffer, its verdict and its weight.
+mod authenticator; // authenticator.rt
+mod request; // request.rt
+mod walk; // walk.rt
+
+pub use self::walk::Walked;
+pub use self::walk::walk_proofs;

@@ -1,0 +1,157 @@
+// One proof: the rows that it passes before its request is made, and the request.
+use crate::authenticator::aux;
+use crate::authenticator::entry_bytes;
+use crate::authenticator::find_authenticator;
+use crate::authenticator::is_capable;
+use crate::authenticator::is_known;
+use crate::authenticator::key_id;
+use cell_search::CellField;
+use cell_search::Search;
+use cell_search::Source;
+use cell_search::search_cells;
+use octets::fits;
+use octets::part;
+use octets::u8_at;
+use octets::u16_at;
+use protocol::Check;
+use protocol::ProtocolError;
+use protocol::VERIFIER_MAX_AUX_LEN;
+use protocol::VERIFIER_MAX_PROOF_LEN;
+use protocol::VERIFIER_MAX_REQUEST_LEN;
+use protocol::VERIFIER_REQUEST_HEADER_LEN;
+use verifier_request::store_request;
+ghost use mathlib.Core.Path.{_≡_};
+ghost use Prim.Native.Nat.{_≤_};
+ghost use lib.Dec.{eqb};
+ghost use lib.ListN.{length};
+ghost use Rattle.protocol.specs.Rows.{decide};
+ghost use Rattle.protocol.specs.declared.check.Check.the-variants.{Passed};
+ghost use Rattle.account_state.specs.Reading.{entryOf};
+ghost use Rattle.decision.specs.Proofs.{verifierField, verifiers, requestSize};
+ghost use Rattle.decision.specs.Walk.{answered};
+ghost use Rattle.proof_walk.specs.Answer.{walkSetting, sceneDeps};
+ghost use Rattle.proof_walk.specs.Steps.{rowsOf, requestFor, proofOf, StepIs};
+
+// A refusal, or the length of the request that was made and the weight of its slot.
+pub(crate) enum Step {
+    Refused(ProtocolError),
+    Made(usize, u16),
+}
+
+// Which hash of a dep names the verifier.
+fn verifier_field(hash_type: u8) -> CellField
+    ensures { λ r. ⌜ r ≡ verifierField «hash_type» ⌝ }
+{
+    match hash_type {
+        0 => CellField::DataHash,
+        _ => CellField::TypeHash,
+    }
+}
+
+// Whether just one dep is the verifier of the entry at the front of the bytes.
+fn resolve_verifier(table: &[u32], store: &[u8], entry: &[u8]) -> bool
+    ensures { λ r. ⌜ r ≡ eqb (length (verifiers (entryOf (now (entry .entry))) (sceneDeps (now (table .entry)) (now (store .entry))))) 1 ⌝ }
+{
+    let field = verifier_field(u8_at(entry, 10));
+    let hash = part(entry, 12, 32);
+    match search_cells(table, store, Source::CellDep, field, hash) {
+        Search::Missing => false,
+        Search::One(_) => true,
+        Search::Several => false,
+    }
+}
+
+// The rows of a proof of `proof` bytes where `left` bytes of the answer buffer are left.
+fn check_request(
+    table: &[u32],
+    store: &[u8],
+    known: bool,
+    entry: &[u8],
+    operation: u8,
+    proof: usize,
+    left: usize,
+) -> Check
+    ensures { λ r. ⌜ r ≡ decide Passed (rowsOf known operation (sceneDeps (now (table .entry)) (now (store .entry))) (entryOf (now (entry .entry))) proof left) ⌝ }
+{
+    let aux = aux(entry).len();
+    let invalid = ProtocolError::InvalidRequest;
+    let head = VERIFIER_REQUEST_HEADER_LEN + aux;
+    Check::Passed
+        .require(known, ProtocolError::InvalidWitness)
+        .require(
+            is_capable(operation, u16_at(entry, 6)),
+            ProtocolError::InvalidCapability,
+        )
+        .require(
+            resolve_verifier(table, store, entry),
+            ProtocolError::InvalidVerifierRef,
+        )
+        .require(proof <= VERIFIER_MAX_PROOF_LEN, invalid)
+        .require(
+            fits(VERIFIER_MAX_REQUEST_LEN, head, proof),
+            ProtocolError::LengthOverflow,
+        )
+        .require(aux <= VERIFIER_MAX_AUX_LEN, invalid)
+        .require(fits(left, head, proof), ProtocolError::BufferTooShort)
+}
+
+// Writes the request to the front of `out` and answers its length.
+fn encode_request(
+    entry: &[u8],
+    slot: u16,
+    operation: u8,
+    digest: [u8; 32],
+    proof: &[u8],
+    out: &mut [u8],
+) -> usize
+    requires { ⌜ requestSize (length (entryOf (now entry) .aux)) (length (now proof)) ≤ length (now out) ⌝ }
+    ensures { λ r. ⌜ r ≡ length (requestFor operation digest (entryOf (now (entry .entry))) (proofOf slot (now (proof .entry)))) ⌝ }
+    ensures { λ _. ⌜ now (out .exit) ≡ answered (now (out .entry)) (requestFor operation digest (entryOf (now (entry .entry))) (proofOf slot (now (proof .entry)))) ⌝ }
+{
+    let aux = aux(entry);
+    store_request(
+        u16_at(entry, 4),
+        slot,
+        operation,
+        u8_at(aux, 0),
+        digest,
+        key_id(entry),
+        aux,
+        proof,
+        out,
+    );
+    VERIFIER_REQUEST_HEADER_LEN + aux.len() + proof.len()
+}
+
+// The rows of a proof, and its request at the front of `out`.
+pub(crate) fn make_request(
+    table: &[u32],
+    store: &[u8],
+    state: &[u8],
+    operation: u8,
+    digest: [u8; 32],
+    slot: u16,
+    proof: &[u8],
+    out: &mut [u8],
+) -> Step
+    ensures { λ r. ⌜ StepIs (walkSetting (now (table .entry)) (now (store .entry)) (now (state .entry)) operation digest (length (now (out .entry)))) (proofOf slot (now (proof .entry))) (now (out .entry)) (now (out .exit)) r ⌝ }
+{
+    let found = find_authenticator(state, slot);
+    let entry = entry_bytes(state, found);
+    let known = is_known(found);
+    match check_request(
+        table,
+        store,
+        known,
+        entry,
+        operation,
+        proof.len(),
+        out.len(),
+    ) {
+        Check::Failed(error) => Step::Refused(error),
+        Check::Passed => {
+            let len = encode_request(entry, slot, operation, digest, proof, out);
+            Step::Made(len, u16_at(entry, 8))
+        }
+    }
+}

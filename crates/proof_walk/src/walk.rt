@@ -1,0 +1,132 @@
+// The walk over the proofs, a turn for each.
+use crate::authenticator::threshold;
+use crate::request::Step;
+use crate::request::make_request;
+use account_witness::ProofCursor;
+use account_witness::ProofStep;
+use account_witness::first_proof;
+use account_witness::next_proof;
+use octets::part;
+use octets::u8_at;
+use protocol::Check;
+use protocol::ProtocolError;
+use scene_table::verdict;
+ghost use mathlib.Core.Path.{_≡_};
+ghost use lib.Dec.{eqb};
+ghost use lib.ListN.{length};
+ghost use Rattle.decision.specs.Proofs.{thresholdOf};
+ghost use Rattle.decision.specs.Walk.{walkLock, answered, ended};
+ghost use Rattle.proof_walk.specs.Answer.{walkSetting, walkedOf};
+ghost use Rattle.proof_walk.specs.Steps.{judgedAs, TurnIs};
+
+// What the walk answers: what the checks found, how many requests were made, and how many bytes they take.
+pub struct Walked {
+    pub found: Check,
+    pub count: usize,
+    pub length: usize,
+}
+
+// What a turn comes to: a refusal; a request that the verifier failed on; or a request, the weight that it adds, and the
+// cursor behind its proof.
+enum Turn {
+    Refused(ProtocolError),
+    Failed(usize),
+    Onward(usize, u16, ProofCursor),
+}
+
+// The turn by the verdict on its request: 0 approved, 1 refused, 2 failed.
+fn judged(verdict: u32, len: usize, weight: u16, next: ProofCursor) -> Turn
+    ensures { λ r. ⌜ r ≡ judgedAs verdict len weight next ⌝ }
+{
+    match verdict {
+        0 => Turn::Onward(len, weight, next),
+        2 => Turn::Failed(len),
+        _ => Turn::Onward(len, 0, next),
+    }
+}
+
+// One proof: its layout, its rows, its request at the front of `out`, and its verdict.
+fn walk_proof(
+    table: &[u32],
+    store: &[u8],
+    state: &[u8],
+    lock: &[u8],
+    cursor: ProofCursor,
+    place: u8,
+    operation: u8,
+    digest: [u8; 32],
+    out: &mut [u8],
+) -> Turn
+    ensures { λ r. ⌜ TurnIs (walkSetting (now (table .entry)) (now (store .entry)) (now (state .entry)) operation digest (length (now (out .entry)))) (now (lock .entry)) cursor place (now (out .entry)) (now (out .exit)) r ⌝ }
+{
+    match next_proof(lock, cursor) {
+        ProofStep::Refused(error) => Turn::Refused(error),
+        ProofStep::Next(proof, next) => {
+            let slot = proof.slot;
+            let bytes = part(lock, proof.start, proof.len);
+            match make_request(table, store, state, operation, digest, slot, bytes, out) {
+                Step::Refused(error) => Turn::Refused(error),
+                Step::Made(len, weight) => judged(verdict(table, place as u32), len, weight, next),
+            }
+        }
+    }
+}
+
+// The checks behind the last proof, where the walk stands at `offset`.
+fn check_end(state: &[u8], lock: &[u8], operation: u8, offset: usize, weight: u32) -> Check
+    ensures { λ r. ⌜ r ≡ ended (eqb offset (length (now (lock .entry)))) weight (thresholdOf operation (now (state .entry))) ⌝ }
+{
+    let threshold = threshold(state, operation) as u32;
+    Check::Passed
+        .require(offset == lock.len(), ProtocolError::InvalidWitness)
+        .require(threshold <= weight, ProtocolError::ThresholdUnsatisfied)
+}
+
+// The answer where `count` requests of `length` bytes were made.
+fn told(found: Check, count: u8, length: usize) -> Walked
+    ensures { λ r. ⌜ r ≡ record { found = found; count = count; length = length } ⌝ }
+{
+    Walked {
+        found,
+        count: count as usize,
+        length,
+    }
+}
+
+// Walks the proofs of a witness lock, and writes each request into the rest of the answer buffer, behind the last one.
+pub fn walk_proofs(
+    table: &[u32],
+    store: &[u8],
+    state: &[u8],
+    lock: &[u8],
+    operation: u8,
+    digest: [u8; 32],
+    answer: &mut [u8],
+) -> Walked
+    ensures { λ r. ⌜ r ≡ walkedOf (walkLock (walkSetting (now (table .entry)) (now (store .entry)) (now (state .entry)) operation digest (length (now (answer .entry)))) (now (lock .entry))) ⌝ }
+    ensures { λ _. ⌜ now (answer .exit) ≡ answered (now (answer .entry)) (walkLock (walkSetting (now (table .entry)) (now (store .entry)) (now (state .entry)) operation digest (length (now (answer .entry)))) (now (lock .entry)) .made) ⌝ }
+{
+    let count = u8_at(lock, 6);
+    let mut cursor = first_proof();
+    let mut weight: u32 = 0;
+    let mut total: usize = 0;
+    let mut i: u8 = 0;
+    while i < count {
+        let out = &mut answer[total..];
+        match walk_proof(table, store, state, lock, cursor, i, operation, digest, out) {
+            Turn::Refused(error) => return told(Check::Failed(error), i, total),
+            Turn::Failed(len) => {
+                let failure = Check::Failed(ProtocolError::VerifierFailure);
+                return told(failure, i + 1, total + len);
+            }
+            Turn::Onward(len, added, next) => {
+                cursor = next;
+                weight += added as u32;
+                total += len;
+            }
+        }
+        i += 1;
+    }
+    let found = check_end(state, lock, operation, cursor.offset, weight);
+    told(found, i, total)
+}

@@ -1,0 +1,69 @@
+-- What the lock reads in the table and the store of an accepted text is the scene that the text says; and its test of a table
+-- passes exactly where an accepted text, its length aside, leaves that table.
+-- Assumes nothing.
+use Prim.Native.Nat.{ℕ, _≤_}
+use mathlib.Core.Bool.{true}
+use mathlib.Core.Path.{_≡_, sym, ap, _∙_}
+use mathlib.Core.List.{List}
+use mathlib.Core.Logic.{_↔_}
+use native.Mathlib.Omega.{arith}
+use lib.ListN.{length}
+use Rattle.protocol.specs.declared.check.Check.the-variants.{Passed}
+use Rattle.scene_text.specs.Text.{pieces}
+use Rattle.scene_reader.specs.Reader as reader
+use Rattle.scene_reader.specs.Reader.{Held, held, run, start, readOf, answerOf}
+use Rattle.scene_table.specs.Scene.{Scene, sceneBytes, sceneNumbers, tableOf}
+use Rattle.scene_table.specs.Lent.{lentScene}
+use Rattle.scene_table.specs.Valid.{sceneOk, validTable}
+use Rattle.scene_table.proofs.Inverse.{lent-back}
+use Rattle.scene_table.proofs.ValidTheorem.{valid-table}
+use Rattle.scene_reading.specs.Lines.{Passes}
+use Rattle.scene_reading.specs.Reading.{readingOf}
+use Rattle.scene_reading.specs.Print.{textOf}
+use Rattle.scene_reading.proofs.Accepts.{accepted-passes, passes-accepted}
+use Rattle.scene_reading.proofs.Leaves.{bytes-fit, passes-leaves}
+use Rattle.scene_reading.proofs.ReadingOk.{reading-ok}
+use Rattle.scene_reading.proofs.TableSize.{numbers-few}
+use Rattle.scene_reading.proofs.Theorem.{reader-leaves}
+use Rattle.scene_reading.proofs.Printed.{printed-passes, printed-lines, printed-reading}
+
+pub accessors-give : (text : List ℕ) (n m : ℕ) → answerOf (readOf text n m) ≡ Passed → (p : Passes text n)
+    → lentScene (reader.tableOf m (readOf text n m)) (reader.storeOf n (readOf text n m)) ≡ readingOf (p .lines)
+accessors-give text n m e p =
+    let l = reader-leaves text n m e p in
+    rw (l .table, l .store) (lent-back (readingOf (p .lines)) m n (l .ok))
+
+-- a text whose lines pass leaves the table, with a store of n bytes
+pub record LeftBy (table : List ℕ) (n : ℕ) : Type 0 where
+  pub text : List ℕ
+  pub left : Held
+  pub ran : run (start n (length table)) (pieces 10 text) ≡ held left
+  pub same : left .table ≡ table
+
+module _ (table : List ℕ) (n : ℕ) (long : 2048 ≤ length table) where
+  -- the print of a scene leaves its table
+  printed-leaves : (s : Scene) → sceneOk s ≡ true → length (sceneBytes s) ≤ n → table ≡ tableOf s (length table) → LeftBy table n
+  printed-leaves s ok fits e =
+      let p = printed-passes s n ok fits in
+      let r = passes-accepted (textOf s) n (length table) p in
+      let l : readingOf (p .lines) ≡ s = ap readingOf (printed-lines s n ok fits) ∙ printed-reading s ok in
+      let w : length (sceneNumbers s) ≤ 925 = numbers-few s ok in
+      let f : length (sceneNumbers (readingOf (p .lines))) ≤ length table = rw l (omega arith) in
+      record { text = textOf s; left = r .0; ran = r .1; same = passes-leaves (textOf s) n p (length table) (r .0) (r .1) .1 f ∙ (rw l (sym e)) }
+
+  -- a text that passes says a scene whose table it leaves
+  left-scene : LeftBy table n → (s : Scene) × (sceneOk s ≡ true) × (length (sceneBytes s) ≤ n) × (table ≡ tableOf s (length table))
+  left-scene l =
+      let p = accepted-passes (l .text) n (length table) (l .left) (l .ran) in
+      let s = readingOf (p .lines) in
+      let ok = reading-ok (l .text) n p in
+      let w : length (sceneNumbers (readingOf (p .lines))) ≤ 925 = numbers-few (readingOf (p .lines)) ok in
+      let f : length (sceneNumbers (readingOf (p .lines))) ≤ length table = omega arith in
+      (s, ok, bytes-fit (l .text) n p, sym (l .same) ∙ passes-leaves (l .text) n p (length table) (l .left) (l .ran) .1 f)
+
+-- the lock's row for 7
+pub table-test : (table : List ℕ) (n : ℕ) → (validTable table n ≡ true) ↔ ((2048 ≤ length table) × LeftBy table n)
+table-test table n = (
+  λ e. let v = valid-table table n .0 e in (v .0, printed-leaves table n (v .0) (v .1) (v .2) (v .3) (v .4)),
+  λ l. let s = left-scene table n (l .0) (l .1) in valid-table table n .1 (l .0, s .0, s .1, s .2, s .3),
+)

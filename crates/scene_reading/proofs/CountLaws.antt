@@ -1,0 +1,101 @@
+-- The counts of the kinds, which the reader sets line by line at the table's first eight entries.
+-- Assumes nothing.
+use Prim.Native.Nat.{ℕ, zero, suc, _+_, _-_, _≤_, _<_}
+use mathlib.Core.Path.{_≡_, refl, ap, _∙_}
+use mathlib.Core.List.{List, [], _∷_, _++_}
+use native.Mathlib.Nat.{add-zero, le-refl}
+use native.Mathlib.Omega.{arith}
+use borrow.Author.Tests.{eq-eqb, ne-eqb}
+use lib.ListN.{set, replicate}
+use lib.Seq.{sets, set-set, set-comm}
+use Rattle.scene_line.specs.declared.kind.Kind.{Kind}
+use Rattle.scene_line.specs.declared.kind.Kind.the-variants.{Input, Output, Dep, Witness, Verdicts}
+use Rattle.scene_line.specs.Kind.{place}
+use Rattle.scene_reader.specs.Reader.{seenWith}
+use Rattle.scene_reading.specs.Lines.{times, kindsOf}
+use Rattle.scene_reading.proofs.Order.{place-small}
+use Rattle.scene_reading.proofs.Ordered.{bodyKinds, body-right}
+
+-- a table after the counts of lines of these kinds
+unfoldable pub counted : List ℕ → ℕ → ℕ → List Kind → List ℕ
+counted table last seen [] = table
+counted table last seen (k ∷ ks) =
+    counted (set table (place k) (seenWith last seen (place k))) (place k) (seenWith last seen (place k)) ks
+
+-- a store before a run of stores
+set-sets : (vs t : List ℕ) (i x at : ℕ) → i < at → set (sets t at vs) i x ≡ sets (set t i x) at vs
+set-sets [] t i x at h = refl
+set-sets (v ∷ vs) t i x at h = set-sets vs (set t at v) i x (suc at) (omega arith) ∙ rw (set-comm t at i v x (λ e. omega arith))
+
+-- counts and a row behind them, in either order
+pub counted-behind : (ks : List Kind) (t : List ℕ) (last seen at : ℕ) (vs : List ℕ) → 8 ≤ at → counted (sets t at vs) last seen ks ≡ sets (counted t last seen ks) at vs
+unfolding counted
+counted-behind [] t last seen at vs h = refl
+counted-behind (k ∷ ks) t last seen at vs h =
+    let p : place k < 8 = place-small k in
+    let s = seenWith last seen (place k) in
+    rw (set-sets vs t (place k) s at (omega arith)) (counted-behind ks (set t (place k) s) (place k) s at vs h)
+
+-- a run of n lines of a kind, before others
+module _ (k : Kind) (ks : List Kind) (result : List ℕ) where
+  one-more : (n last seen s : ℕ) (t : List ℕ) → seenWith last seen (place k) ≡ s
+      → counted t last seen (times (suc n) k ++ ks) ≡ counted (set t (place k) s) (place k) s (times n k ++ ks)
+  unfolding counted times
+  one-more n last seen s t e = ap (λ (x : ℕ). counted (set t (place k) x) (place k) x (times n k ++ ks)) e
+
+  counted-same : (n seen : ℕ) (t : List ℕ) → set t (place k) seen ≡ t → ((l s : ℕ) → l ≤ place k → counted (set t (place k) (seen + n)) l s ks ≡ result)
+      → counted t (place k) seen (times n k ++ ks) ≡ result
+  unfolding counted times
+  counted-same zero seen t e next = rw (add-zero seen, e) at (next (place k) seen (le-refl (place k)))
+  counted-same (suc n) seen t e next =
+      let m : seen + 1 + n ≡ seen + suc n = omega arith in
+      one-more n (place k) seen (seen + 1) t (rw (eq-eqb (place k) (place k) refl))
+      ∙ (counted-same n (seen + 1) (set t (place k) (seen + 1)) (set-set t (place k) (seen + 1) (seen + 1))
+      (λ l s h. rw (set-set t (place k) (seen + 1) (seen + 1 + n), m) (next l s h)))
+
+  counted-run : (n last seen : ℕ) (t : List ℕ) → last < place k → set t (place k) 0 ≡ t → ((l s : ℕ) → l ≤ place k → counted (set t (place k) n) l s ks ≡ result)
+      → counted t last seen (times n k ++ ks) ≡ result
+  unfolding counted times
+  counted-run zero last seen t h e next = rw e at (next last seen (omega arith))
+  counted-run (suc n) last seen t h e next =
+      let m : 1 + n ≡ suc n = omega arith in
+      one-more n last seen 1 t (rw (ne-eqb (place k) last (λ q. omega arith)))
+      ∙ (counted-same n 1 (set t (place k) 1) (set-set t (place k) 1 1) (λ l s h. rw (set-set t (place k) 1 (1 + n), m) (next l s h)))
+
+-- the counts of a whole text
+module _ (a b c d : ℕ) (r : List ℕ) where
+  done : List ℕ
+  done = 0 ∷ 1 ∷ 1 ∷ a ∷ b ∷ c ∷ d ∷ 1 ∷ r
+
+  verdicts-counted : (l s : ℕ) → l ≤ 6 → counted (0 ∷ 1 ∷ 1 ∷ a ∷ b ∷ c ∷ d ∷ 0 ∷ r) l s (Verdicts ∷ []) ≡ done
+  unfolding counted done
+  verdicts-counted l s h = rw (ne-eqb 7 l (λ e. omega arith))
+
+  witnesses-counted : (l s : ℕ) → l ≤ 5 → counted (0 ∷ 1 ∷ 1 ∷ a ∷ b ∷ c ∷ 0 ∷ 0 ∷ r) l s (times d Witness ++ (Verdicts ∷ [])) ≡ done
+  witnesses-counted l s h = counted-run Witness (Verdicts ∷ []) done d l s (0 ∷ 1 ∷ 1 ∷ a ∷ b ∷ c ∷ 0 ∷ 0 ∷ r) (omega arith) refl verdicts-counted
+
+  deps-counted : (l s : ℕ) → l ≤ 4 → counted (0 ∷ 1 ∷ 1 ∷ a ∷ b ∷ 0 ∷ 0 ∷ 0 ∷ r) l s (times c Dep ++ (times d Witness ++ (Verdicts ∷ []))) ≡ done
+  deps-counted l s h = counted-run Dep _ done c l s (0 ∷ 1 ∷ 1 ∷ a ∷ b ∷ 0 ∷ 0 ∷ 0 ∷ r) (omega arith) refl witnesses-counted
+
+  outputs-counted : (l s : ℕ) → l ≤ 3
+      → counted (0 ∷ 1 ∷ 1 ∷ a ∷ 0 ∷ 0 ∷ 0 ∷ 0 ∷ r) l s (times b Output ++ (times c Dep ++ (times d Witness ++ (Verdicts ∷ [])))) ≡ done
+  outputs-counted l s h = counted-run Output _ done b l s (0 ∷ 1 ∷ 1 ∷ a ∷ 0 ∷ 0 ∷ 0 ∷ 0 ∷ r) (omega arith) refl deps-counted
+
+  body-counted : counted (0 ∷ 1 ∷ 1 ∷ 0 ∷ 0 ∷ 0 ∷ 0 ∷ 0 ∷ r) 2 1 (bodyKinds a b c d) ≡ done
+  body-counted =
+      rw (body-right a b c d) (counted-run Input _ done a 2 1 (0 ∷ 1 ∷ 1 ∷ 0 ∷ 0 ∷ 0 ∷ 0 ∷ 0 ∷ r) (omega arith) refl outputs-counted)
+
+  kinds-counted : counted (0 ∷ 0 ∷ 0 ∷ 0 ∷ 0 ∷ 0 ∷ 0 ∷ 0 ∷ r) 0 0 (kindsOf a b c d) ≡ done
+  unfolding counted kindsOf bodyKinds
+  kinds-counted = body-counted
+
+-- on a table of m zeros
+eight-zeros : (m : ℕ) → 8 ≤ m → replicate {A = ℕ} m 0 ≡ 0 ∷ 0 ∷ 0 ∷ 0 ∷ 0 ∷ 0 ∷ 0 ∷ 0 ∷ replicate (m - 8) 0
+eight-zeros m h =
+    let e : m ≡ suc (suc (suc (suc (suc (suc (suc (suc (m - 8)))))))) = omega arith in
+    ap (λ (n : ℕ). replicate {A = ℕ} n 0) e
+
+pub counts-set : (m a b c d : ℕ) → 8 ≤ m
+    → counted (replicate m 0) 0 0 (kindsOf a b c d) ≡ sets (replicate m 0) 0 (0 ∷ 1 ∷ 1 ∷ a ∷ b ∷ c ∷ d ∷ 1 ∷ [])
+unfolding done
+counts-set m a b c d h = rw (eight-zeros m h) (kinds-counted a b c d (replicate (m - 8) 0))

@@ -1,0 +1,124 @@
+-- An accepted text leaves the store and the table of the scene that it says.
+-- Assumes nothing.
+use Prim.Native.Nat.{ℕ, zero, suc, _+_, _-_, _≤_}
+use mathlib.Core.Path.{_≡_, refl, sym, ap, _∙_}
+use mathlib.Core.List.{List, [], _∷_, _++_, map}
+use native.Mathlib.Nat.{sub-zero, zero-sub, suc-sub-suc}
+use native.Mathlib.Omega.{arith}
+use lib.ListN.{length, drop, set, replicate, length-replicate}
+use lib.Seq.{sets}
+use Rattle.octets.specs.Lists.{joined}
+use Rattle.octets.proofs.Stores.{sets-append, sets-front}
+use Rattle.scene_text.specs.Text.{pieces}
+use Rattle.scene_line.specs.declared.kind.Kind.{Kind}
+use Rattle.scene_line.specs.Kind.{place, firstForm}
+use Rattle.scene_line.specs.Line.{lineNumbers}
+use Rattle.scene_reader.specs.Reader.{Held, held, seenWith, put, run, start}
+use Rattle.scene_table.specs.Scene.{rowsFrom, sceneBytes, sceneNumbers, padded, storeOf, tableOf}
+use Rattle.scene_reading.specs.Lines.{Passes, kindOfLine, fieldsOfLine, bytesOfLine}
+use Rattle.scene_reading.specs.Reading.{readingOf}
+use Rattle.scene_reading.proofs.Run.{putLine, putLines, held-same}
+use Rattle.scene_reading.proofs.Accepts.{passes-run}
+use Rattle.scene_reading.proofs.LineRows.{putOf, rowOf}
+use Rattle.scene_reading.proofs.Says.{Says, says, says-bytes}
+use Rattle.scene_reading.proofs.CountLaws.{counted, counted-behind, counts-set}
+
+-- ---- what the lines put down, one behind another
+
+module _ (h : Held) (l : List ℕ) where
+  store-line : (bs : List ℕ) → sets (putLine h l .store) (putLine h l .used) bs ≡ sets (h .store) (h .used) (bytesOfLine l ++ bs)
+  unfolding putLine put bytesOfLine
+  store-line bs = sets-append (h .store) (h .used) (bytesOfLine l) bs _ refl
+
+  table-line : (ks : List Kind) (rs : List ℕ) → 8 ≤ h .filled
+      → sets (counted (putLine h l .table) (putLine h l .last) (putLine h l .seen) ks) (putLine h l .filled) rs
+      ≡ sets (counted (h .table) (h .last) (h .seen) (kindOfLine l ∷ ks)) (h .filled) ((h .used ∷ rowOf l .numbers) ++ rs)
+  unfolding putLine put counted rowOf putOf
+  table-line ks rs e =
+      let k = kindOfLine l in
+      let s = seenWith (h .last) (h .seen) (place k) in
+      let t = set (h .table) (place k) s in
+      let v = h .used ∷ lineNumbers (firstForm k) (fieldsOfLine l) in
+      ap (λ (x : List ℕ). sets x (h .filled + 1 + length (lineNumbers (firstForm k) (fieldsOfLine l))) rs) (counted-behind ks t (place k) s (h .filled) v e)
+      ∙ sets-append (counted t (place k) s ks) (h .filled) v rs _ (omega arith)
+
+  behind-counts : 8 ≤ h .filled → 8 ≤ putLine h l .filled
+  unfolding putLine put
+  behind-counts e = omega arith
+
+store-lines : (ls : List (List ℕ)) (h : Held) → putLines h ls .store ≡ sets (h .store) (h .used) (joined (map bytesOfLine ls))
+unfolding putLines joined
+store-lines [] h = refl
+store-lines (l ∷ ls) h = store-lines ls (putLine h l) ∙ store-line h l (joined (map bytesOfLine ls))
+
+used-line : (h : Held) (l : List ℕ) → putLine h l .used ≡ h .used + length (rowOf l .bytes)
+unfolding putLine put rowOf putOf
+used-line h l = refl
+
+table-lines : (ls : List (List ℕ)) (h : Held) → 8 ≤ h .filled
+    → putLines h ls .table ≡ sets (counted (h .table) (h .last) (h .seen) (map kindOfLine ls)) (h .filled) (rowsFrom (h .used) (map rowOf ls))
+unfolding putLines counted rowsFrom
+table-lines [] h e = refl
+table-lines (l ∷ ls) h e =
+    table-lines ls (putLine h l) (behind-counts h l e)
+    ∙ (table-line h l (map kindOfLine ls) (rowsFrom (putLine h l .used) (map rowOf ls)) e ∙ rw (used-line h l))
+
+-- ---- zeros behind
+
+drop-zeros : (k n : ℕ) → drop k (replicate {A = ℕ} n 0) ≡ replicate (n - k) 0
+drop-zeros zero n = rw (sub-zero n)
+drop-zeros (suc k) zero = rw (zero-sub (suc k))
+drop-zeros (suc k) (suc n) = rw (suc-sub-suc n k) (drop-zeros k n)
+
+front-padded : (xs : List ℕ) (n : ℕ) → length xs ≤ n → sets (replicate n 0) 0 xs ≡ padded n xs
+unfolding padded
+front-padded xs n h = sets-front (replicate n 0) xs (rw (length-replicate {A = ℕ} n 0) h) ∙ rw (drop-zeros (length xs) n)
+
+-- ---- a whole text
+
+module _ (text : List ℕ) (n : ℕ) (p : Passes text n) where
+  said-by : Says (p .lines) (p .inputs) (p .outputs) (p .deps) (p .witnesses)
+  said-by = says (p .lines) (p .inputs) (p .outputs) (p .deps) (p .witnesses) (p .ordered) (p .counted)
+
+  bytes-said : joined (map bytesOfLine (p .lines)) ≡ sceneBytes (readingOf (p .lines))
+  bytes-said = says-bytes (p .lines) (p .inputs) (p .outputs) (p .deps) (p .witnesses) said-by
+
+  counts : List ℕ
+  counts = 0 ∷ 1 ∷ 1 ∷ p .inputs ∷ p .outputs ∷ p .deps ∷ p .witnesses ∷ 1 ∷ []
+
+  numbers-said : counts ++ rowsFrom 0 (map rowOf (p .lines)) ≡ sceneNumbers (readingOf (p .lines))
+  unfolding sceneNumbers counts
+  numbers-said = rw (said-by .counts, said-by .rows)
+
+  -- the store holds the scene's bytes
+  pub bytes-fit : length (sceneBytes (readingOf (p .lines))) ≤ n
+  bytes-fit = rw bytes-said at (p .room)
+
+  module _ (m : ℕ) where
+    store-left : putLines (start n m) (p .lines) .store ≡ storeOf (readingOf (p .lines)) n
+    unfolding start storeOf
+    store-left = store-lines (p .lines) (start n m) ∙ rw bytes-said (front-padded (sceneBytes (readingOf (p .lines))) n bytes-fit)
+
+    counts-left : 8 ≤ m → counted (replicate m 0) 0 0 (map kindOfLine (p .lines)) ≡ sets (replicate m 0) 0 counts
+    unfolding counts
+    counts-left h = rw (p .ordered) (counts-set m (p .inputs) (p .outputs) (p .deps) (p .witnesses) h)
+
+    counts-room : length (sceneNumbers (readingOf (p .lines))) ≤ m → 8 ≤ m
+    unfolding counts
+    counts-room h = let e = ap length numbers-said in omega arith
+
+    table-left : length (sceneNumbers (readingOf (p .lines))) ≤ m → putLines (start n m) (p .lines) .table ≡ tableOf (readingOf (p .lines)) m
+    unfolding start tableOf counts
+    table-left h =
+        table-lines (p .lines) (start n m) (omega arith)
+        ∙ (ap (λ (t : List ℕ). sets t 8 (rowsFrom 0 (map rowOf (p .lines)))) (counts-left (counts-room h))
+        ∙ (sets-append (replicate m 0) 0 counts (rowsFrom 0 (map rowOf (p .lines))) 8 refl
+        ∙ rw numbers-said (front-padded (sceneNumbers (readingOf (p .lines))) m h)))
+
+    -- what the run holds at the end
+    pub passes-leaves : (g : Held) → run (start n m) (pieces 10 text) ≡ held g
+        → (g .store ≡ storeOf (readingOf (p .lines)) n)
+        × (length (sceneNumbers (readingOf (p .lines))) ≤ m → g .table ≡ tableOf (readingOf (p .lines)) m)
+    passes-leaves g e =
+        let same : g ≡ putLines (start n m) (p .lines) = held-same g _ (sym e ∙ passes-run text n m p) in
+        (rw same store-left, λ h. rw same (table-left h))

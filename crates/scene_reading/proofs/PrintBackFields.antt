@@ -1,0 +1,139 @@
+-- Fields that have their forms are the print of what they say.
+-- Assumes nothing.
+use Prim.Native.Nat.{ℕ, zero, suc, _+_, _*_, _^_}
+use mathlib.Core.Path.{_≡_, refl, sym, ap, _∙_}
+use mathlib.Core.Bool.{Bool, true, false, cond, _&&_, _||_}
+use mathlib.Core.List.{List, [], _∷_}
+use native.Mathlib.Omega.{arith}
+use borrow.Author.Tests.{ltb-true, eqb-true, eq-eqb, ne-eqb, lt-ltb}
+use lib.ListN.{length, getD}
+use lib.Dec.{ltb, eqb}
+use Rattle.scene_text.specs.Text.{all, between, hexOk, hexVal, hexBytes, sinceOf}
+use Rattle.scene_line.specs.declared.form.Form.the-variants.{Group, TypeHash}
+use Rattle.scene_line.specs.Line.{formsOk, isNumber}
+use Rattle.scene_table.specs.Valid.{every, bytesOk, hashOk, cellOk, inputOk}
+use Rattle.scene_reading.specs.Print.{hexText, digitsText, cellFields, inputFields}
+use Rattle.scene_reading.specs.Reading.{cellOf, inputOf, fieldAt, numberIn}
+use Rattle.scene_reading.proofs.PrintLists.{and-left, and-right}
+use Rattle.scene_reading.proofs.PrintDigits.{hex-length}
+use Rattle.scene_reading.proofs.PrintBackDigits.{Hexes, hex-print, since-print, Digits, digits-print}
+
+-- the fields of a line by their places
+unfoldable pub fieldsFrom : (ℕ → List ℕ) → ℕ → List (List ℕ)
+fieldsFrom f zero = []
+fieldsFrom f (suc n) = f 0 ∷ fieldsFrom (λ (i : ℕ). f (suc i)) n
+
+pub fields-from : (fs : List (List ℕ)) (n : ℕ) → length fs ≡ n → fs ≡ fieldsFrom (fieldAt fs) n
+unfolding fieldsFrom fieldAt
+fields-from [] zero e = refl
+fields-from [] (suc n) e = absurd (omega arith)
+fields-from (f ∷ fs) zero e = absurd (omega arith)
+fields-from (f ∷ fs) (suc n) e = ap (λ (r : List (List ℕ)). f ∷ r) (fields-from fs n (omega arith))
+
+hexes-length : (f : List ℕ) → Hexes f → length f ≡ 2 * length (hexBytes f)
+hexes-length f h = ap length (sym (h .text)) ∙ hex-length (hexBytes f)
+
+-- a hash
+pub record Hash (f : List ℕ) : Type 0 where
+  pub ok : hashOk (hexBytes f) ≡ true
+  pub text : hexText (hexBytes f) ≡ f
+
+pub hash-print : (f : List ℕ) → (eqb (length f) 64 && hexOk f) ≡ true → Hash f
+unfolding hashOk
+hash-print f h =
+    let x = hex-print f (and-right (eqb (length f) 64) (hexOk f) h) in
+    let n = eqb-true (length f) 64 (and-left (eqb (length f) 64) (hexOk f) h) in
+    let m = hexes-length f x in
+    record { ok = rw (eq-eqb (length (hexBytes f)) 32 (omega arith)) (x .bytes); text = x .text }
+
+-- a type hash a and a type script c
+record TypePair (a c : List ℕ) : Type 0 where
+  ok : cond (eqb (length (hexBytes c)) 0) (eqb (length (hexBytes a)) 0) (hashOk (hexBytes a)) ≡ true
+  hash : hexText (hexBytes a) ≡ a
+  script : Hexes c
+
+no-hexes : (f : List ℕ) → length f ≡ 0 → Hexes f
+unfolding hexBytes hexText bytesOk every
+no-hexes [] e = record { bytes = refl; text = refl }
+no-hexes (x ∷ f) e = absurd (omega arith)
+
+type-print : (a c : List ℕ) (b : Bool) → eqb (length a) 0 ≡ b → (b || (eqb (length a) 64 && hexOk a)) ≡ true
+    → cond b (eqb (length c) 0) (ltb 0 (length c) && hexOk c) ≡ true → TypePair a c
+type-print a c true e h k =
+    let x = no-hexes a (eqb-true (length a) 0 e) in
+    let y = no-hexes c (eqb-true (length c) 0 k) in
+    let l = eqb-true (length a) 0 e in
+    let m = eqb-true (length c) 0 k in
+    let xl = hexes-length a x in
+    let yl = hexes-length c y in
+    record { ok = rw (eq-eqb (length (hexBytes c)) 0 (omega arith), eq-eqb (length (hexBytes a)) 0 (omega arith)); hash = x .text; script = y }
+type-print a c false e h k =
+    let x = hash-print a h in
+    let y = hex-print c (and-right (ltb 0 (length c)) (hexOk c) k) in
+    let m = ltb-true 0 (length c) (and-left (ltb 0 (length c)) (hexOk c) k) in
+    let yl = hexes-length c y in
+    let some : length (hexBytes c) ≡ 0 → ⊥ = λ z. omega arith in
+    record { ok = rw (ne-eqb (length (hexBytes c)) 0 some, x .ok); hash = x .text; script = y }
+
+-- a cell
+pub record CellPrint (fs : List (List ℕ)) : Type 0 where
+  pub ok : cellOk (cellOf fs 0) ≡ true
+  pub text : cellFields (cellOf fs 0) ≡ fs
+
+four-print : (a b c d : List ℕ) → formsOk true TypeHash (a ∷ b ∷ c ∷ d ∷ []) ≡ true → CellPrint (a ∷ b ∷ c ∷ d ∷ [])
+unfolding formsOk cellOk cellFields cellOf fieldAt
+four-print a b c d h =
+    let e = eqb (length a) 0 in
+    let fa = e || (eqb (length a) 64 && hexOk a) in
+    let fb = eqb (length b) 64 && hexOk b in
+    let fc = cond e (eqb (length c) 0) (ltb 0 (length c) && hexOk c) in
+    let h₁ = and-right fa (fb && (fc && (hexOk d && true))) h in
+    let h₂ = and-right fb (fc && (hexOk d && true)) h₁ in
+    let h₃ = and-right fc (hexOk d && true) h₂ in
+    let t = type-print a c e refl (and-left fa (fb && (fc && (hexOk d && true))) h) (and-left fc (hexOk d && true) h₂) in
+    let hash = hash-print b (and-left fb (fc && (hexOk d && true)) h₁) in
+    let content = hex-print d (and-left (hexOk d) true h₃) in
+    record {
+      ok = rw (t .ok, hash .ok, t .script .bytes, content .bytes);
+      text = rw (t .hash, hash .text, t .script .text, content .text);
+    }
+
+pub cell-print : (fs : List (List ℕ)) → length fs ≡ 4 → formsOk true TypeHash fs ≡ true → CellPrint fs
+unfolding fieldsFrom
+cell-print fs n h =
+    let e = fields-from fs 4 n in
+    rw e (four-print (fieldAt fs 0) (fieldAt fs 1) (fieldAt fs 2) (fieldAt fs 3) (rw e at h))
+
+-- an input: its group, its since and its cell
+pub record InputPrint (fs : List (List ℕ)) : Type 0 where
+  pub ok : inputOk (inputOf fs) ≡ true
+  pub text : inputFields (inputOf fs) ≡ fs
+
+one-digit : (g : List ℕ) → length g ≡ 1 → g ≡ getD g 0 0 ∷ []
+one-digit [] e = absurd (omega arith)
+one-digit (x ∷ []) e = refl
+one-digit (x ∷ y ∷ g) e = absurd (omega arith)
+
+group-print : (g : List ℕ) → (eqb (length g) 1 && all (between 48 49) g) ≡ true → (ltb (hexVal (getD g 0 0)) 2 ≡ true) × ((48 + hexVal (getD g 0 0)) ∷ [] ≡ g)
+unfolding every digitsText
+group-print g h =
+    let e = one-digit g (eqb-true (length g) 1 (and-left (eqb (length g) 1) (all (between 48 49) g) h)) in
+    let d : Digits 2 (getD g 0 0 ∷ []) = digits-print 2 (omega arith) (getD g 0 0 ∷ []) (rw e at (and-right (eqb (length g) 1) (all (between 48 49) g) h)) in
+    (and-left (ltb (hexVal (getD g 0 0)) 2) true (d .each), d .text ∙ sym e)
+
+pub input-print : (fs : List (List ℕ)) → length fs ≡ 6 → formsOk true Group fs ≡ true → InputPrint fs
+unfolding formsOk inputOk inputFields inputOf cellOf fieldAt
+input-print [] n h = absurd (omega arith)
+input-print (g ∷ []) n h = absurd (omega arith)
+input-print (g ∷ t ∷ fs) n h =
+    let fg = eqb (length g) 1 && all (between 48 49) g in
+    let ft = isNumber (sinceOf t) in
+    let rest = formsOk true TypeHash fs in
+    let h₁ = and-right fg (ft && rest) h in
+    let group = group-print g (and-left fg (ft && rest) h) in
+    let since = since-print t (and-left ft rest h₁) in
+    let cell = cell-print fs (omega arith) (and-right ft rest h₁) in
+    record {
+      ok = rw (group .0, lt-ltb (numberIn (sinceOf t)) (2 ^ 64) (since .fits)) (cell .ok);
+      text = rw (group .1, since .text) (ap (λ (r : List (List ℕ)). g ∷ t ∷ r) (cell .text));
+    }

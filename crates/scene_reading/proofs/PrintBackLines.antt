@@ -1,0 +1,202 @@
+-- A line that no row refuses is the print of what it says.
+-- Assumes nothing.
+use Prim.Native.Nat.{ℕ}
+use mathlib.Core.Path.{_≡_, refl, sym, ap, ap₂, _∙_}
+use mathlib.Core.Bool.{Bool, true, false, cond, _&&_}
+use mathlib.Core.List.{List, [], _∷_, _++_, map}
+use native.Mathlib.Omega.{arith}
+use borrow.Author.Tests.{eqb-true}
+use lib.ListN.{length, length-map}
+use lib.Dec.{eqb, leb}
+use Rattle.octets.specs.Lists.{same}
+use Rattle.octets.proofs.Same.{same-eq}
+use Rattle.scene_text.specs.Text.{all, between, before, pieces, hexOk, hexVal, hexBytes}
+use Rattle.scene_line.specs.declared.kind.Kind.{Kind}
+use Rattle.scene_line.specs.declared.kind.Kind.the-variants as kind
+use Rattle.scene_line.specs.declared.form.Form.the-variants.{TypeHash, Hex}
+use Rattle.scene_line.specs.Kind.{kindOf, fieldCount, firstForm, fieldsOf, script, tx, input, output, dep, witness, verdicts}
+use Rattle.scene_line.specs.Line.{formsOk}
+use Rattle.scene_table.specs.Scene.{Input}
+use Rattle.scene_table.specs.Valid.{bytesOk, hashOk, cellOk, inputOk, digitsOk}
+use Rattle.scene_reading.specs.Lines.{wordOf, kindOfLine, fieldsOfLine, countOk, formOk}
+use Rattle.scene_reading.specs.Print.{commaed, lineText, digitsText, cellFields, inputFields, inputText, cellText, bytesText, endedLines}
+use Rattle.scene_reading.specs.Reading.{cellOf, inputOf, fieldAt}
+use Rattle.scene_reading.proofs.PrintLists.{and-left, and-right}
+use Rattle.scene_reading.proofs.PrintPieces.{before-none}
+use Rattle.scene_reading.proofs.PrintBackDigits.{hex-print, digits-print}
+use Rattle.scene_reading.proofs.PrintBackFields.{fieldsFrom, fields-from, hash-print, cell-print, input-print}
+
+-- pieces with c before each
+parted : ℕ → List (List ℕ) → List ℕ
+parted c [] = []
+parted c (p ∷ ps) = c ∷ (p ++ parted c ps)
+
+-- pieces joined again, with c between them
+rejoined : ℕ → List (List ℕ) → List ℕ
+rejoined c [] = []
+rejoined c (p ∷ ps) = p ++ parted c ps
+
+no-pieces : {A : Type 0} → [] ≡ before [] [] → A
+unfolding before
+no-pieces e = absurd (let z : _≡_ {A = ℕ} 0 1 = ap length e in omega arith)
+
+pieces-rejoined : (c : ℕ) (s : List ℕ) → rejoined c (pieces c s) ≡ s
+unfolding rejoined parted pieces before
+pieces-rejoined c [] = refl
+pieces-rejoined c (x ∷ s) = go (eqb x c) refl (pieces c s) (before-none c s) (pieces-rejoined c s)
+  where
+    go : (b : Bool) → eqb x c ≡ b → (ps : List (List ℕ)) → ps ≡ before [] ps → rejoined c ps ≡ s → rejoined c (cond b ([] ∷ ps) (before (x ∷ []) ps)) ≡ x ∷ s
+    go b e [] n h = no-pieces n
+    go true e (p ∷ ps) n h = ap₂ (λ (y : ℕ) (l : List ℕ). y ∷ l) (sym (eqb-true x c e)) h
+    go false e (p ∷ ps) n h = ap (λ (l : List ℕ). x ∷ l) h
+
+-- lines with their endings
+ended-parted : (ls : List (List ℕ)) → parted 10 (ls ++ ([] ∷ [])) ≡ 10 ∷ endedLines ls
+unfolding parted endedLines
+ended-parted [] = refl
+ended-parted (l ∷ ls) = rw (ended-parted ls)
+
+pub text-back : (text : List ℕ) (ls : List (List ℕ)) → pieces 10 text ≡ ls ++ ([] ∷ []) → endedLines ls ≡ text
+unfolding rejoined endedLines parted
+text-back text ls e = go ls ∙ (ap (rejoined 10) (sym e) ∙ pieces-rejoined 10 text)
+  where
+    go : (ls : List (List ℕ)) → endedLines ls ≡ rejoined 10 (ls ++ ([] ∷ []))
+    go [] = refl
+    go (l ∷ ls) = rw (ended-parted ls)
+
+-- a line's word and fields
+commaed-parted : (fs : List (List ℕ)) → commaed fs ≡ parted 44 fs
+unfolding commaed parted
+commaed-parted [] = refl
+commaed-parted (f ∷ fs) = rw (commaed-parted fs)
+
+line-rejoined : (ps : List (List ℕ)) → lineText (wordOf ps) (fieldsOf ps) ≡ rejoined 44 ps
+unfolding lineText wordOf fieldsOf rejoined commaed
+line-rejoined [] = refl
+line-rejoined (w ∷ fs) = rw (commaed-parted fs)
+
+-- the word of each kind
+Named : List ℕ → Kind → Type 0
+Named w kind.Script = w ≡ script
+Named w kind.Tx = w ≡ tx
+Named w kind.Input = w ≡ input
+Named w kind.Output = w ≡ output
+Named w kind.Dep = w ≡ dep
+Named w kind.Witness = w ≡ witness
+Named w kind.Verdicts = w ≡ verdicts
+Named w kind.Unknown = Unit {0}
+
+module _ (w : List ℕ) where
+  pick : (b : Bool) (k other : Kind) → (b ≡ true → Named w k) → Named w other → Named w (cond b k other)
+  pick true k other h o = h refl
+  pick false k other h o = o
+
+  kind-named : Named w (kindOf w)
+  unfolding kindOf Named
+  kind-named =
+      pick (same w script) kind.Script _ (same-eq w script)
+      (pick (same w tx) kind.Tx _ (same-eq w tx)
+      (pick (same w input) kind.Input _ (same-eq w input)
+      (pick (same w output) kind.Output _ (same-eq w output)
+      (pick (same w dep) kind.Dep _ (same-eq w dep)
+      (pick (same w witness) kind.Witness _ (same-eq w witness) (pick (same w verdicts) kind.Verdicts kind.Unknown (same-eq w verdicts) tt))))))
+
+-- what a line l is the print of
+pub record PrintOf {A : Type 0} (ok : A → Bool) (text : A → List ℕ) (l : List ℕ) : Type 0 where
+  pub value : A
+  pub fits : ok value ≡ true
+  pub print : text value ≡ l
+
+-- a line of kind k that no row refuses
+pub record LinePasses (l : List ℕ) (k : Kind) : Type 0 where
+  pub is : kindOfLine l ≡ k
+  pub counted : countOk l ≡ true
+  pub formed : formOk l ≡ true
+
+module _ (l : List ℕ) (k : Kind) (p : LinePasses l k) where
+  named : Named (wordOf (pieces 44 l)) k
+  unfolding kindOfLine
+  named = rw (p .is) at (kind-named (wordOf (pieces 44 l)))
+
+  field-count : length (fieldsOfLine l) ≡ fieldCount k
+  unfolding countOk
+  field-count = eqb-true (length (fieldsOfLine l)) (fieldCount k) (rw (p .is) at (p .counted))
+
+  field-forms : formsOk true (firstForm k) (fieldsOfLine l) ≡ true
+  unfolding formOk
+  field-forms = rw (p .is) at (p .formed)
+
+  line-whole : (word : List ℕ) (fs : List (List ℕ)) → wordOf (pieces 44 l) ≡ word → fs ≡ fieldsOfLine l → lineText word fs ≡ l
+  unfolding fieldsOfLine
+  line-whole word fs w e = rw (← w, e) (line-rejoined (pieces 44 l) ∙ pieces-rejoined 44 l)
+
+  one-field : fieldCount k ≡ 1 → fieldsOfLine l ≡ fieldAt (fieldsOfLine l) 0 ∷ []
+  unfolding fieldsFrom
+  one-field e = fields-from (fieldsOfLine l) 1 (field-count ∙ e)
+
+  bytes-line : (word : List ℕ) → wordOf (pieces 44 l) ≡ word → fieldCount k ≡ 1 → firstForm k ≡ Hex → PrintOf bytesOk (bytesText word) l
+  unfolding bytesText formsOk
+  bytes-line word w n f =
+      let e = one-field n in
+      let field = fieldAt (fieldsOfLine l) 0 in
+      let h : (hexOk field && true) ≡ true = rw (f, e) at field-forms in
+      let x = hex-print field (and-left (hexOk field) true h) in
+      record { value = hexBytes field; fits = x .bytes; print = rw (x .text) (line-whole word (field ∷ []) w (sym e)) }
+
+  cell-line : (word : List ℕ) → wordOf (pieces 44 l) ≡ word → fieldCount k ≡ 4 → firstForm k ≡ TypeHash → PrintOf cellOk (cellText word) l
+  unfolding cellText
+  cell-line word w n f =
+      let c = cell-print (fieldsOfLine l) (field-count ∙ n) (rw f at field-forms) in
+      record { value = cellOf (fieldsOfLine l) 0; fits = c .ok; print = line-whole word (cellFields (cellOf (fieldsOfLine l) 0)) w (c .text) }
+
+module _ (l : List ℕ) where
+  pub script-line : LinePasses l kind.Script → PrintOf bytesOk (bytesText script) l
+  unfolding Named
+  script-line p = bytes-line l kind.Script p script (named l kind.Script p) refl refl
+
+  pub tx-line : LinePasses l kind.Tx → PrintOf hashOk (bytesText tx) l
+  unfolding Named bytesText formsOk
+  tx-line p =
+      let e = one-field l kind.Tx p refl in
+      let field = fieldAt (fieldsOfLine l) 0 in
+      let h : (eqb (length field) 64 && hexOk field && true) ≡ true = rw e at (field-forms l kind.Tx p) in
+      let x = hash-print field (and-left (eqb (length field) 64 && hexOk field) true h) in
+      record { value = hexBytes field; fits = x .ok; print = rw (x .text) (line-whole l kind.Tx p tx (field ∷ []) (named l kind.Tx p) (sym e)) }
+
+  pub input-line : LinePasses l kind.Input → PrintOf inputOk inputText l
+  unfolding Named inputText
+  input-line p =
+      let i = input-print (fieldsOfLine l) (field-count l kind.Input p) (field-forms l kind.Input p) in
+      record {
+        value = inputOf (fieldsOfLine l);
+        fits = i .ok;
+        print = line-whole l kind.Input p input (inputFields (inputOf (fieldsOfLine l))) (named l kind.Input p) (i .text);
+      }
+
+  pub output-line : LinePasses l kind.Output → PrintOf cellOk (cellText output) l
+  unfolding Named
+  output-line p = cell-line l kind.Output p output (named l kind.Output p) refl refl
+
+  pub dep-line : LinePasses l kind.Dep → PrintOf cellOk (cellText dep) l
+  unfolding Named
+  dep-line p = cell-line l kind.Dep p dep (named l kind.Dep p) refl refl
+
+  pub witness-line : LinePasses l kind.Witness → PrintOf bytesOk (bytesText witness) l
+  unfolding Named
+  witness-line p = bytes-line l kind.Witness p witness (named l kind.Witness p) refl refl
+
+  pub verdicts-line : LinePasses l kind.Verdicts → PrintOf digitsOk (λ (ds : List ℕ). lineText verdicts (digitsText ds ∷ [])) l
+  unfolding Named formsOk digitsOk
+  verdicts-line p =
+      let e = one-field l kind.Verdicts p refl in
+      let field = fieldAt (fieldsOfLine l) 0 in
+      let few = leb (length field) 16 in
+      let digits = all (between 48 50) field in
+      let h : (few && digits && true) ≡ true = rw e at (field-forms l kind.Verdicts p) in
+      let h₁ = and-left (few && digits) true h in
+      let x = digits-print 3 (omega arith) field (and-right few digits h₁) in
+      record {
+        value = map hexVal field;
+        fits = rw (length-map field hexVal, and-left few digits h₁) (x .each);
+        print = rw (x .text) (line-whole l kind.Verdicts p verdicts (field ∷ []) (named l kind.Verdicts p) (sym e));
+      }

@@ -1,0 +1,163 @@
+-- The printed fields of a cell and of an input: each has its form, and they hold the bytes and numbers that were printed.
+-- Assumes nothing.
+use Prim.Native.Nat.{ℕ, _+_, _*_, _^_, _<_}
+use mathlib.Core.Path.{_≡_, refl, ap}
+use mathlib.Core.Bool.{Bool, true, false, cond, _&&_}
+use mathlib.Core.List.{List, [], _∷_, append-assoc, append-nil}
+use native.Mathlib.Omega.{arith}
+use borrow.Author.Tests.{ltb-true, eqb-true, eqb-false, lt-ltb}
+use lib.ListN.{length, getD}
+use lib.Dec.{ltb, leb, eqb}
+use Rattle.scene_text.specs.Text.{all, hexOk, hexVal}
+use Rattle.scene_line.specs.declared.form.Form.the-variants.{Group, TypeHash}
+use Rattle.scene_line.specs.Line.{formsOk, fieldBytes, lineBytes}
+use Rattle.scene_table.specs.Scene.{Cell, Input, cellBytes}
+use Rattle.scene_table.specs.Valid.{every, bytesOk, hashOk, cellOk, inputOk}
+use Rattle.scene_reading.specs.Print.{hexText, digitsText, cellFields, inputFields}
+use Rattle.scene_reading.specs.Reading.{cellOf, inputOf, fieldAt, numberIn}
+use Rattle.scene_reading.proofs.PrintLists.{and-left, and-right}
+use Rattle.scene_reading.proofs.PrintDigits.{hex-back, hex-ok, hex-high, hex-length, decimal-back, decimal-high, digits-form, digits-high, digits-back}
+
+-- a hash
+pub record HashHolds (hash : List ℕ) : Type 0 where
+  pub long : length hash ≡ 32
+  pub bytes : bytesOk hash ≡ true
+
+pub hash-holds : (hash : List ℕ) → hashOk hash ≡ true → HashHolds hash
+unfolding hashOk
+hash-holds hash h = record { long = eqb-true (length hash) 32 (and-left (eqb (length hash) 32) (bytesOk hash) h); bytes = and-right (eqb (length hash) 32) (bytesOk hash) h }
+
+-- its text has 64 digits
+pub hash-form : (hash : List ℕ) → HashHolds hash → (eqb (length (hexText hash)) 64 && hexOk (hexText hash)) ≡ true
+hash-form hash h =
+    let e : 2 * length hash ≡ 64 = let l = h .long in omega arith in
+    rw (hex-length hash, e) (hex-ok hash (h .bytes))
+
+-- a cell's type hash by its type script
+pub data Typed (hash script : List ℕ) : Type 0 where
+  bare : length hash ≡ 0 → length script ≡ 0 → Typed hash script
+  typed : HashHolds hash → 0 < length script → Typed hash script
+
+pub record CellHolds (c : Cell) : Type 0 where
+  pub type : Typed (c .typeHash) (c .typeScript)
+  pub hash : HashHolds (c .dataHash)
+  pub script : bytesOk (c .typeScript) ≡ true
+  pub content : bytesOk (c .content) ≡ true
+
+type-holds : (hash script : List ℕ) (b : Bool) → eqb (length script) 0 ≡ b → cond b (eqb (length hash) 0) (hashOk hash) ≡ true → Typed hash script
+type-holds hash script true e h = bare (eqb-true (length hash) 0 h) (eqb-true (length script) 0 e)
+type-holds hash script false e h = typed (hash-holds hash h) (let z : length script ≡ 0 → ⊥ = eqb-false (length script) 0 e in omega arith)
+
+pub cell-holds : (c : Cell) → cellOk c ≡ true → CellHolds c
+unfolding cellOk
+cell-holds c h =
+    let t = cond (eqb (length (c .typeScript)) 0) (eqb (length (c .typeHash)) 0) (hashOk (c .typeHash)) in
+    let b = bytesOk (c .typeScript) && bytesOk (c .content) in
+    let h₁ = and-right t (hashOk (c .dataHash) && b) h in
+    let h₂ = and-right (hashOk (c .dataHash)) b h₁ in
+    record {
+      type = type-holds (c .typeHash) (c .typeScript) (eqb (length (c .typeScript)) 0) refl (and-left t (hashOk (c .dataHash) && b) h);
+      hash = hash-holds (c .dataHash) (and-left (hashOk (c .dataHash)) b h₁);
+      script = and-left (bytesOk (c .typeScript)) (bytesOk (c .content)) h₂;
+      content = and-right (bytesOk (c .typeScript)) (bytesOk (c .content)) h₂;
+    }
+
+no-bytes : (bs : List ℕ) → length bs ≡ 0 → bytesOk bs ≡ true
+unfolding bytesOk every
+no-bytes [] e = refl
+no-bytes (b ∷ bs) e = absurd (omega arith)
+
+type-bytes : (hash script : List ℕ) → Typed hash script → bytesOk hash ≡ true
+type-bytes hash script (bare e s) = no-bytes hash e
+type-bytes hash script (typed h s) = h .bytes
+
+module _ (c : Cell) (h : CellHolds c) where
+  hash-bytes : bytesOk (c .typeHash) ≡ true
+  hash-bytes = type-bytes (c .typeHash) (c .typeScript) (h .type)
+
+  pub cell-high : every (all (leb 48)) (cellFields c) ≡ true
+  unfolding cellFields every
+  cell-high =
+      rw (
+        hex-high (c .typeHash) hash-bytes,
+        hex-high (c .dataHash) (h .hash .bytes),
+        hex-high (c .typeScript) (h .script),
+        hex-high (c .content) (h .content),
+      )
+
+  cell-form-by : Typed (c .typeHash) (c .typeScript) → formsOk true TypeHash (cellFields c) ≡ true
+  unfolding cellFields formsOk
+  cell-form-by (bare e s) =
+      rw (hex-length (c .typeHash), e, hash-form (c .dataHash) (h .hash), hex-length (c .typeScript), s, hex-ok (c .content) (h .content))
+  cell-form-by (typed t s) =
+      let e : 2 * length (c .typeHash) ≡ 64 = let l = t .long in omega arith in
+      rw (
+        hex-length (c .typeHash),
+        e,
+        hex-ok (c .typeHash) hash-bytes,
+        hash-form (c .dataHash) (h .hash),
+        hex-length (c .typeScript),
+        lt-ltb 0 (2 * length (c .typeScript)) (omega arith),
+        hex-ok (c .typeScript) (h .script),
+        hex-ok (c .content) (h .content),
+      )
+
+  pub cell-form : formsOk true TypeHash (cellFields c) ≡ true
+  cell-form = cell-form-by (h .type)
+
+  pub cell-back : cellOf (cellFields c) 0 ≡ c
+  unfolding cellFields cellOf fieldAt
+  cell-back =
+      rw (
+        hex-back (c .typeHash) hash-bytes,
+        hex-back (c .dataHash) (h .hash .bytes),
+        hex-back (c .typeScript) (h .script),
+        hex-back (c .content) (h .content),
+      )
+
+  -- the line's bytes are those of the cell that its fields say
+  pub cell-bytes : lineBytes TypeHash (cellFields c) ≡ cellBytes c
+  unfolding cellFields lineBytes fieldBytes cellBytes cellOf fieldAt
+  cell-bytes =
+      let e : cellBytes (cellOf (cellFields c) 0) ≡ cellBytes c = ap cellBytes cell-back in
+      simp (append-nil, append-assoc) (simp append-assoc at e)
+
+pub record InputHolds (i : Input) : Type 0 where
+  pub group : every (λ (d : ℕ). ltb d 2) (i .group ∷ []) ≡ true
+  pub since : i .since < 2 ^ 64
+  pub cell : CellHolds (i .cell)
+
+pub input-holds : (i : Input) → inputOk i ≡ true → InputHolds i
+unfolding inputOk every
+input-holds i h =
+    let g = ltb (i .group) 2 in
+    let s = ltb (i .since) (2 ^ 64) in
+    let h₁ = and-right g (s && cellOk (i .cell)) h in
+    record {
+      group = rw (and-left g (s && cellOk (i .cell)) h);
+      since = ltb-true (i .since) (2 ^ 64) (and-left s (cellOk (i .cell)) h₁);
+      cell = cell-holds (i .cell) (and-right s (cellOk (i .cell)) h₁);
+    }
+
+module _ (i : Input) (h : InputHolds i) where
+  pub input-high : every (all (leb 48)) (inputFields i) ≡ true
+  unfolding inputFields every digitsText
+  input-high =
+      let e : all (leb 48) ((48 + i .group) ∷ []) ≡ true = digits-high 2 (omega arith) (i .group ∷ []) (h .group) in
+      rw (e, decimal-high 20 (i .since)) (cell-high (i .cell) (h .cell))
+
+  pub input-form : formsOk true Group (inputFields i) ≡ true
+  unfolding inputFields formsOk digitsText
+  input-form =
+      rw (digits-form 2 (omega arith) (i .group ∷ []) (h .group), decimal-back (i .since) (h .since)) (cell-form (i .cell) (h .cell))
+
+  pub input-bytes : lineBytes Group (inputFields i) ≡ cellBytes (i .cell)
+  unfolding inputFields lineBytes fieldBytes
+  input-bytes = cell-bytes (i .cell) (h .cell)
+
+  pub input-back : inputOf (inputFields i) ≡ i
+  unfolding inputFields inputOf cellOf fieldAt numberIn digitsText
+  input-back =
+      let g : hexVal (48 + i .group) ≡ i .group = ap (λ (ds : List ℕ). getD ds 0 0) (digits-back 2 (omega arith) (i .group ∷ []) (h .group)) in
+      let e : cellOf (cellFields (i .cell)) 0 ≡ i .cell = cell-back (i .cell) (h .cell) in
+      rw (g, decimal-back (i .since) (h .since), e)

@@ -1,0 +1,210 @@
+-- The printed lines of a scene: each has its kind, its fields and its bytes.
+-- Assumes nothing.
+use Prim.Native.Nat.{ℕ, _≤_, _<_}
+use mathlib.Core.Path.{_≡_, refl}
+use mathlib.Core.Bool.{Bool, true, not}
+use mathlib.Core.List.{List, [], _∷_, _++_, map, append-nil}
+use native.Mathlib.Omega.{arith}
+use borrow.Author.Tests.{leb-true, le-leb, ne-eqb}
+use lib.ListN.{length}
+use lib.Dec.{leb, ltb, eqb}
+use Rattle.octets.specs.Lists.{same}
+use Rattle.scene_text.specs.Text.{all}
+use Rattle.scene_line.specs.declared.form.Form.the-variants.{TypeHash, Hex}
+use Rattle.scene_line.specs.declared.kind.Kind.{Kind}
+use Rattle.scene_line.specs.declared.kind.Kind.the-variants as kind
+use Rattle.scene_line.specs.Kind.{kindOf, fieldCount, firstForm, fieldsOf, script, tx, input, output, dep, witness, verdicts}
+use Rattle.scene_line.specs.Line.{formsOk, fieldBytes, lineBytes}
+use Rattle.scene_table.specs.Scene.{Cell, Input, Line, bytesLine, hashLine, inputLine, cellLine, digitsLine}
+use Rattle.scene_table.specs.Valid.{every, bytesOk, digitsOk}
+use Rattle.scene_reading.specs.Lines.{wordOf, kindOfLine, fieldsOfLine, times, countOk, formOk, bytesOfLine}
+use Rattle.scene_reading.specs.Print.{commaed, lineText, hexText, digitsText, cellFields, inputFields, inputText, cellText, bytesText}
+use Rattle.scene_reading.proofs.PrintLists.{and-left, and-right, all-append, all-more}
+use Rattle.scene_reading.proofs.PrintPieces.{without, line-pieces}
+use Rattle.scene_reading.proofs.PrintDigits.{hex-back, hex-ok, hex-high, digits-form, digits-high, digits-length}
+use Rattle.scene_reading.proofs.PrintFields.{HashHolds, hash-form, CellHolds, cell-high, cell-form, cell-bytes, InputHolds, input-high, input-form, input-bytes}
+
+-- A text all of whose bytes are 48 or more holds no separator
+module _ (c : ℕ) (low : c < 48) where
+  pub high-without : (s : List ℕ) → all (leb 48) s ≡ true → without c s ≡ true
+  unfolding without
+  high-without s h =
+      all-more (leb 48) (λ (x : ℕ). not (eqb x c)) (λ x e. let l = leb-true 48 x e in let n : x ≡ c → ⊥ = λ q. omega arith in rw (ne-eqb x c n)) s h
+
+  fields-without : (fs : List (List ℕ)) → every (all (leb 48)) fs ≡ true → every (without c) fs ≡ true
+  unfolding every
+  fields-without [] h = refl
+  fields-without (f ∷ fs) h =
+      rw (high-without f (and-left (all (leb 48) f) (every (all (leb 48)) fs) h)) (fields-without fs (and-right (all (leb 48) f) (every (all (leb 48)) fs) h))
+
+line-without : (word : List ℕ) (fs : List (List ℕ)) → all (leb 48) word ≡ true → every (all (leb 48)) fs ≡ true → without 10 (lineText word fs) ≡ true
+unfolding lineText commaed every without all
+line-without word [] w h = rw append-nil (high-without 10 (omega arith) word w)
+line-without word (f ∷ fs) w h =
+    all-append (λ (x : ℕ). not (eqb x 10)) word (44 ∷ lineText f fs) (high-without 10 (omega arith) word w)
+    (line-without f fs (and-left (all (leb 48) f) (every (all (leb 48)) fs) h) (and-right (all (leb 48) f) (every (all (leb 48)) fs) h))
+
+-- what is known of the text l of a line of kind k with the fields fs
+pub record Says (l : List ℕ) (k : Kind) (fs : List (List ℕ)) : Type 0 where
+  pub ended : without 10 l ≡ true
+  pub kind : kindOfLine l ≡ k
+  pub fields : fieldsOfLine l ≡ fs
+
+-- the word of a kind of lines
+pub record Word (word : List ℕ) (k : Kind) : Type 0 where
+  pub names : kindOf word ≡ k
+  pub high : all (leb 48) word ≡ true
+
+pub script-word : Word script kind.Script
+unfolding kindOf same all
+script-word = record { names = refl; high = refl }
+
+pub tx-word : Word tx kind.Tx
+unfolding kindOf same all
+tx-word = record { names = refl; high = refl }
+
+pub input-word : Word input kind.Input
+unfolding kindOf same all
+input-word = record { names = refl; high = refl }
+
+pub output-word : Word output kind.Output
+unfolding kindOf same all
+output-word = record { names = refl; high = refl }
+
+pub dep-word : Word dep kind.Dep
+unfolding kindOf same all
+dep-word = record { names = refl; high = refl }
+
+pub witness-word : Word witness kind.Witness
+unfolding kindOf same all
+witness-word = record { names = refl; high = refl }
+
+pub verdicts-word : Word verdicts kind.Verdicts
+unfolding kindOf same all
+verdicts-word = record { names = refl; high = refl }
+
+line-says : (word : List ℕ) (k : Kind) (fs : List (List ℕ)) → Word word k → every (all (leb 48)) fs ≡ true → Says (lineText word fs) k fs
+unfolding kindOfLine fieldsOfLine wordOf fieldsOf
+line-says word k fs w h =
+    let e = line-pieces word fs (high-without 44 (omega arith) word (w .high)) (fields-without 44 (omega arith) fs h) in
+    record { ended = line-without word fs (w .high) h; kind = rw e (w .names); fields = rw e }
+
+-- and that no line row refuses it, and which bytes it holds
+pub record Prints (l : List ℕ) (k : Kind) (line : Line) : Type 0 where
+  pub fields : List (List ℕ)
+  pub says : Says l k fields
+  pub counted : eqb (length fields) (fieldCount k) ≡ true
+  pub formed : formsOk true (firstForm k) fields ≡ true
+  pub bytes : lineBytes (firstForm k) fields ≡ line .bytes
+
+-- lines of bytes and of cells
+module _ (word : List ℕ) (k : Kind) (w : Word word k) where
+  pub bytes-says : (bs : List ℕ) → bytesOk bs ≡ true → Says (bytesText word bs) k (hexText bs ∷ [])
+  unfolding bytesText every
+  bytes-says bs h = line-says word k (hexText bs ∷ []) w (rw (hex-high bs h))
+
+  pub cell-says : (c : Cell) → CellHolds c → Says (cellText word c) k (cellFields c)
+  unfolding cellText
+  cell-says c h = line-says word k (cellFields c) w (cell-high c h)
+
+  pub bytes-prints : firstForm k ≡ Hex → fieldCount k ≡ 1 → (bs : List ℕ) → bytesOk bs ≡ true → Prints (bytesText word bs) k (bytesLine bs)
+  unfolding bytesLine formsOk lineBytes fieldBytes
+  bytes-prints f n bs h =
+      record {
+        fields = hexText bs ∷ [];
+        says = bytes-says bs h;
+        counted = rw n;
+        formed = rw (f, hex-ok bs h);
+        bytes = rw (f, hex-back bs h, append-nil bs);
+      }
+
+  pub cell-prints : firstForm k ≡ TypeHash → fieldCount k ≡ 4 → (c : Cell) → CellHolds c → Prints (cellText word c) k (cellLine c)
+  unfolding cellLine cellFields
+  cell-prints f n c h =
+      record { fields = cellFields c; says = cell-says c h; counted = rw n; formed = rw f (cell-form c h); bytes = rw f (cell-bytes c h) }
+
+pub hash-prints : (hash : List ℕ) → HashHolds hash → Prints (bytesText tx hash) kind.Tx (hashLine hash)
+unfolding hashLine formsOk lineBytes fieldBytes
+hash-prints hash h =
+    record {
+      fields = hexText hash ∷ [];
+      says = bytes-says tx kind.Tx tx-word hash (h .bytes);
+      counted = refl;
+      formed = rw (hash-form hash h);
+      bytes = rw (hex-back hash (h .bytes), append-nil hash);
+    }
+
+pub input-says : (i : Input) → InputHolds i → Says (inputText i) kind.Input (inputFields i)
+unfolding inputText
+input-says i h = line-says input kind.Input (inputFields i) input-word (input-high i h)
+
+pub input-prints : (i : Input) → InputHolds i → Prints (inputText i) kind.Input (inputLine i)
+unfolding inputLine inputFields cellFields
+input-prints i h = record { fields = inputFields i; says = input-says i h; counted = refl; formed = input-form i h; bytes = input-bytes i h }
+
+pub record DigitsHold (ds : List ℕ) : Type 0 where
+  pub few : length ds ≤ 16
+  pub each : every (λ (d : ℕ). ltb d 3) ds ≡ true
+
+pub digits-hold : (ds : List ℕ) → digitsOk ds ≡ true → DigitsHold ds
+unfolding digitsOk
+digits-hold ds h =
+    let p = every (λ (d : ℕ). ltb d 3) ds in
+    record { few = leb-true (length ds) 16 (and-left (leb (length ds) 16) p h); each = and-right (leb (length ds) 16) p h }
+
+pub digits-says : (ds : List ℕ) → DigitsHold ds → Says (lineText verdicts (digitsText ds ∷ [])) kind.Verdicts (digitsText ds ∷ [])
+unfolding every
+digits-says ds h = line-says verdicts kind.Verdicts (digitsText ds ∷ []) verdicts-word (rw (digits-high 3 (omega arith) ds (h .each)))
+
+pub digits-prints : (ds : List ℕ) → DigitsHold ds → Prints (lineText verdicts (digitsText ds ∷ [])) kind.Verdicts (digitsLine ds)
+unfolding digitsLine formsOk lineBytes fieldBytes
+digits-prints ds h =
+    record {
+      fields = digitsText ds ∷ [];
+      says = digits-says ds h;
+      counted = refl;
+      formed = rw (digits-length ds, le-leb (length ds) 16 (h .few), digits-form 3 (omega arith) ds (h .each));
+      bytes = refl;
+    }
+
+-- lines one by one, with their kinds and with what they hold
+pub data EachPrints : List (List ℕ) → List Kind → List Line → Type 0 where
+  none : EachPrints [] [] []
+  more : {l : List ℕ} {k : Kind} {line : Line} {ls : List (List ℕ)} {ks : List Kind} {lines : List Line}
+      → Prints l k line → EachPrints ls ks lines → EachPrints (l ∷ ls) (k ∷ ks) (line ∷ lines)
+
+pub each-append : {ls ls′ : List (List ℕ)} {ks ks′ : List Kind} {xs xs′ : List Line}
+    → EachPrints ls ks xs → EachPrints ls′ ks′ xs′ → EachPrints (ls ++ ls′) (ks ++ ks′) (xs ++ xs′)
+each-append none q = q
+each-append (more p r) q = more p (each-append r q)
+
+-- n lines of one kind
+pub each-map : {A : Type 0} (ok : A → Bool) (text : A → List ℕ) (k : Kind) (line : A → Line) → ((x : A) → ok x ≡ true → Prints (text x) k (line x))
+    → (xs : List A) → every ok xs ≡ true → EachPrints (map text xs) (times (length xs) k) (map line xs)
+unfolding every times
+each-map ok text k line p [] h = none
+each-map ok text k line p (x ∷ xs) h =
+    more (p x (and-left (ok x) (every ok xs) h)) (each-map ok text k line p xs (and-right (ok x) (every ok xs) h))
+
+-- what the line rows ask of all of them
+pub record Rows (ls : List (List ℕ)) (ks : List Kind) (lines : List Line) : Type 0 where
+  pub ended : every (without 10) ls ≡ true
+  pub ordered : map kindOfLine ls ≡ ks
+  pub counted : every countOk ls ≡ true
+  pub formed : every formOk ls ≡ true
+  pub bytes : map bytesOfLine ls ≡ map (λ (x : Line). x .bytes) lines
+
+pub each-rows : {ls : List (List ℕ)} {ks : List Kind} {lines : List Line} → EachPrints ls ks lines → Rows ls ks lines
+unfolding every countOk formOk bytesOfLine
+each-rows none = record { ended = refl; ordered = refl; counted = refl; formed = refl; bytes = refl }
+each-rows (more p r) =
+    let h = each-rows r in
+    let k = p .says .kind in
+    let f = p .says .fields in
+    record {
+      ended = rw (p .says .ended, h .ended);
+      ordered = rw (k, h .ordered);
+      counted = rw (k, f, p .counted, h .counted);
+      formed = rw (k, f, p .formed, h .formed);
+      bytes = rw (k, f, p .bytes, h .bytes);
+    }

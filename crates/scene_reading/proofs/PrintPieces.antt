@@ -1,0 +1,70 @@
+-- Texts joined by a separator that none of them holds are cut into themselves.
+-- Assumes nothing.
+use Prim.Native.Nat.{ℕ}
+use mathlib.Core.Path.{_≡_, refl, sym, ap, _∙_}
+use mathlib.Core.Bool.{Bool, true, false, cond, not}
+use mathlib.Core.List.{List, [], _∷_, _++_, append-assoc, append-nil}
+use borrow.Author.Tests.{not-true, eq-eqb}
+use lib.Dec.{eqb}
+use Rattle.scene_text.specs.Text.{before, pieces, all}
+use Rattle.scene_table.specs.Valid.{every}
+use Rattle.scene_reading.specs.Print.{commaed, lineText, endedLines}
+use Rattle.scene_reading.proofs.PrintLists.{and-left, and-right}
+
+-- c stands nowhere in s
+unfoldable pub without : ℕ → List ℕ → Bool
+without c s = all (λ (x : ℕ). not (eqb x c)) s
+
+before-before : (t u : List ℕ) (ps : List (List ℕ)) → before t (before u ps) ≡ before (t ++ u) ps
+unfolding before
+before-before t u [] = refl
+before-before t u (p ∷ ps) = ap (λ (q : List ℕ). q ∷ ps) (sym (append-assoc t u p))
+
+before-some : (b : Bool) (x : ℕ) (ps : List (List ℕ)) → before [] (cond b ([] ∷ ps) (before (x ∷ []) ps)) ≡ cond b ([] ∷ ps) (before (x ∷ []) ps)
+unfolding before
+before-some true x ps = refl
+before-some false x [] = refl
+before-some false x (p ∷ ps) = refl
+
+pub before-none : (c : ℕ) (s : List ℕ) → pieces c s ≡ before [] (pieces c s)
+unfolding pieces before
+before-none c [] = refl
+before-none c (x ∷ s) = sym (before-some (eqb x c) x (pieces c s))
+
+module _ (c : ℕ) where
+  -- a text without c stands before the first piece of what follows
+  pieces-before : (s r : List ℕ) → without c s ≡ true → pieces c (s ++ r) ≡ before s (pieces c r)
+  unfolding without all pieces
+  pieces-before [] r h = before-none c r
+  pieces-before (x ∷ s) r h =
+      rw (not-true (eqb x c) (and-left (not (eqb x c)) (without c s) h), pieces-before s r (and-right (not (eqb x c)) (without c s) h))
+      (before-before (x ∷ []) s (pieces c r))
+
+  -- it is the one piece where nothing follows
+  pub piece-last : (s : List ℕ) → without c s ≡ true → pieces c s ≡ s ∷ []
+  unfolding pieces before
+  piece-last s h =
+      let e : pieces c (s ++ []) ≡ (s ++ []) ∷ [] = pieces-before s [] h in
+      rw append-nil at e
+
+  -- and a piece where c follows
+  pub piece-cut : (s r : List ℕ) → without c s ≡ true → pieces c (s ++ (c ∷ r)) ≡ s ∷ pieces c r
+  unfolding pieces before
+  piece-cut s r h =
+      pieces-before s (c ∷ r) h ∙ rw (eq-eqb c c refl, append-nil s)
+
+-- a line's word and its fields
+pub line-pieces : (word : List ℕ) (fs : List (List ℕ)) → without 44 word ≡ true → every (without 44) fs ≡ true → pieces 44 (lineText word fs) ≡ word ∷ fs
+unfolding lineText commaed every
+line-pieces word [] w h = rw append-nil (piece-last 44 word w)
+line-pieces word (f ∷ fs) w h =
+    piece-cut 44 word (lineText f fs) w
+    ∙ ap (λ (ps : List (List ℕ)). word ∷ ps) (line-pieces f fs (and-left (without 44 f) (every (without 44) fs) h) (and-right (without 44 f) (every (without 44) fs) h))
+
+-- the lines of a text, and nothing behind the last ending
+pub lines-pieces : (ls : List (List ℕ)) → every (without 10) ls ≡ true → pieces 10 (endedLines ls) ≡ ls ++ ([] ∷ [])
+unfolding endedLines every pieces
+lines-pieces [] h = refl
+lines-pieces (l ∷ ls) h =
+    piece-cut 10 l (endedLines ls) (and-left (without 10 l) (every (without 10) ls) h)
+    ∙ ap (λ (ps : List (List ℕ)). l ∷ ps) (lines-pieces ls (and-right (without 10 l) (every (without 10) ls) h))

@@ -1,0 +1,74 @@
+-- When no line row refuses a scene, said of the lines of its text.
+use Prim.Native.Nat.{ℕ, zero, suc, _≤_}
+use mathlib.Core.Bool.{Bool, true}
+use mathlib.Core.Path.{_≡_}
+use mathlib.Core.List.{List, [], _∷_, _++_, map}
+use lib.ListN.{length}
+use lib.Dec.{eqb}
+use Rattle.octets.specs.Lists.{joined}
+use Rattle.scene_text.specs.Text.{pieces}
+use Rattle.scene_line.specs.declared.kind.Kind.{Kind}
+use Rattle.scene_line.specs.declared.kind.Kind.the-variants.{Script, Tx, Input, Output, Dep, Witness, Verdicts, Unknown}
+use Rattle.scene_line.specs.Kind.{kindOf, fieldCount, firstForm, fieldsOf}
+use Rattle.scene_line.specs.Line.{formsOk, lineBytes}
+use Rattle.scene_table.specs.Valid.{every}
+
+-- a line's word, its kind, and its fields
+unfoldable pub wordOf : List (List ℕ) → List ℕ
+wordOf [] = []
+wordOf (w ∷ fs) = w
+
+unfoldable pub kindOfLine : List ℕ → Kind
+kindOfLine l = kindOf (wordOf (pieces 44 l))
+
+unfoldable pub fieldsOfLine : List ℕ → List (List ℕ)
+fieldsOfLine l = fieldsOf (pieces 44 l)
+
+-- n times x
+unfoldable pub times : {A : Type 0} → ℕ → A → List A
+times zero x = []
+times (suc n) x = x ∷ times n x
+
+-- 01: "in this order of kinds .. Script, tx and verdicts stand once"
+unfoldable pub kindsOf : ℕ → ℕ → ℕ → ℕ → List Kind
+kindsOf inputs outputs deps witnesses =
+    Script
+    ∷ Tx
+    ∷ times inputs Input
+    ++ times outputs Output
+    ++ times deps Dep
+    ++ times witnesses Witness
+    ++ (Verdicts ∷ [])
+
+-- the line row for 2 on a line's fields, and the row for 3
+unfoldable pub countOk : List ℕ → Bool
+countOk l = eqb (length (fieldsOfLine l)) (fieldCount (kindOfLine l))
+
+unfoldable pub formOk : List ℕ → Bool
+formOk l = formsOk true (firstForm (kindOfLine l)) (fieldsOfLine l)
+
+unfoldable pub bytesOfLine : List ℕ → List ℕ
+bytesOfLine l = lineBytes (firstForm (kindOfLine l)) (fieldsOfLine l)
+
+-- No line row refuses the text, with a store of n bytes
+pub record Passes (text : List ℕ) (n : ℕ) : Type 0 where
+  pub lines : List (List ℕ)
+  pub inputs : ℕ
+  pub outputs : ℕ
+  pub deps : ℕ
+  pub witnesses : ℕ
+  -- 2: each line has its ending, and nothing follows the last
+  pub ended : pieces 10 text ≡ lines ++ ([] ∷ [])
+  -- 2: kind and order, none missing
+  pub ordered : map kindOfLine lines ≡ kindsOf inputs outputs deps witnesses
+  -- 2: field count
+  pub counted : every countOk lines ≡ true
+  -- 4: no 65th of a kind
+  pub few-inputs : inputs ≤ 64
+  pub few-outputs : outputs ≤ 64
+  pub few-deps : deps ≤ 64
+  pub few-witnesses : witnesses ≤ 64
+  -- 3: the fields' forms
+  pub formed : every formOk lines ≡ true
+  -- 6: the store holds the bytes of all hexadecimal fields
+  pub room : length (joined (map bytesOfLine lines)) ≤ n

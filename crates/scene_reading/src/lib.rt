@@ -1,0 +1,1 @@
+// What an accepted text says: the scene in the table and the store that the reader leaves.

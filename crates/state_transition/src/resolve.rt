@@ -1,0 +1,136 @@
+// Where the account's state stands in a transaction.
+use cell_search::CellField;
+use cell_search::Source;
+use cell_search::cell_content;
+use cell_search::cell_type_script;
+use cell_search::search_cells;
+use octets::part;
+use octets::same_bytes;
+use protocol::Check;
+use protocol::OP_SPEND;
+use protocol::ProtocolError;
+use scene_table::input_count;
+use scene_table::input_since;
+ghost use mathlib.Core.Path.{_≡_};
+ghost use mathlib.Core.Bool.{cond};
+ghost use mathlib.Core.List.{[]};
+ghost use lib.Dec.{eqb};
+ghost use lib.ListN.{getD};
+ghost use Rattle.protocol.specs.Rows.{decide};
+ghost use Rattle.scene_table.specs.Lent.{lentScene};
+ghost use Rattle.cell_search.specs.Search.{cellsOf, cellAt};
+ghost use Rattle.state_transition.specs.Resolve.{typeRows, resolvedOf, spendOf, changeOf, stateSource, noInput};
+
+// What the rows of the search found, and the places of the two cells: the current state's among the deps where it is spent
+// from, else among the inputs, and its successor's among the outputs.
+pub struct ResolvedState {
+    pub found: Check,
+    pub current: u32,
+    pub successor: u32,
+}
+
+const MAX_TYPE_SCRIPT: usize = 512;
+
+fn check_types(input: &[u8], output: &[u8]) -> Check
+    ensures { λ r. ⌜ r ≡ decide Check.Passed (typeRows (now (input .entry)) (now (output .entry))) ⌝ }
+{
+    Check::Passed
+        .require(input.len() <= MAX_TYPE_SCRIPT, ProtocolError::InvalidState)
+        .require(output.len() <= MAX_TYPE_SCRIPT, ProtocolError::InvalidState)
+        .require(same_bytes(input, output), ProtocolError::InvalidTransition)
+}
+
+// A spend reads the state from a dep.
+fn resolve_spend(table: &[u32], store: &[u8], account_id: &[u8]) -> ResolvedState
+    ensures { λ r. ⌜ r ≡ spendOf (now («account_id» .entry)) (lentScene (now (table .entry)) (now (store .entry))) ⌝ }
+{
+    let inputs = search_cells(table, store, Source::Input, CellField::TypeHash, account_id);
+    let deps = search_cells(
+        table,
+        store,
+        Source::CellDep,
+        CellField::TypeHash,
+        account_id,
+    );
+    let found = Check::Passed
+        .require(inputs.is_missing(), ProtocolError::StateConsumedOnSpend)
+        .require(!deps.is_missing(), ProtocolError::StateNotFound)
+        .require(!deps.is_several(), ProtocolError::DuplicateState);
+    ResolvedState {
+        found,
+        current: deps.place(),
+        successor: 0,
+    }
+}
+
+// A rotation or a recovery consumes the state and leaves its successor.
+fn resolve_change(table: &[u32], store: &[u8], account_id: &[u8]) -> ResolvedState
+    ensures { λ r. ⌜ r ≡ changeOf (now («account_id» .entry)) (lentScene (now (table .entry)) (now (store .entry))) ⌝ }
+{
+    let inputs = search_cells(table, store, Source::Input, CellField::TypeHash, account_id);
+    let outputs = search_cells(
+        table,
+        store,
+        Source::Output,
+        CellField::TypeHash,
+        account_id,
+    );
+    let current = inputs.place();
+    let successor = outputs.place();
+    let found = Check::Passed
+        .require(!inputs.is_missing(), ProtocolError::StateNotFound)
+        .require(!inputs.is_several(), ProtocolError::DuplicateState)
+        .require(outputs.is_one(), ProtocolError::InvalidTransition)
+        .and(check_types(
+            cell_type_script(table, store, Source::Input, current),
+            cell_type_script(table, store, Source::Output, successor),
+        ));
+    ResolvedState {
+        found,
+        current,
+        successor,
+    }
+}
+
+pub fn resolve_state(table: &[u32], store: &[u8], operation: u8, account_id: &[u8]) -> ResolvedState
+    ensures { λ r. ⌜ r ≡ resolvedOf operation (now («account_id» .entry)) (lentScene (now (table .entry)) (now (store .entry))) ⌝ }
+{
+    if operation == OP_SPEND {
+        resolve_spend(table, store, account_id)
+    } else {
+        resolve_change(table, store, account_id)
+    }
+}
+
+// The data of the cell at a place that holds the current state.
+pub fn current_state<'a>(table: &[u32], store: &'a [u8], operation: u8, place: u32) -> &'a [u8]
+    ensures { λ r. ⌜ now r ≡ cellAt (cellsOf (stateSource operation) (lentScene (now (table .entry)) (now (store .entry)))) place .content ⌝ }
+{
+    if operation == OP_SPEND {
+        cell_content(table, store, Source::CellDep, place)
+    } else {
+        cell_content(table, store, Source::Input, place)
+    }
+}
+
+// The data of the output at a place, nothing where the state is spent from and has no successor.
+pub fn successor_state<'a>(table: &[u32], store: &'a [u8], operation: u8, place: u32) -> &'a [u8]
+    ensures { λ r. ⌜ now r ≡ cond (eqb operation 1) [] (cellAt (cellsOf Source.Output (lentScene (now (table .entry)) (now (store .entry)))) place .content) ⌝ }
+{
+    if operation == OP_SPEND {
+        part(store, 0, 0)
+    } else {
+        cell_content(table, store, Source::Output, place)
+    }
+}
+
+// The since of the input at a place.
+pub fn state_since(table: &[u32], store: &[u8], place: u32) -> u64
+    ensures { λ r. ⌜ r ≡ getD (lentScene (now (table .entry)) (now (store .entry)) .inputs) place noInput .since ⌝ }
+{
+    if place < input_count(table) {
+        input_since(table, place)
+    } else {
+        0
+    }
+}

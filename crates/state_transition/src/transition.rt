@@ -1,0 +1,105 @@
+// The current state against the witness, its successor and the recovery's lock.
+use account_state::StateAnswer;
+use account_state::validate_state;
+use octets::u8_at;
+use octets::u64_at;
+use protocol::ACCOUNT_STATE_MAX_LEN;
+use protocol::Check;
+use protocol::OP_RECOVERY;
+use protocol::OP_SPEND;
+use protocol::ProtocolError;
+ghost use mathlib.Core.Path.{_≡_};
+ghost use lib.Dec.{eqb};
+ghost use Prim.Native.Nat.{_+_};
+ghost use Rattle.protocol.specs.Rows.{decide};
+ghost use Rattle.account_state.specs.State.{stateRows};
+ghost use Rattle.state_transition.specs.Transition.{dataRows, currentRows, successorRows, recoveryRows, changeRows, transitionRows};
+
+pub fn check_data(current: &[u8], successor: &[u8]) -> Check
+    ensures { λ r. ⌜ r ≡ decide Check.Passed (dataRows (now (current .entry)) (now (successor .entry))) ⌝ }
+{
+    Check::Passed
+        .require(
+            current.len() <= ACCOUNT_STATE_MAX_LEN,
+            ProtocolError::InvalidState,
+        )
+        .require(
+            successor.len() <= ACCOUNT_STATE_MAX_LEN,
+            ProtocolError::InvalidState,
+        )
+}
+
+fn check_state(state: &[u8]) -> Check
+    ensures { λ r. ⌜ r ≡ decide Check.Passed (stateRows (now (state .entry))) ⌝ }
+{
+    match validate_state(state) {
+        StateAnswer::Valid(_, _) => Check::Passed,
+        StateAnswer::Refused(error) => Check::Failed(error),
+    }
+}
+
+// Whether a sequence is one more; none is after the last.
+fn is_next(next: u64, sequence: u64) -> bool
+    ensures { λ r. ⌜ r ≡ eqb next (sequence + 1) ⌝ }
+{
+    if sequence == 18446744073709551615 {
+        false
+    } else {
+        next == sequence + 1
+    }
+}
+
+fn check_current(sequence: u64, current: &[u8]) -> Check
+    ensures { λ r. ⌜ r ≡ decide Check.Passed (currentRows sequence (now (current .entry))) ⌝ }
+{
+    check_state(current).require(
+        sequence == u64_at(current, 8),
+        ProtocolError::InvalidSequence,
+    )
+}
+
+fn check_successor(current: &[u8], successor: &[u8]) -> Check
+    ensures { λ r. ⌜ r ≡ decide Check.Passed (successorRows (now (current .entry)) (now (successor .entry))) ⌝ }
+{
+    check_state(successor).require(
+        is_next(u64_at(successor, 8), u64_at(current, 8)),
+        ProtocolError::InvalidSequence,
+    )
+}
+
+fn check_recovery(since: u64, current: &[u8]) -> Check
+    ensures { λ r. ⌜ r ≡ decide Check.Passed (recoveryRows since (now (current .entry))) ⌝ }
+{
+    Check::Passed
+        .require(u8_at(current, 5) % 2 == 1, ProtocolError::InvalidCapability)
+        .require(u64_at(current, 24) <= since, ProtocolError::RecoveryLocked)
+}
+
+// The rows of an operation that changes the state.
+fn check_change(operation: u8, since: u64, current: &[u8], successor: &[u8]) -> Check
+    ensures { λ r. ⌜ r ≡ decide Check.Passed (changeRows operation since (now (current .entry)) (now (successor .entry))) ⌝ }
+{
+    let check = check_successor(current, successor);
+    if operation == OP_RECOVERY {
+        check.and(check_recovery(since, current))
+    } else {
+        check
+    }
+}
+
+pub fn validate_transition(
+    operation: u8,
+    sequence: u64,
+    since: u64,
+    current: &[u8],
+    successor: &[u8],
+) -> Check
+    ensures { λ r. ⌜ r ≡ decide Check.Passed (transitionRows operation sequence since (now (current .entry)) (now (successor .entry))) ⌝ }
+{
+    let check = check_current(sequence, current);
+    if operation == OP_SPEND {
+        check
+    } else {
+        check.and(check_change(operation, since, current, successor))
+    }
+}
