@@ -3,3 +3,5 @@ pub mod Resolved
 pub mod Digested
 pub mod LockLaws
 pub mod LockTheorem
+pub mod DigestTheorem
+pub mod AnswerTheorem

@@ -51,11 +51,11 @@ state-thresholds s h =
     }
 
 module _ (s : Scene) (h : Hold (earlyRows s)) where
-  late : Hold (groupRows s) × Hold (lateRows s)
+  pub late : Hold (groupRows s) × Hold (lateRows s)
   unfolding earlyRows
   late = hold-split (groupRows s) _ (hold-split (scriptRows (s .script)) _ h .1)
 
-  transition : Hold (transitionRows (operation s) (witnessSequence s) (stateSince (operation s) (account s) s) (current s) (successor s))
+  pub transition : Hold (transitionRows (operation s) (witnessSequence s) (stateSince (operation s) (account s) s) (current s) (successor s))
   unfolding lateRows stateRowsOf
   transition =
       let l = hold-split (resolveRows (operation s) (account s) s) _ (late .1) .1 in

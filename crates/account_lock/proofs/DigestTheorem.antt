@@ -1,0 +1,113 @@
+-- The digest is document 01's: CKB's hash of the domain, the operation, the account id, the sequence, the hash of the state and
+-- the sighash, itself CKB's hash of the transaction hash and the hashed witnesses.
+-- Assumes nothing.
+use mathlib.Core.Path.{_≡_, refl, sym, ap, _∙_}
+use mathlib.Core.Bool.{Bool, true, false, cond, _&&_, true≢false}
+use mathlib.Core.List.{List, [], _∷_, _++_, map}
+use Prim.Native.Nat.{ℕ, zero, suc, _+_, _*_, _-_, _^_, _≤_, _<_}
+use native.Mathlib.Omega.{arith}
+use lib.Dec.{eqb, leb}
+use lib.ListN.{length, take, drop, length-append, length-drop, length-take}
+use lib.Seq.{length-take-le}
+use borrow.Author.Tests.{leb-true}
+use Rattle.octets.specs.Le.{toLe, numberAt}
+use Rattle.octets.specs.Lists.{joined}
+use Rattle.octets.proofs.LeLaws.{length-to}
+use Rattle.octets.proofs.Filled.{length-tabulate}
+use Rattle.blake2b.specs.Rfc7693.{bytesOf, halves, F, hashWords, hashOf}
+use Rattle.blake2b.specs.State.{ckbParameters}
+use Rattle.blake2b.proofs.Bytes.{length-bytes}
+use Rattle.protocol.specs.Rows.{Row, Hold}
+use Rattle.protocol.proofs.Hold.{hold-split}
+use Rattle.protocol.specs.declared.error.ProtocolError.the-variants.{InvalidWitness}
+use Rattle.molecule.specs.Table3.{tableRows}
+use Rattle.molecule.specs.Canonical.{canonicalOf}
+use Rattle.molecule.proofs.Form.{passes}
+use Rattle.molecule.proofs.CanonicalForm.{length-canonical}
+use Rattle.authorization.specs.Digest.{ckbHash, digestOf, digestInput}
+use Rattle.authorization.specs.Hashed.{hashedWitness}
+use Rattle.authorization.specs.Sighash.{hashedWitnesses, sighashInput, sighashOf}
+use Rattle.authorization.proofs.SighashTheorem.{sighash-theorem}
+use Rattle.scene_table.specs.Scene.{Input, Scene}
+use Rattle.scene_table.specs.Valid.{every}
+use Rattle.group_sighash.specs.Witnesses.{groupWitnesses, groupOf, firstWitness, otherWitnesses, witnessRows, witnessFits, groupRows, otherRows}
+use Rattle.group_sighash.specs.GroupSighash.{groupSighash}
+use Rattle.state_transition.specs.Transition.{sequenceOf}
+use Rattle.account_lock.specs.Lock.{account, operation, current, digest}
+use Rattle.account_lock.proofs.LockLaws.{group-table}
+
+-- CKB's hash has 32 bytes
+pub length-hash : (xs : List ℕ) → length (ckbHash xs) ≡ 32
+unfolding ckbHash hashOf hashWords F halves
+length-hash xs =
+    let n = length-bytes (hashWords ckbParameters xs) in
+    let m : length (hashWords ckbParameters xs) ≡ 8 = length-tabulate _ 8 in
+    length-take-le 32 (bytesOf (hashWords ckbParameters xs)) (omega arith)
+
+-- witnesses that fit add at most 132,104 bytes each
+hashed-length : (w : List ℕ) → length (hashedWitness w) ≡ 8 + length w
+unfolding hashedWitness
+hashed-length w = length-append (toLe 8 (length w)) w ∙ ap (λ (n : ℕ). n + length w) (length-to 8 (length w))
+
+every-split : {A : Type 0} (p : A → Bool) (x : A) (xs : List A) → every p (x ∷ xs) ≡ true → (p x ≡ true) × (every p xs ≡ true)
+unfolding every
+every-split p x xs = go (p x) (every p xs)
+  where
+    go : (a b : Bool) → a && b ≡ true → (a ≡ true) × (b ≡ true)
+    go true b e = (refl, e)
+    go false b e = absurd (true≢false (sym e))
+
+others-length : (ws : List (List ℕ)) → every witnessFits ws ≡ true → length (hashedWitnesses ws) ≤ length ws * 132104
+unfolding hashedWitnesses joined witnessFits
+others-length [] e = omega arith
+others-length (w ∷ ws) e =
+    let z = every-split witnessFits w ws e in
+    let n = length-append (hashedWitness w) (hashedWitnesses ws) in
+    let k = hashed-length w in
+    let fit : length w ≤ 132096 = leb-true _ _ (z .0) in
+    let rest = others-length ws (z .1) in
+    omega arith
+
+-- no more witnesses are hashed than there are
+group-few : (is : List Input) (ws : List (List ℕ)) → length (groupWitnesses is ws) ≤ length ws
+unfolding groupWitnesses
+group-few [] ws = omega arith
+group-few (i ∷ is) [] = omega arith
+group-few (i ∷ is) (w ∷ ws) = go (eqb (i .group) 1) (group-few is ws)
+  where
+    go : (b : Bool) → length (groupWitnesses is ws) ≤ length ws
+        → length (cond b (w ∷ groupWitnesses is ws) (groupWitnesses is ws)) ≤ suc (length ws)
+    go true h = omega arith
+    go false h = omega arith
+
+module _ (s : Scene) where
+  others-few : length (otherWitnesses s) ≤ 2 * length (s .witnesses)
+  unfolding otherWitnesses groupOf
+  others-few =
+      let n = length-append (drop 1 (groupOf s)) (drop (length (s .inputs)) (s .witnesses)) in
+      let a = length-drop 1 (groupOf s) in
+      let b = length-drop (length (s .inputs)) (s .witnesses) in
+      let g = group-few (s .inputs) (s .witnesses) in
+      omega arith
+
+  pub sighash-hash : length (s .transaction) ≤ 32 → length (s .witnesses) ≤ 64 → Hold (groupRows s) → Hold (otherRows s)
+      → groupSighash s ≡ ckbHash (sighashInput (s .transaction) (canonicalOf (firstWitness s)) (otherWitnesses s))
+  unfolding groupSighash sighashInput groupRows witnessRows otherRows
+  sighash-hash t few g o =
+      let first = firstWitness s in
+      let canonical = canonicalOf first in
+      let others = otherWitnesses s in
+      let head = length-append (s .transaction) (hashedWitness canonical) in
+      let whole = length-append (s .transaction ++ hashedWitness canonical) (hashedWitnesses others) in
+      let k₁ = hashed-length canonical in
+      let k₂ = length-canonical first (passes InvalidWitness first (group-table s g)) in
+      let k₃ = length-drop (numberAt first 8 4) first in
+      let short : length first ≤ 132096 = leb-true _ _ (g .1 .0) in
+      let k₄ = others-length others (o .0) in
+      let k₅ = others-few in
+      sighash-theorem (s .transaction) first others (omega arith)
+
+  pub digest-hash : length (s .transaction) ≤ 32 → length (s .witnesses) ≤ 64 → Hold (groupRows s) → Hold (otherRows s)
+      → digest s ≡ ckbHash (digestInput (operation s) (account s) (sequenceOf (current s)) (current s) (ckbHash (sighashInput (s .transaction) (canonicalOf (firstWitness s)) (otherWitnesses s))))
+  unfolding digest digestOf
+  digest-hash t few g o = rw (sighash-hash t few g o)
