@@ -1,36 +1,69 @@
 //! Runs the port beside the original and compares. A comparison is a module with a function `run`.
 //! `originals` is set where the original files are at hand; what needs none runs without them too.
+//! Without arguments all is compared; `--long` takes many more random scenes of the lock.
 
+#[cfg_attr(not(originals), allow(dead_code))]
+mod changes;
 #[cfg_attr(not(originals), allow(dead_code))]
 mod exports;
 #[cfg(originals)]
 mod formats;
 mod hash;
 mod hex;
+mod lent;
+#[cfg(originals)]
+mod locks;
 #[cfg(originals)]
 mod original;
+mod port;
 mod prng;
 mod report;
 #[cfg(originals)]
 mod samples;
+mod scene;
+mod scene_exports;
+mod scene_text;
+mod scenes;
 #[cfg(originals)]
 mod smoke;
+#[cfg(all(originals, not(lock)))]
+mod stand_in;
+mod table;
 mod vectors;
 
 use report::Report;
 use std::process::ExitCode;
 
-fn main() -> ExitCode {
+fn compare(long: bool) -> ExitCode {
     let mut report = Report::new();
+    port::tell();
     vectors::run(&mut report);
     #[cfg(originals)]
     smoke::run(&mut report);
     hash::run(&mut report);
     #[cfg(originals)]
     formats::run(&mut report);
+    scenes::run(&mut report);
+    #[cfg(originals)]
+    locks::run(&mut report, long);
+    #[cfg(not(originals))]
+    let _ = long;
     if report.print() {
         ExitCode::SUCCESS
     } else {
         ExitCode::FAILURE
+    }
+}
+
+fn main() -> ExitCode {
+    let arguments: Vec<String> = std::env::args().skip(1).collect();
+    let arguments: Vec<&str> = arguments.iter().map(String::as_str).collect();
+    match arguments[..] {
+        [] => compare(false),
+        ["--long"] => compare(true),
+        _ => {
+            eprintln!("host: the arguments are nothing or --long");
+            ExitCode::FAILURE
+        }
     }
 }

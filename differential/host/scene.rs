@@ -14,7 +14,7 @@ pub const TX: usize = 2;
 pub const INPUT: usize = 3;
 pub const OUTPUT: usize = 4;
 pub const DEP: usize = 5;
-const WITNESS: usize = 6;
+pub const WITNESS: usize = 6;
 pub const VERDICTS: usize = 7;
 
 #[derive(Clone, Copy)]

@@ -1,0 +1,115 @@
+//! Runs of the port's lock, compared with the original's.
+
+use super::answer::{Answer, ENOUGH};
+use crate::hex::Hex;
+use crate::lent::Lent;
+use crate::original::{self, Outcome};
+use crate::port;
+use crate::prng::Prng;
+use crate::report::Report;
+use crate::scene::ENTRIES;
+use crate::scene_text::text;
+use crate::table;
+use ckb_std::Scene;
+
+pub struct Runs<'a> {
+    pub report: &'a mut Report,
+    pub prng: Prng,
+}
+
+/// What a mismatch prints of its input.
+fn describe(text: &[u8], buffer_len: usize) -> String {
+    let text = String::from_utf8_lossy(text);
+    format!("answer buffer of {buffer_len}, {text:?}")
+}
+
+fn total(outcome: &Outcome) -> usize {
+    outcome.requests.iter().map(|request| request.0.len()).sum()
+}
+
+impl Runs<'_> {
+    fn compare(&mut self, text: &[u8], lent: &Lent, buffer_len: usize, expected: &Answer) {
+        let result = Answer::of_port(lent, buffer_len);
+        self.report.answered("lock", result.number);
+        let input = || describe(text, buffer_len);
+        self.report
+            .compare("lock", text.len(), input, &result, expected);
+    }
+
+    /// The port's reader leaves what the plain one does.
+    fn read(&mut self, text: &[u8]) -> Lent {
+        let lent = Lent::read(text);
+        let (mut store, mut table) = (vec![0; lent.store.len()], vec![0; ENTRIES]);
+        let number = port::read_scene(text, &mut store, &mut table);
+        let same = (number, &store == &lent.store, table == lent.table);
+        let input = || String::from_utf8_lossy(text).into();
+        let expected = (0, true, true);
+        self.report
+            .compare("lock's scene read", text.len(), input, &same, &expected);
+        lent
+    }
+
+    /// A scene of which document 01 says the number.
+    pub fn expect(&mut self, name: &str, scene: &Scene, number: i8) {
+        let outcome = original::lock(scene);
+        let text = text(scene);
+        let input = || format!("{name}, {}", describe(&text, ENOUGH));
+        self.report.compare(
+            "original by document 01's rows",
+            text.len(),
+            input,
+            &outcome.number,
+            &number,
+        );
+        let lent = self.read(&text);
+        self.compare(&text, &lent, ENOUGH, &Answer::expected(&outcome, ENOUGH));
+    }
+
+    /// A length of answer buffer: one too short, the total, some more, or enough for any scene.
+    fn buffer_len(&mut self, total: usize) -> usize {
+        match self.prng.up_to(7) {
+            0 => self.prng.up_to(total),
+            1 => total,
+            2 => ENOUGH,
+            _ => (total + self.prng.up_to(200)).min(ENOUGH),
+        }
+    }
+
+    /// A scene, with some answer buffer.
+    pub fn any(&mut self, scene: &Scene) {
+        let outcome = original::lock(scene);
+        let text = text(scene);
+        let lent = self.read(&text);
+        let buffer_len = self.buffer_len(total(&outcome));
+        let expected = Answer::expected(&outcome, buffer_len);
+        self.compare(&text, &lent, buffer_len, &expected);
+    }
+
+    /// A scene, with answer buffers at and around the end of each request.
+    pub fn every_buffer(&mut self, scene: &Scene) {
+        let outcome = original::lock(scene);
+        let text = text(scene);
+        let lent = self.read(&text);
+        let mut end = 0;
+        let mut lengths = vec![0, 1];
+        for Hex(request) in &outcome.requests {
+            end += request.len();
+            lengths.extend([end - request.len() / 2, end - 1, end, end + 1]);
+        }
+        for buffer_len in lengths {
+            let expected = Answer::expected(&outcome, buffer_len);
+            self.compare(&text, &lent, buffer_len, &expected);
+        }
+    }
+
+    /// Any table and store: 7, or what the original says of the scene that they hold.
+    pub fn lent(&mut self, lent: &Lent) {
+        let buffer_len = 2_000;
+        let expected = match table::valid(&lent.table, lent.store.len()) {
+            true => Answer::expected(&original::lock(&lent.scene()), buffer_len),
+            false => Answer::no_table(buffer_len),
+        };
+        let table = format!("{:?}", lent.table);
+        self.compare(table.as_bytes(), lent, buffer_len, &expected);
+    }
+}

@@ -1,0 +1,69 @@
+//! The reader of scenes and the lock, of the static library, wrapped to take slices. `scene` and `lock` are set where
+//! the library has them.
+
+mod library {
+    #[link(name = "exports", kind = "static")]
+    unsafe extern "C" {
+        #[cfg(scene)]
+        pub fn fowlcredenza_read_scene(
+            scene: *const u8,
+            scene_len: usize,
+            store: *mut u8,
+            store_len: usize,
+            table: *mut u32,
+            table_len: usize,
+        ) -> u32;
+        #[cfg(scene)]
+        pub fn fowlcredenza_table_valid(table: *const u32, table_len: usize, store_len: u64)
+            -> u32;
+        #[cfg(lock)]
+        pub fn fowlcredenza_lock(
+            table: *const u32,
+            table_len: usize,
+            store: *const u8,
+            store_len: usize,
+            answer: *mut u8,
+            answer_len: usize,
+            out: *mut u8,
+            out_len: usize,
+        ) -> u32;
+    }
+}
+
+/// Reads a scene into the store and the table.
+#[cfg(scene)]
+pub fn read_scene(scene: &[u8], store: &mut [u8], table: &mut [u32]) -> u32 {
+    unsafe {
+        library::fowlcredenza_read_scene(
+            scene.as_ptr(),
+            scene.len(),
+            store.as_mut_ptr(),
+            store.len(),
+            table.as_mut_ptr(),
+            table.len(),
+        )
+    }
+}
+
+/// 1 where some scene leaves this table with a store of that length, else 0.
+#[cfg(scene)]
+pub fn table_valid(table: &[u32], store_len: usize) -> u32 {
+    unsafe { library::fowlcredenza_table_valid(table.as_ptr(), table.len(), store_len as u64) }
+}
+
+/// Runs the lock. `out` takes count, length and 1 where there is a digest, as 64-bit words, then the digest.
+#[cfg(lock)]
+pub fn lock(table: &[u32], store: &[u8], answer: &mut [u8], out: &mut [u8]) -> u32 {
+    unsafe {
+        library::fowlcredenza_lock(
+            table.as_ptr(),
+            table.len(),
+            store.as_ptr(),
+            store.len(),
+            answer.as_mut_ptr(),
+            answer.len(),
+            out.as_mut_ptr(),
+            out.len(),
+        )
+    }
+}

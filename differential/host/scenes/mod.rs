@@ -1,0 +1,22 @@
+//! The reader of scenes beside the host's plain one, and the test of lent tables beside the plain test.
+
+mod damage;
+mod limits;
+mod random;
+mod readings;
+mod tables;
+
+use crate::prng::Prng;
+use crate::report::Report;
+use readings::Readings;
+pub use tables::{entries, other_values};
+
+pub fn run(report: &mut Report) {
+    let prng = Prng::new(3);
+    let mut readings = Readings { report, prng };
+    limits::run(&mut readings);
+    damage::run(&mut readings);
+    tables::run(&mut readings);
+    report.expect_answers("read_scene", &[0, 1, 2, 3, 4, 6]);
+    report.expect_answers("table_valid", &[0, 1]);
+}
