@@ -1,6 +1,7 @@
 //! Runs the port beside the original and compares. A comparison is a module with a function `run`.
 //! `originals` is set where the original files are at hand; what needs none runs without them too.
-//! Without arguments all is compared; `--long` takes many more random scenes of the lock.
+//! Without arguments all is compared; `--long` takes many more random scenes of the lock. `--record FILE` writes scenes
+//! with the original's answers into a file, and `--samples FOLDER` sample scenes into a folder.
 
 #[cfg_attr(not(originals), allow(dead_code))]
 mod changes;
@@ -55,14 +56,30 @@ fn compare(long: bool) -> ExitCode {
     }
 }
 
+/// Whether a file was written.
+#[cfg(originals)]
+fn written(result: std::io::Result<()>) -> ExitCode {
+    match result {
+        Ok(()) => ExitCode::SUCCESS,
+        Err(error) => {
+            eprintln!("host: {error}");
+            ExitCode::FAILURE
+        }
+    }
+}
+
 fn main() -> ExitCode {
     let arguments: Vec<String> = std::env::args().skip(1).collect();
     let arguments: Vec<&str> = arguments.iter().map(String::as_str).collect();
     match arguments[..] {
         [] => compare(false),
         ["--long"] => compare(true),
+        #[cfg(originals)]
+        ["--record", file] => written(locks::record::record(file)),
+        #[cfg(originals)]
+        ["--samples", folder] => written(locks::sample_files::write(folder)),
         _ => {
-            eprintln!("host: the arguments are nothing or --long");
+            eprintln!("host: takes nothing, --long, --record FILE or --samples FOLDER");
             ExitCode::FAILURE
         }
     }

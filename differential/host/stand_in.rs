@@ -1,7 +1,7 @@
 //! Stands in for the port's lock: the original, over the scene that table and store hold.
 
 use crate::lent::Lent;
-use crate::locks::fill;
+use crate::locks::answer::fill;
 use crate::{original, table};
 
 pub fn lock(table: &[u32], store: &[u8], answer: &mut [u8], out: &mut [u8]) -> u32 {

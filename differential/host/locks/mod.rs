@@ -1,15 +1,16 @@
 //! The lock beside the original's, over scenes that the reader accepts.
 
-mod answer;
+pub mod answer;
 mod assembly;
 mod faults;
 mod plan;
+pub mod record;
 mod runs;
+pub mod sample_files;
 mod tables;
 
 use crate::prng::Prng;
 use crate::report::Report;
-pub use answer::fill;
 use faults::{build, damage, rows, Fault, Row};
 use plan::Plan;
 use runs::Runs;

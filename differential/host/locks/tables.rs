@@ -6,7 +6,7 @@ use super::runs::Runs;
 use crate::lent::Lent;
 use crate::scene::ENTRIES;
 use crate::scene_text::text;
-use crate::scenes::{entries, other_values};
+use crate::scenes::tables::{entries, other_values};
 
 /// How many scenes have their tables damaged in every entry.
 const TABLES: usize = 25;

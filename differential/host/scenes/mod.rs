@@ -4,12 +4,11 @@ mod damage;
 mod limits;
 mod random;
 mod readings;
-mod tables;
+pub mod tables;
 
 use crate::prng::Prng;
 use crate::report::Report;
 use readings::Readings;
-pub use tables::{entries, other_values};
 
 pub fn run(report: &mut Report) {
     let prng = Prng::new(3);
