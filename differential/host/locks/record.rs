@@ -13,9 +13,9 @@ use std::io;
 
 const SCENES: usize = 2_000;
 /// The length of a scene that counts as short.
-const SHORT: usize = 1_700;
+const SHORT: usize = 1_400;
 /// Numbers that need a long aux or a long proof, and how many scenes with them there are.
-const NEED_LONG: [(i8, usize); 2] = [(35, 20), (39, 2)];
+const NEED_LONG: [(i8, usize); 2] = [(35, 12), (39, 2)];
 
 /// The line that the program prints.
 pub fn answer_line(outcome: &Outcome) -> String {
