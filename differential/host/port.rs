@@ -21,6 +21,6 @@ pub fn table_valid(table: &[u32], store_len: usize) -> u32 {
 pub fn tell() {
     #[cfg(not(scene))]
     println!("differential: the library has no reader of scenes; the plain one stands in");
-    #[cfg(not(lock))]
+    #[cfg(all(originals, not(lock)))]
     println!("differential: the library has no lock; the original stands in");
 }

@@ -38,7 +38,8 @@ fn each_row(runs: &mut Runs, rows: &[Row]) {
                 let entries = 2 + runs.prng.up_to(1);
                 let plan = Plan::full(&mut runs.prng, *operation, entries);
                 let scene = build(&mut runs.prng, plan, &row.faults);
-                runs.expect(&row.name, &scene, row.number);
+                let made = row.made.map(|made| made.of(entries));
+                runs.expect(&row.name, &scene, row.number, made);
             }
         }
     }
@@ -50,8 +51,9 @@ fn accepted(runs: &mut Runs) {
         for operation in 1..=3 {
             for _ in 0..TURNS {
                 let plan = Plan::valid(&mut runs.prng, operation, entries);
+                let made = (plan.lock.proofs.len(), true);
                 let scene = build(&mut runs.prng, plan, &[]);
-                runs.expect("no fault", &scene, 0);
+                runs.expect("no fault", &scene, 0, Some(made));
             }
         }
     }

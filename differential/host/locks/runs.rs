@@ -49,18 +49,16 @@ impl Runs<'_> {
         lent
     }
 
-    /// A scene of which document 01 says the number.
-    pub fn expect(&mut self, name: &str, scene: &Scene, number: i8) {
+    /// A scene of which document 01 says the number, and maybe how many requests were made and whether there is a digest.
+    pub fn expect(&mut self, name: &str, scene: &Scene, number: i8, made: Option<(usize, bool)>) {
         let outcome = original::lock(scene);
         let text = text(scene);
+        let found = (outcome.requests.len(), outcome.digest.is_some());
+        let result = (outcome.number, made.map(|_| found));
         let input = || format!("{name}, {}", describe(&text, ENOUGH));
-        self.report.compare(
-            "original by document 01's rows",
-            text.len(),
-            input,
-            &outcome.number,
-            &number,
-        );
+        let rows = "original by document 01's rows";
+        self.report
+            .compare(rows, text.len(), input, &result, &(number, made));
         let lent = self.read(&text);
         self.compare(&text, &lent, ENOUGH, &Answer::expected(&outcome, ENOUGH));
     }
@@ -75,11 +73,13 @@ impl Runs<'_> {
         }
     }
 
-    /// A scene, with some answer buffer.
+    /// A scene, with some answer buffer, and a store that may be longer than the scene's bytes.
     pub fn any(&mut self, scene: &Scene) {
         let outcome = original::lock(scene);
         let text = text(scene);
-        let lent = self.read(&text);
+        let mut lent = self.read(&text);
+        let spare = [0, 0, 0, 40][self.prng.up_to(3)];
+        lent.store.extend(self.prng.bytes(spare));
         let buffer_len = self.buffer_len(total(&outcome));
         let expected = Answer::expected(&outcome, buffer_len);
         self.compare(&text, &lent, buffer_len, &expected);

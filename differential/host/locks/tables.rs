@@ -13,7 +13,7 @@ const TABLES: usize = 25;
 
 fn damaged(runs: &mut Runs, lent: &Lent) {
     let mut copy = lent.clone();
-    copy.store.extend([0; 70]);
+    copy.store.extend([0xcc; 70]);
     for i in entries(&lent.table, &mut runs.prng) {
         for value in other_values(lent.table[i], &mut runs.prng) {
             copy.table[i] = value;

@@ -2,6 +2,7 @@
 
 mod damage;
 mod limits;
+mod marked;
 mod random;
 mod readings;
 pub mod tables;
@@ -13,6 +14,7 @@ use readings::Readings;
 pub fn run(report: &mut Report) {
     let prng = Prng::new(3);
     let mut readings = Readings { report, prng };
+    marked::run(&mut readings);
     limits::run(&mut readings);
     damage::run(&mut readings);
     tables::run(&mut readings);

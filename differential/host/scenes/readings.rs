@@ -50,6 +50,16 @@ impl Readings<'_> {
             .compare("read_scene", size, input, &result, &expected);
     }
 
+    /// A text of which document 01 says the number.
+    pub fn expect(&mut self, number: u32, text: &str, store_len: usize, table_len: usize) {
+        let result = read(scene::read, text.as_bytes(), store_len, table_len, 0);
+        let input = || format!("store of {store_len}, table of {table_len}, {text:?}");
+        let name = "plain reader by document 01";
+        self.report
+            .compare(name, text.len(), input, &result.number, &number);
+        self.scene_in(text.as_bytes(), store_len, table_len);
+    }
+
     /// A text, with a store that is long enough and one that may not be.
     pub fn scene(&mut self, text: &[u8]) {
         let enough = text.len() / 2;

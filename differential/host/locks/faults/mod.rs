@@ -47,6 +47,30 @@ pub struct Row {
     pub faults: Vec<Fault>,
     /// Whether the scene is long.
     pub long: bool,
+    /// What document 01 says of requests and digest, where that is checked too.
+    pub made: Option<Made>,
+}
+
+/// The requests that are made, of a plan in which every entry gives a proof.
+#[derive(Clone, Copy)]
+pub enum Made {
+    /// None, and no digest is reached.
+    Nothing,
+    /// So many, the digest being reached.
+    Requests(usize),
+    /// All but so many.
+    AllBut(usize),
+}
+
+impl Made {
+    /// The number of requests, and whether there is a digest.
+    pub fn of(self, proofs: usize) -> (usize, bool) {
+        match self {
+            Made::Nothing => (0, false),
+            Made::Requests(count) => (count, true),
+            Made::AllBut(count) => (proofs - count, true),
+        }
+    }
 }
 
 const ALL: &[u8] = &[1, 2, 3];
@@ -62,6 +86,7 @@ fn row(number: i8, operations: &'static [u8], name: &str, fault: Fault) -> Row {
         number,
         faults: vec![fault],
         long: false,
+        made: None,
     }
 }
 
@@ -83,6 +108,11 @@ impl Row {
         self.long = true;
         self
     }
+
+    fn made(mut self, made: Made) -> Self {
+        self.made = Some(made);
+        self
+    }
 }
 
 pub fn rows() -> Vec<Row> {
@@ -92,6 +122,10 @@ pub fn rows() -> Vec<Row> {
     rows.extend(cells::rows());
     rows.extend(states::rows());
     rows.extend(transition::rows());
+    // These come before the digest.
+    for row in rows.iter_mut().filter(|row| row.number != 0) {
+        row.made = Some(Made::Nothing);
+    }
     rows.extend(proofs::rows());
     rows.extend(requests::rows());
     rows

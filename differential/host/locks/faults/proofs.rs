@@ -1,6 +1,7 @@
 //! The rows of a proof's layout, its slot, capability and verifier.
 
 use super::parts::{add_u32, put_u32, set, shorten, u32_at};
+use super::Made::{AllBut, Requests};
 use super::{on_plan, on_scene, row, Fault, Part, Row, ALL, SPEND};
 use crate::locks::plan::{capability, Plan};
 use ckb_account_host::Proof;
@@ -21,19 +22,22 @@ fn layout_rows() -> Vec<Row> {
             ALL,
             "first proof's zeros",
             on_lock(|lock, _| set(lock, 18, 1)),
-        ),
+        )
+        .made(Requests(0)),
         row(
             22,
             ALL,
             "first proof's second zero",
             on_lock(|lock, _| set(lock, 19, 1)),
-        ),
+        )
+        .made(Requests(0)),
         row(
             22,
             ALL,
             "first proof of length 0",
             on_lock(|lock, _| put_u32(lock, 20, 0)),
-        ),
+        )
+        .made(Requests(0)),
         row(
             22,
             ALL,
@@ -41,7 +45,8 @@ fn layout_rows() -> Vec<Row> {
             on_lock(|lock, _| {
                 put_u32(lock, 20, u32::MAX as usize);
             }),
-        ),
+        )
+        .made(Requests(0)),
         row(
             22,
             ALL,
@@ -50,7 +55,8 @@ fn layout_rows() -> Vec<Row> {
                 let at = second(lock);
                 set(lock, at + 2, 1);
             }),
-        ),
+        )
+        .made(Requests(1)),
         row(
             22,
             ALL,
@@ -59,7 +65,8 @@ fn layout_rows() -> Vec<Row> {
                 let at = second(lock);
                 put_u32(lock, at + 4, 0);
             }),
-        ),
+        )
+        .made(Requests(1)),
         row(
             22,
             ALL,
@@ -69,7 +76,8 @@ fn layout_rows() -> Vec<Row> {
                 let length = lock.len();
                 put_u32(lock, at + 4, length);
             }),
-        ),
+        )
+        .made(Requests(1)),
         row(
             22,
             ALL,
@@ -78,13 +86,15 @@ fn layout_rows() -> Vec<Row> {
                 let count = lock.get(6).map_or(0, |count| count + 1);
                 set(lock, 6, count);
             }),
-        ),
+        )
+        .made(AllBut(0)),
         row(
             22,
             ALL,
             "lock one byte short",
             on_lock(|lock, _| shorten(lock)),
-        ),
+        )
+        .made(AllBut(1)),
         row(
             22,
             ALL,
@@ -100,21 +110,25 @@ fn slot_rows() -> Vec<Row> {
             if let [first, second, ..] = &mut plan.lock.proofs[..] {
                 second.slot = first.slot;
             }
-        }),
+        })
+        .made(Requests(1)),
         on_plan(22, ALL, "slots that fall", |plan, _| {
             plan.lock.proofs.reverse()
-        }),
+        })
+        .made(Requests(1)),
         on_plan(22, ALL, "last slot unknown", |plan, _| {
             if let Some(last) = plan.lock.proofs.last_mut() {
                 last.slot = NO_SLOT;
             }
-        }),
+        })
+        .made(AllBut(1)),
         on_plan(22, ALL, "only slot unknown", |plan, _| {
             plan.lock.proofs = vec![Proof {
                 slot: NO_SLOT,
                 bytes: vec![1],
             }];
-        }),
+        })
+        .made(Requests(0)),
     ]
 }
 
@@ -149,10 +163,12 @@ fn verifier_rows() -> Vec<Row> {
             if let [_, .., last] = &mut plan.state.authenticators[..] {
                 last.capabilities &= !bit;
             }
-        }),
+        })
+        .made(AllBut(1)),
         on_scene(30, ALL, "no verifier", |scene, plan, _| {
             scene.deps.retain(|cell| !is_verifier(cell, plan));
-        }),
+        })
+        .made(Requests(0)),
         on_scene(
             30,
             ALL,
@@ -160,24 +176,28 @@ fn verifier_rows() -> Vec<Row> {
             |scene, plan, _| {
                 swap_hashes(scene, plan);
             },
-        ),
+        )
+        .made(Requests(0)),
         on_scene(30, ALL, "verifier twice", |scene, plan, prng| {
             let cells = verifier(scene, plan);
             let place = prng.up_to(scene.deps.len());
             cells
                 .into_iter()
                 .for_each(|cell| scene.deps.insert(place, cell));
-        }),
+        })
+        .made(Requests(0)),
         on_scene(0, ALL, "verifier among outputs too", |scene, plan, _| {
             let cells = verifier(scene, plan);
             scene.outputs.extend(cells);
-        }),
+        })
+        .made(AllBut(0)),
         on_plan(0, SPEND, "the state's cell is its verifier", |plan, _| {
             for auth in &mut plan.state.authenticators {
                 auth.verifier_hash_type = 1;
                 auth.verifier_code_hash = plan.id;
             }
-        }),
+        })
+        .made(AllBut(0)),
     ]
 }
 

@@ -2,6 +2,7 @@
 
 use super::parts::{set, shorten};
 use super::proofs::second;
+use super::Made::{AllBut, Requests};
 use super::{on_plan, row, Fault, Part, Row, ALL};
 use crate::locks::plan::Plan;
 use crate::prng::Prng;
@@ -18,37 +19,46 @@ fn request_rows() -> Vec<Row> {
     vec![
         on_plan(0, ALL, "aux 4,096", |plan, prng| {
             lengths(plan, prng, 4_096, 9)
-        }),
+        })
+        .made(AllBut(0)),
         on_plan(35, ALL, "aux 4,097", |plan, prng| {
             lengths(plan, prng, 4_097, 9)
-        }),
+        })
+        .made(Requests(0)),
         on_plan(0, ALL, "proof 65,536", |plan, prng| {
             lengths(plan, prng, 9, 65_536)
         })
+        .made(AllBut(0))
         .long(),
         on_plan(35, ALL, "proof 65,537", |plan, prng| {
             lengths(plan, prng, 9, 65_537)
         })
+        .made(Requests(0))
         .long(),
         on_plan(0, ALL, "request of 69,728", |plan, prng| {
             lengths(plan, prng, 4_096, 65_536)
         })
+        .made(AllBut(0))
         .long(),
         on_plan(39, ALL, "request of 69,729", |plan, prng| {
             lengths(plan, prng, 4_097, 65_536)
         })
+        .made(Requests(0))
         .long(),
         on_plan(35, ALL, "aux 4,097 in 69,728", |plan, prng| {
             lengths(plan, prng, 4_097, 65_535)
         })
+        .made(Requests(0))
         .long(),
         on_plan(39, ALL, "aux 5,000, proof 65,536", |plan, prng| {
             lengths(plan, prng, 5_000, 65_536);
         })
+        .made(Requests(0))
         .long(),
         on_plan(35, ALL, "aux 5,000, proof 65,537", |plan, prng| {
             lengths(plan, prng, 5_000, 65_537);
         })
+        .made(Requests(0))
         .long(),
     ]
 }
@@ -57,31 +67,37 @@ fn verdict_rows() -> Vec<Row> {
     let failed = Fault::Plan(|plan, _| set(&mut plan.verdicts, 0, 2));
     let on_lock = |change| Fault::Bytes(Part::Lock, change);
     vec![
-        row(31, ALL, "first verdict 2", failed),
+        row(31, ALL, "first verdict 2", failed).made(Requests(1)),
         on_plan(31, ALL, "last verdict 2", |plan, _| {
             plan.verdicts
                 .iter_mut()
                 .last()
                 .into_iter()
                 .for_each(|digit| *digit = 2);
-        }),
-        on_plan(31, ALL, "no verdicts", |plan, _| plan.verdicts.clear()),
+        })
+        .made(AllBut(0)),
+        on_plan(31, ALL, "no verdicts", |plan, _| plan.verdicts.clear()).made(Requests(1)),
         on_plan(31, ALL, "a verdict short", |plan, _| {
             shorten(&mut plan.verdicts)
-        }),
+        })
+        .made(AllBut(0)),
         on_plan(0, ALL, "spare verdicts", |plan, _| {
             plan.verdicts.resize(16, 2)
-        }),
-        row(31, ALL, "verdict 2 before a proof's zeros", failed).and(on_lock(|lock, _| {
-            let at = second(lock);
-            set(lock, at + 2, 1);
-        })),
+        })
+        .made(AllBut(0)),
+        row(31, ALL, "verdict 2 before a proof's zeros", failed)
+            .made(Requests(1))
+            .and(on_lock(|lock, _| {
+                let at = second(lock);
+                set(lock, at + 2, 1);
+            })),
         row(
             22,
             ALL,
             "a byte behind the last proof",
             on_lock(|lock, _| lock.push(0)),
-        ),
+        )
+        .made(AllBut(0)),
         row(
             22,
             ALL,
@@ -90,10 +106,12 @@ fn verdict_rows() -> Vec<Row> {
                 let count = lock.get(6).map_or(0, |count| count.saturating_sub(1));
                 set(lock, 6, count);
             }),
-        ),
+        )
+        .made(AllBut(1)),
         on_plan(22, ALL, "refused, with a byte behind", |plan, _| {
             plan.verdicts.fill(1)
         })
+        .made(AllBut(0))
         .and(on_lock(|lock, _| lock.push(0))),
     ]
 }
@@ -111,9 +129,9 @@ fn demand_all(plan: &mut Plan) {
 
 fn threshold_rows() -> Vec<Row> {
     vec![
-        on_plan(28, ALL, "no proofs", |plan, _| plan.lock.proofs.clear()),
-        on_plan(28, ALL, "every verdict 1", |plan, _| plan.verdicts.fill(1)),
-        on_plan(0, ALL, "the whole weight", |plan, _| demand_all(plan)),
+        on_plan(28, ALL, "no proofs", |plan, _| plan.lock.proofs.clear()).made(Requests(0)),
+        on_plan(28, ALL, "every verdict 1", |plan, _| plan.verdicts.fill(1)).made(AllBut(0)),
+        on_plan(0, ALL, "the whole weight", |plan, _| demand_all(plan)).made(AllBut(0)),
         on_plan(
             28,
             ALL,
@@ -127,11 +145,13 @@ fn threshold_rows() -> Vec<Row> {
                     .take(1)
                     .for_each(|digit| *digit = 1);
             },
-        ),
+        )
+        .made(AllBut(0)),
         on_plan(28, ALL, "one proof short of the whole weight", |plan, _| {
             demand_all(plan);
             plan.lock.proofs.pop();
-        }),
+        })
+        .made(AllBut(1)),
     ]
 }
 
