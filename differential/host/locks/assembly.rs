@@ -6,6 +6,9 @@ use crate::prng::Prng;
 use ckb_std::{Cell, Input, Scene};
 use ckb_types::molecule::{byte_vector, table};
 
+/// The most lines of a kind.
+const MOST: usize = 64;
+
 /// The parts of a plan as bytes.
 pub struct Bytes {
     pub args: Vec<u8>,
@@ -65,7 +68,7 @@ fn insert<T>(prng: &mut Prng, list: &mut Vec<T>, item: T) {
     list.insert(place, item);
 }
 
-pub fn script(args: &[u8]) -> Vec<u8> {
+fn script(args: &[u8]) -> Vec<u8> {
     table(&[&[0x44; 32], &[1], &byte_vector(args)])
 }
 
@@ -148,4 +151,15 @@ pub fn scene(prng: &mut Prng, plan: &Plan, bytes: Bytes) -> Scene {
         deps,
         verdicts: plan.verdicts.clone(),
     }
+}
+
+/// As many lines of each kind as a scene may have.
+pub fn fill(scene: &mut Scene, prng: &mut Prng) {
+    while scene.inputs.len() < MOST {
+        let group = prng.up_to(1) == 1;
+        scene.inputs.push(plain_input(prng, group));
+    }
+    scene.outputs.resize_with(MOST, || plain_cell(prng));
+    scene.deps.resize_with(MOST, || plain_cell(prng));
+    scene.witnesses.resize(MOST, vec![7; 3]);
 }

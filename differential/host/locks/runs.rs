@@ -12,6 +12,9 @@ use crate::scene_text::text;
 use crate::table;
 use ckb_std::Scene;
 
+/// The answer buffer of runs over any table.
+const LENT: usize = 2_000;
+
 pub struct Runs<'a> {
     pub report: &'a mut Report,
     pub prng: Prng,
@@ -28,12 +31,18 @@ fn total(outcome: &Outcome) -> usize {
 }
 
 impl Runs<'_> {
-    fn compare(&mut self, text: &[u8], lent: &Lent, buffer_len: usize, expected: &Answer) {
-        let result = Answer::of_port(lent, buffer_len);
+    /// Runs the port's lock over what it is lent. `size` and `input` are the report's.
+    fn run(&mut self, lent: &Lent, expected: &Answer, size: usize, input: impl FnOnce() -> String) {
+        let result = Answer::of_port(lent, expected.buffer.0.len());
         self.report.answered("lock", result.number);
+        self.report.compare("lock", size, input, &result, expected);
+    }
+
+    /// The lock over a scene, with an answer buffer of this length.
+    fn compare(&mut self, text: &[u8], lent: &Lent, outcome: &Outcome, buffer_len: usize) {
+        let expected = Answer::expected(outcome, buffer_len);
         let input = || describe(text, buffer_len);
-        self.report
-            .compare("lock", text.len(), input, &result, expected);
+        self.run(lent, &expected, text.len(), input);
     }
 
     /// The port's reader leaves what the plain one does.
@@ -60,7 +69,7 @@ impl Runs<'_> {
         self.report
             .compare(rows, text.len(), input, &result, &(number, made));
         let lent = self.read(&text);
-        self.compare(&text, &lent, ENOUGH, &Answer::expected(&outcome, ENOUGH));
+        self.compare(&text, &lent, &outcome, ENOUGH);
     }
 
     /// A length of answer buffer: one too short, the total, some more, or enough for any scene.
@@ -81,8 +90,7 @@ impl Runs<'_> {
         let spare = [0, 0, 0, 40][self.prng.up_to(3)];
         lent.store.extend(self.prng.bytes(spare));
         let buffer_len = self.buffer_len(total(&outcome));
-        let expected = Answer::expected(&outcome, buffer_len);
-        self.compare(&text, &lent, buffer_len, &expected);
+        self.compare(&text, &lent, &outcome, buffer_len);
     }
 
     /// A scene, with answer buffers at and around the end of each request.
@@ -97,19 +105,17 @@ impl Runs<'_> {
             lengths.extend([end - request.len() / 2, end - 1, end, end + 1]);
         }
         for buffer_len in lengths {
-            let expected = Answer::expected(&outcome, buffer_len);
-            self.compare(&text, &lent, buffer_len, &expected);
+            self.compare(&text, &lent, &outcome, buffer_len);
         }
     }
 
     /// Any table and store: 7, or what the original says of the scene that they hold.
     pub fn lent(&mut self, lent: &Lent) {
-        let buffer_len = 2_000;
         let expected = match table::valid(&lent.table, lent.store.len()) {
-            true => Answer::expected(&original::lock(&lent.scene()), buffer_len),
-            false => Answer::no_table(buffer_len),
+            true => Answer::expected(&original::lock(&lent.scene()), LENT),
+            false => Answer::no_table(LENT),
         };
-        let table = format!("{:?}", lent.table);
-        self.compare(table.as_bytes(), lent, buffer_len, &expected);
+        let input = || format!("store of {}, table {:?}", lent.store.len(), lent.table);
+        self.run(lent, &expected, lent.table.len(), input);
     }
 }

@@ -3,7 +3,7 @@
 use super::parts::set;
 use super::{on_plan, on_scene, row, Fault, Part, Row, ALL, CHANGING, SPEND};
 use crate::formats::states;
-use crate::locks::assembly::{plain_input, typed_cell};
+use crate::locks::assembly::{fill, plain_input, typed_cell};
 use crate::locks::plan::Plan;
 use crate::prng::Prng;
 use ckb_std::{Cell, Input, Scene};
@@ -226,5 +226,11 @@ pub fn rows() -> Vec<Row> {
     rows.extend(changing_rows());
     rows.extend(type_script_rows());
     rows.extend(data_rows());
+    rows.push(
+        on_scene(0, ALL, "64 of each kind", |scene, _, prng| {
+            fill(scene, prng)
+        })
+        .long(),
+    );
     rows
 }

@@ -18,7 +18,7 @@ use ckb_std::Scene;
 pub use parts::damage;
 
 /// A part of the scene that has bytes of its own.
-#[derive(Clone, Copy, PartialEq)]
+#[derive(Clone, Copy)]
 pub enum Part {
     Args,
     Script,

@@ -3,6 +3,7 @@
 use super::parts::{add_u32, put_u32, set, shorten, u32_at};
 use super::Made::{AllBut, Requests};
 use super::{on_plan, on_scene, row, Fault, Part, Row, ALL, SPEND};
+use crate::locks::assembly::fill;
 use crate::locks::plan::{capability, Plan};
 use ckb_account_host::Proof;
 use ckb_std::{Cell, Scene};
@@ -186,6 +187,19 @@ fn verifier_rows() -> Vec<Row> {
                 .for_each(|cell| scene.deps.insert(place, cell));
         })
         .made(Requests(0)),
+        on_scene(
+            30,
+            ALL,
+            "64 of each kind, verifier twice",
+            |scene, plan, prng| {
+                let cell = verifier(scene, plan);
+                fill(scene, prng);
+                scene.deps.pop();
+                scene.deps.extend(cell);
+            },
+        )
+        .made(Requests(0))
+        .long(),
         on_scene(0, ALL, "verifier among outputs too", |scene, plan, _| {
             let cells = verifier(scene, plan);
             scene.outputs.extend(cells);
