@@ -1,8 +1,9 @@
-//! The lock over damaged tables and short stores.
+//! The lock over damaged tables, short stores and other bytes.
 
 use super::faults::build;
 use super::plan::Plan;
 use super::runs::Runs;
+use crate::changes;
 use crate::lent::Lent;
 use crate::scene::ENTRIES;
 use crate::scene_text::text;
@@ -35,6 +36,15 @@ fn shifted(runs: &mut Runs, lent: &Lent) {
     }
 }
 
+/// Any bytes of the store changed.
+fn bytes(runs: &mut Runs, lent: &Lent) {
+    for _ in 0..400 {
+        let mut copy = lent.clone();
+        copy.store = changes::random(&mut runs.prng, &lent.store);
+        runs.lent(&copy);
+    }
+}
+
 fn lengths(runs: &mut Runs, lent: &Lent) {
     let used = lent.store.len();
     for store_len in [0, 1, used / 2, used - 1, used, used + 1, used + 500] {
@@ -57,5 +67,6 @@ pub fn run(runs: &mut Runs) {
         damaged(runs, &lent);
         shifted(runs, &lent);
         lengths(runs, &lent);
+        bytes(runs, &lent);
     }
 }
