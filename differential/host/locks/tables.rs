@@ -7,7 +7,7 @@ use crate::changes;
 use crate::lent::Lent;
 use crate::scene::ENTRIES;
 use crate::scene_text::text;
-use crate::scenes::tables::{entries, other_values};
+use crate::scenes::tables::{any_counts, entries, other_values};
 
 /// How many scenes have their tables damaged in every entry.
 const TABLES: usize = 25;
@@ -60,6 +60,10 @@ fn lengths(runs: &mut Runs, lent: &Lent) {
 }
 
 pub fn run(runs: &mut Runs) {
+    for (table, used) in any_counts() {
+        let store = vec![0; used];
+        runs.lent(&Lent { store, table });
+    }
     for _ in 0..TABLES {
         let plan = Plan::random(&mut runs.prng);
         let scene = build(&mut runs.prng, plan, &[]);

@@ -4,7 +4,7 @@ use super::random::{scene, Most};
 use super::readings::Readings;
 use crate::lent::{filled, Lent};
 use crate::prng::Prng;
-use crate::scene::ENTRIES;
+use crate::scene::{DEP, ENTRIES, INPUT, OUTPUT, SCRIPT, TX, VERDICTS};
 use crate::scene_text::text;
 
 /// How many tables are damaged in every entry.
@@ -68,6 +68,43 @@ fn lengths(readings: &mut Readings, lent: &Lent) {
     readings.table(&longer, used);
 }
 
+/// A table with rows as the reader lays them out, for any number of lines of each kind, and the bytes they name.
+fn laid_out(counts: [u32; 7]) -> (Vec<u32>, usize) {
+    let mut table = [&[0], &counts[..]].concat();
+    let mut used = 0;
+    for kind in SCRIPT..=VERDICTS {
+        let (numbers, size): (&[u32], u32) = match kind {
+            TX => (&[], 32),
+            INPUT => (&[1, 7, 0, 2, 5], 71),
+            OUTPUT | DEP => (&[0, 5], 37),
+            VERDICTS => (&[2, 0, 1], 0),
+            _ => (&[3], 3),
+        };
+        for _ in 0..counts[kind - 1] {
+            table.push(used);
+            table.extend(numbers);
+            used += size;
+        }
+    }
+    table.resize(ENTRIES, 0);
+    (table, used as usize)
+}
+
+/// Tables in which nothing but the number of lines of a kind may be wrong, with the bytes they name.
+pub fn any_counts() -> Vec<(Vec<u32>, usize)> {
+    let mut tables = Vec::new();
+    for kind in SCRIPT..=VERDICTS {
+        for count in [0, 1, 2, 3, 63, 64, 65, 66, 100] {
+            for others in [0, 1, 64] {
+                let mut counts = [1, 1, others, others, others, others, 1];
+                counts[kind - 1] = count;
+                tables.push(laid_out(counts));
+            }
+        }
+    }
+    tables
+}
+
 fn most(turn: usize) -> Most {
     match turn {
         0 => Most {
@@ -84,6 +121,9 @@ fn most(turn: usize) -> Most {
 
 pub fn run(readings: &mut Readings) {
     readings.table(&[0; ENTRIES], 1_000);
+    for (table, used) in any_counts() {
+        readings.table(&table, used);
+    }
     for turn in 0..TABLES {
         let lent = Lent::read(&text(&scene(&mut readings.prng, most(turn))));
         damaged(readings, &lent);
