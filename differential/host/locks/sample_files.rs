@@ -5,6 +5,7 @@ use super::faults::{build, rows, Row};
 use super::plan::Plan;
 use super::record::answer_line;
 use crate::prng::Prng;
+use crate::scene::{self, ENTRIES};
 use crate::{original, scene_text};
 use std::{fs, io};
 
@@ -61,17 +62,24 @@ impl Samples<'_> {
         Ok(text)
     }
 
+    /// A text that the reader refuses with this number.
+    fn refused(&mut self, name: &str, text: &[u8], number: u32) -> io::Result<()> {
+        let (mut store, mut table) = (vec![0; text.len()], vec![0; ENTRIES]);
+        assert_eq!(scene::read(text, &mut store, &mut table), number, "{name}");
+        self.write(name, text, &format!("answer,{number},0,0,\n"))
+    }
+
     /// What the reader refuses, made of an accepted scene.
     fn reader(&mut self, accepted: &[u8]) -> io::Result<()> {
         let lines: Vec<&[u8]> = accepted.split_inclusive(|byte| *byte == 10).collect();
         let (first, rest) = lines.split_first().expect("a scene has lines");
-        self.write("02_line", &rest.concat(), "answer,2,0,0,\n")?;
+        self.refused("02_line", &rest.concat(), 2)?;
         let field = [b"script,0\n", &rest.concat()[..]].concat();
-        self.write("03_field", &field, "answer,3,0,0,\n")?;
+        self.refused("03_field", &field, 3)?;
         let tx_hash = rest.first().expect("a scene has a transaction hash");
         let witnesses = b"witness,\n".repeat(65);
         let many = [first, tx_hash, &witnesses[..], b"verdicts,\n"].concat();
-        self.write("04_too_many", &many, "answer,4,0,0,\n")
+        self.refused("04_too_many", &many, 4)
     }
 }
 
