@@ -3,7 +3,7 @@
 use super::tables;
 use crate::exports_transaction as exports;
 use crate::formats::calls::{numbered, place, Calls, Words};
-use crate::formats::changes;
+use crate::changes;
 use crate::hex::{hex, Hex};
 use ckb_account_lock::opened;
 
