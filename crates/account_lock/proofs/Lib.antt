@@ -1,1 +1,5 @@
 pub mod Answers
+pub mod Resolved
+pub mod Digested
+pub mod LockLaws
+pub mod LockTheorem

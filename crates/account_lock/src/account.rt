@@ -107,8 +107,7 @@ pub(crate) fn lock_account(
     let found = state.found;
     match found
         .and(check_states(table, store, lock, state))
-        .and(check_others(table, store))
-    {
+        .and(check_others(table, store)) {
         Check::Failed(error) => refused(error),
         Check::Passed => {
             let current = current_state(table, store, operation, state.current);

@@ -1,3 +1,13 @@
+use mathlib.Core.Path.{_≡_, refl, sym, ap, _∙_}
+use denote.Ref.{now}
+use Rattle.scene_table.specs.Lent.{lentScene}
+use mathlib.Core.Logic.{_↔_}
+use lib.ListN.{length}
+use Rattle.protocol.specs.declared.check.Check.the-variants.{Passed}
+use Rattle.decision.specs.Walk.{answered}
+use Rattle.account_lock.specs.Lock.{Result, refused, told, lockScene, lockOf}
+use Rattle.account_lock.specs.declared.answer.LockAnswer.{LockAnswer}
+use Rattle.account_lock.proofs.LockTheorem.{decided, lock-valid, lock-invalid}
 use borrow.Author.Needs.{needs}
 use Rattle.account_lock.proofs.lock.Statement.{statement}
 use Rattle.account_lock.proofs.lock.Tie as tie
@@ -25,11 +35,20 @@ same-length c = search needs
 
 -- src/lib.rt:44:1
 returns : tie.Need-returns
-returns c = ?
+returns c =
+    let p = c .before .before .before .before .before .before .before .before .before in
+    let valid = sym (c .before .before .before .before .before .table-valid .ensures) ∙ c .before .before .before .before .if1 .taken in
+    let same = sym (lock-valid (now (p .args .table)) (now (p .args .store)) (length (now (p .args .answer))) valid) in
+    decided (now (p .args .table)) (now (p .args .store)) (now (p .args .answer)) (c .before .before .lock-scene .ensures .0 ∙ ap told same) (c .before .before .lock-scene .ensures .1 ∙ ap (λ (x : Result). answered (now (p .args .answer)) (x .made)) same)
 
 -- src/lib.rt:44:1
 returns-2 : tie.Need-returns-2
-returns-2 c = ?
+unfolding answered refused
+returns-2 c =
+    let p = c .before .before .before .before .before .before in
+    let valid = sym (c .before .before .table-valid .ensures) ∙ c .before .if1 .left in
+    let same = sym (lock-invalid (now (p .args .table)) (now (p .args .store)) (length (now (p .args .answer))) valid) in
+    decided (now (p .args .table)) (now (p .args .store)) (now (p .args .answer)) (c .refused .ensures ∙ ap told same) (ap (λ (x : Result). answered (now (p .args .answer)) (x .made)) same)
 
 pub lock-spec : {M : Type 1} → statement M
 lock-spec =

@@ -1,3 +1,13 @@
+use mathlib.Core.Path.{_≡_, refl, sym, ap, _∙_}
+use denote.Ref.{now}
+use Rattle.protocol.specs.Rows.{decide, _▷_, _then_}
+use Rattle.protocol.proofs.Hold.{decide-append, decide-then}
+use Rattle.protocol.specs.declared.check.Check.the-variants.{Passed}
+use Rattle.scene_table.specs.Lent.{lentScene}
+use Rattle.state_transition.specs.Transition.{dataRows, transitionRows}
+use Rattle.account_lock.specs.Lock.{account, operation, witnessSequence, current, successor, stateRowsOf}
+use Rattle.account_lock.specs.Settled.{resolved}
+use Rattle.account_lock.proofs.Resolved.{state-current, state-since, state-successor}
 use borrow.Author.Needs.{needs}
 use Rattle.account_lock.proofs.account.check_states.Statement.{statement}
 use Rattle.account_lock.proofs.account.check_states.Tie as tie
@@ -46,7 +56,26 @@ and-requires c κs = search needs
 
 -- src/account.rt:73:1
 returns : tie.Need-returns
-returns c = ?
+unfolding stateRowsOf operation witnessSequence current successor resolved
+returns c =
+    let p = c .before .before .before .before .before .before .before .before .before .before .before in
+    let s = lentScene (now (p .args .table)) (now (p .args .store)) in
+    rw (
+      c .and .ensures,
+      c .before .validate-transition .ensures,
+      c .before .before .u64-at .ensures,
+      c .before .before .before .check-data .ensures,
+      c .before .before .before .before .state-since .ensures,
+      c .before .before .before .before .before .successor-state .ensures,
+      c .before .before .before .before .before .before .current-state .ensures,
+      c .before .before .before .before .before .before .before .u8-at .ensures,
+      p .pre .1,
+      p .pre .0,
+      state-since (operation s) (account s) s,
+      state-successor (operation s) (account s) s,
+      state-current (operation s) (account s) s,
+    )
+    (sym (decide-append Passed (dataRows _ _) _ ∙ decide-then _ (transitionRows _ _ _ _ _)))
 
 pub check-states-spec : {M : Type 1} → statement M
 check-states-spec =

@@ -1,3 +1,9 @@
+use mathlib.Core.Path.{_≡_, refl, sym, ap, _∙_}
+use denote.Ref.{now}
+use Rattle.scene_table.specs.Lent.{lentScene}
+use Rattle.state_transition.specs.Transition.{sequenceOf}
+use Rattle.authorization.specs.declared.digest.AuthorizationDigest.{AuthorizationDigest}
+use Rattle.account_lock.proofs.Digested.{id-kept, digest-given, sighash-given}
 use borrow.Author.Needs.{needs}
 use Rattle.account_lock.proofs.account.digest_of.Statement.{statement}
 use Rattle.account_lock.proofs.account.digest_of.Tie as tie
@@ -30,7 +36,13 @@ authorization-digest-requires c κs = search needs
 
 -- src/account.rt:31:1
 returns : tie.Need-returns
-returns c = ?
+unfolding sequenceOf
+returns c =
+    let p = c .before .before .before .before .before .before .before .before .before .before .before .before in
+    let s = lentScene (now (p .args .table)) (now (p .args .store)) in
+    ap (λ (q : AuthorizationDigest). q .digest) (c .before .authorization-digest .ensures)
+    ∙ rw (c .before .before .u64-at .ensures, c .before .before .before .before .canonical-group-sighash .ensures, c .before .before .before .before .before .before .store-bytes .ensures, id-kept (now (p .args .account-id)) (p .pre .whole), sighash-given s (p .pre .table))
+    (digest-given _ _ _ _ _ (p .pre .known))
 
 pub digest-of-spec : {M : Type 1} → statement M
 digest-of-spec =

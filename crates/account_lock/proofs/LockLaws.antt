@@ -1,0 +1,116 @@
+-- The lock's rows in the order in which the code goes through them, and what follows where they pass.
+-- Assumes nothing.
+use mathlib.Core.Path.{_≡_, refl, sym, ap, _∙_}
+use mathlib.Core.Bool.{Bool, true, false, cond}
+use mathlib.Core.List.{List, [], _∷_, _++_}
+use Prim.Native.Nat.{ℕ, _-_, _+_, _≤_, _<_}
+use native.Mathlib.Omega.{arith}
+use lib.Dec.{eqb, leb}
+use lib.ListN.{length, take, drop, length-drop}
+use lib.Seq.{length-take-le}
+use borrow.Author.Tests.{eqb-true, leb-true}
+use Rattle.octets.specs.Le.{numberAt}
+use Rattle.protocol.specs.Args.{argsRows, accountOf}
+use Rattle.protocol.specs.Policy.{isOperation}
+use Rattle.protocol.specs.Rows.{Row, Hold, decide, _▷_, _then_}
+use Rattle.protocol.proofs.Hold.{decide-append, decide-then, failed-passed, hold-split}
+use Rattle.protocol.specs.declared.error.ProtocolError.{ProtocolError}
+use Rattle.protocol.specs.declared.error.ProtocolError.the-variants.{InvalidWitness}
+use Rattle.protocol.specs.declared.check.Check.{Check}
+use Rattle.protocol.specs.declared.check.Check.the-variants.{Passed, Failed}
+use Rattle.molecule.specs.Table3.{tableRows}
+use Rattle.molecule.specs.Bytes as molecule
+use Rattle.account_witness.specs.Header.{headerRows}
+use Rattle.scene_table.specs.Scene.{Scene}
+use Rattle.group_sighash.specs.Witnesses.{firstWitness, lockIn, witnessRows, countRows, groupRows, otherRows}
+use Rattle.state_transition.specs.Resolve.{resolveRows, spendRows, changeRows, spendOf, changeOf, resolvedOf}
+use Rattle.account_lock.specs.Lock.{argsIn, accountIn, scriptRows, account, operation, stateRowsOf, lateRows, earlyRows, witnessLock, Result, refused, orWalked, walkResult, lateResult, lockScene}
+use Rattle.account_lock.specs.Settled.{Authorized, Named, resolved}
+
+pub then-passed : (a b : Check) → a then b ≡ Passed → (a ≡ Passed) × (b ≡ Passed)
+unfolding _then_
+then-passed Passed b e = (refl, e)
+then-passed (Failed x) b e = failed-passed x e
+
+pub resolved-found : (o : ℕ) (id : List ℕ) (s : Scene) → resolvedOf o id s .found ≡ decide Passed (resolveRows o id s)
+unfolding resolvedOf spendOf changeOf resolveRows
+resolved-found o id s = go (eqb o 1)
+  where
+    go : (b : Bool) → cond b (spendOf id s) (changeOf id s) .found ≡ decide Passed (cond b (spendRows id s) (changeRows id s))
+    go true = refl
+    go false = refl
+
+module _ (s : Scene) where
+  pub late-found : {a b c : Check} → a ≡ decide Passed (resolveRows (operation s) (account s) s) → b ≡ decide Passed (stateRowsOf s)
+      → c ≡ decide Passed (otherRows s) → (a then b) then c ≡ decide Passed (lateRows s)
+  unfolding lateRows
+  late-found {a} {b} {c} p q r =
+      let resolve = resolveRows (operation s) (account s) s in
+      rw (p, q, r)
+      (sym
+      (decide-append Passed resolve _
+      ∙ decide-append (decide Passed resolve) (stateRowsOf s) (otherRows s)
+      ∙ decide-then _ (otherRows s)
+      ∙ ap (λ (x : Check). x then decide Passed (otherRows s)) (decide-then (decide Passed resolve) (stateRowsOf s))))
+
+  pub early-found : {a b : Check} → a ≡ decide Passed (scriptRows (s .script)) → b ≡ decide Passed (groupRows s)
+      → decide Passed (earlyRows s) ≡ (a then b) then decide Passed (lateRows s)
+  unfolding earlyRows
+  early-found {a} {b} p q =
+      let script = scriptRows (s .script) in
+      rw (p, q)
+      (decide-append Passed script _
+      ∙ decide-append (decide Passed script) (groupRows s) (lateRows s)
+      ∙ decide-then _ (lateRows s)
+      ∙ ap (λ (x : Check). x then decide Passed (lateRows s)) (decide-then (decide Passed script) (groupRows s)))
+
+  pub late-refused : (room : ℕ) {c : Check} (e : ProtocolError) → c ≡ decide Passed (lateRows s) → c ≡ Failed e
+      → lateResult s room ≡ refused (Failed e)
+  unfolding lateResult orWalked
+  late-refused room e p q = rw (sym p ∙ q)
+
+  pub late-walked : (room : ℕ) {c : Check} → c ≡ decide Passed (lateRows s) → c ≡ Passed → lateResult s room ≡ walkResult s room
+  unfolding lateResult orWalked
+  late-walked room p q = rw (sym p ∙ q)
+
+  pub scene-refused : (room : ℕ) {a b : Check} (e : ProtocolError) → a ≡ decide Passed (scriptRows (s .script)) → b ≡ decide Passed (groupRows s)
+      → a then b ≡ Failed e → lockScene s room ≡ refused (Failed e)
+  unfolding lockScene orWalked _then_
+  scene-refused room e p q f = rw (early-found p q, f)
+
+  pub scene-late : (room : ℕ) {a b : Check} → a ≡ decide Passed (scriptRows (s .script)) → b ≡ decide Passed (groupRows s)
+      → a then b ≡ Passed → lockScene s room ≡ lateResult s room
+  unfolding lockScene lateResult _then_
+  scene-late room p q f = rw (early-found p q, f)
+
+-- the args of a script whose rows pass have the id's 32 bytes
+pub account-whole : (script : List ℕ) → Hold (scriptRows script) → length (accountIn script) ≡ 32
+unfolding scriptRows accountIn accountOf argsRows
+account-whole script h =
+    let split = hold-split (molecule.argsRows script) _ (h .1) in
+    let n : length (argsIn script) ≡ 33 = eqb-true _ _ (split .1 .0) in
+    let m : length (drop 1 (argsIn script)) ≡ length (argsIn script) - 1 = length-drop 1 (argsIn script) in
+    length-take-le 32 (drop 1 (argsIn script)) (omega arith)
+
+-- and a group whose rows pass has a table and an operation
+module _ (s : Scene) (h : Hold (groupRows s)) where
+  lock-rows : Hold (molecule.lockRows (firstWitness s)) × Hold (headerRows (lockIn (firstWitness s)) ++ countRows (lockIn (firstWitness s)))
+  unfolding groupRows witnessRows
+  lock-rows = hold-split (molecule.lockRows (firstWitness s)) _ (h .1 .1)
+
+  pub group-table : Hold (tableRows InvalidWitness (firstWitness s))
+  unfolding molecule.lockRows
+  group-table = hold-split (tableRows InvalidWitness (firstWitness s)) _ (lock-rows .0) .0
+
+  pub group-operation : isOperation (operation s) ≡ true
+  unfolding operation witnessLock headerRows
+  group-operation = hold-split (headerRows (lockIn (firstWitness s))) (countRows (lockIn (firstWitness s))) (lock-rows .1) .0 .1 .1 .1 .1 .0
+
+pub named-authorized : (id bytes : List ℕ) (s : Scene) → Named id bytes s → Authorized (numberAt bytes 5 1) id s
+unfolding operation account
+named-authorized id bytes s n =
+    record {
+      known = rw (n .witness) (group-operation s (n .group));
+      whole = rw (n .account) (account-whole (s .script) (n .script));
+      table = group-table s (n .group);
+    }

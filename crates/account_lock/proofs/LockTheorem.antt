@@ -1,0 +1,147 @@
+-- Demand 3: the lock accepts exactly where every earlier row passes and a quorum of the current state approves.
+-- Assumes nothing.
+use mathlib.Core.Path.{_≡_, refl, sym, ap, _∙_}
+use mathlib.Core.Logic.{_↔_}
+use mathlib.Core.Bool.{Bool, true, false, cond, true≢false}
+use mathlib.Core.List.{List, [], _∷_, _++_}
+use Prim.Native.Nat.{ℕ, _+_, _≤_, _<_, _%_}
+use native.Mathlib.Omega.{arith}
+use lib.Dec.{eqb, leb}
+use lib.ListN.{length, drop}
+use borrow.Author.Tests.{leb-true}
+use Rattle.octets.specs.Le.{numberAt}
+use Rattle.protocol.specs.Policy.{isOperation}
+use Rattle.protocol.specs.Rows.{Row, Hold, decide}
+use Rattle.protocol.proofs.Hold.{passed-hold, hold-passed, hold-split, failed-passed}
+use Rattle.protocol.specs.declared.error.ProtocolError.the-variants.{SlicesDisagree}
+use Rattle.protocol.specs.declared.check.Check.{Check}
+use Rattle.protocol.specs.declared.check.Check.the-variants.{Passed, Failed}
+use Rattle.account_state.specs.State as state
+use Rattle.scene_table.specs.Scene.{Scene}
+use Rattle.scene_table.specs.Lent.{lentScene}
+use Rattle.scene_table.specs.Valid.{validTable}
+use Rattle.group_sighash.specs.Witnesses.{groupRows, otherRows}
+use Rattle.state_transition.specs.Resolve.{resolveRows, stateSince}
+use Rattle.state_transition.specs.Transition.{dataRows, currentRows, successorRows, recoveryRows, changeRows, transitionRows}
+use Rattle.decision.specs.Proofs.{thresholdOf, settingFor}
+use Rattle.decision.specs.Walk.{walkLock, answered}
+use Rattle.decision.specs.Decision.{ProofsPass, Quorum, proofsOf}
+use Rattle.decision.proofs.DecisionTheorem.{lock-decides}
+use Rattle.account_lock.specs.Lock.{scriptRows, account, operation, witnessLock, witnessSequence, current, successor, stateRowsOf, lateRows, earlyRows, settingOf, digest, Result, refused, walked, orWalked, walkResult, lockScene, lockOf, told}
+use Rattle.account_lock.specs.declared.answer.LockAnswer.{LockAnswer}
+use Rattle.account_lock.specs.Decides.{EarlierPass, LockQuorum}
+use Rattle.account_lock.proofs.LockLaws.{group-operation}
+
+-- ---- the threshold is above zero
+
+-- a state whose rows pass has spend and rotate thresholds, and where recovery is on a recovery threshold
+pub record Thresholds (s : List ℕ) : Type 0 where
+  pub spend : 1 ≤ numberAt s 16 2
+  pub rotate : 1 ≤ numberAt s 18 2
+  pub recovery : eqb (numberAt s 5 1 % 2) 1 ≡ true → 1 ≤ numberAt s 20 2
+
+state-thresholds : (s : List ℕ) → Hold (state.stateRows s) → Thresholds s
+unfolding state.stateRows state.tailRows state.endRows state.recoveryRows
+state-thresholds s h =
+    let e = hold-split (state.entriesRows (numberAt s 22 1) (drop 32 s) 0) _ (hold-split (state.headRows s) _ h .1) .1 in
+    record {
+      spend = leb-true 1 _ (e .1 .0);
+      rotate = leb-true 1 _ (e .1 .1 .0);
+      recovery = λ on. leb-true 1 _ ((rw on at (e .1 .1 .1 .1 .1)) .0);
+    }
+
+module _ (s : Scene) (h : Hold (earlyRows s)) where
+  late : Hold (groupRows s) × Hold (lateRows s)
+  unfolding earlyRows
+  late = hold-split (groupRows s) _ (hold-split (scriptRows (s .script)) _ h .1)
+
+  transition : Hold (transitionRows (operation s) (witnessSequence s) (stateSince (operation s) (account s) s) (current s) (successor s))
+  unfolding lateRows stateRowsOf
+  transition =
+      let l = hold-split (resolveRows (operation s) (account s) s) _ (late .1) .1 in
+      hold-split (dataRows (current s) (successor s)) _ (hold-split (stateRowsOf s) (otherRows s) l .0) .1
+
+  thresholds : Thresholds (current s)
+  unfolding transitionRows currentRows
+  thresholds = state-thresholds (current s) (hold-split (state.stateRows (current s)) _ (hold-split (currentRows (witnessSequence s) (current s)) _ transition .0) .0)
+
+  -- only a recovery asks for recovery, and it is on then
+  recovery-on : eqb (operation s) 1 ≡ false → eqb (operation s) 3 ≡ true → eqb (numberAt (current s) 5 1 % 2) 1 ≡ true
+  unfolding transitionRows changeRows recoveryRows
+  recovery-on p q =
+      let c : Hold (changeRows (operation s) (stateSince (operation s) (account s) s) (current s) (successor s)) =
+      rw p at (hold-split (currentRows (witnessSequence s) (current s)) _ transition .1) in
+      let r = hold-split (successorRows (current s) (successor s)) _ c .1 in
+      (rw q at r) .0
+
+  pub threshold-above : 0 < thresholdOf (operation s) (current s)
+  unfolding thresholdOf isOperation
+  threshold-above = go (eqb (operation s) 1) (eqb (operation s) 2) (eqb (operation s) 3) refl refl refl
+    where
+      go : (a b c : Bool) → eqb (operation s) 1 ≡ a → eqb (operation s) 2 ≡ b → eqb (operation s) 3 ≡ c
+          → 0 < cond (eqb (operation s) 1) (numberAt (current s) 16 2) (cond (eqb (operation s) 2) (numberAt (current s) 18 2) (numberAt (current s) 20 2))
+      go true b c p q r = rw p (thresholds .spend)
+      go false true c p q r = rw (p, q) (thresholds .rotate)
+      go false false true p q r = rw (p, q) (thresholds .recovery (recovery-on p r))
+      go false false false p q r = absurd (true≢false (sym (rw (p, q, r) at (group-operation s (late .0)))))
+
+-- ---- what an acceptance follows from
+
+module _ (table store : List ℕ) (room : ℕ) where
+  -- an accepting result comes from the walk
+  from-walk : (k : Check) (w : Result) → orWalked k w .found ≡ Passed → (k ≡ Passed) × (w .found ≡ Passed)
+  unfolding orWalked refused
+  from-walk Passed w e = (refl, e)
+  from-walk (Failed x) w e = failed-passed x e
+
+  accepted : lockScene (lentScene table store) room .found ≡ Passed → validTable table (length store) ≡ true
+      → EarlierPass table store room × LockQuorum table store room
+  unfolding lockScene walkResult walked settingOf settingFor
+  accepted e v =
+      let s = lentScene table store in
+      let z = from-walk (decide Passed (earlyRows s)) (walkResult s room) e in
+      let early = passed-hold (earlyRows s) (z .0) in
+      let d = lock-decides (settingOf s room) (witnessLock s) (threshold-above s early) .0 (z .1) in
+      (record { valid = v; early = early; proofs = d .0 }, d .1)
+
+  pub lock-accepts : (lockOf table store room .found ≡ Passed) ↔ (EarlierPass table store room × LockQuorum table store room)
+  unfolding lockOf lockScene orWalked walkResult walked settingOf settingFor refused
+  lock-accepts = (there (validTable table (length store)) refl, back)
+    where
+      there : (b : Bool) → validTable table (length store) ≡ b
+          → cond b (lockScene (lentScene table store) room) (refused (Failed SlicesDisagree)) .found ≡ Passed
+          → EarlierPass table store room × LockQuorum table store room
+      there true v e = accepted e v
+      there false v e = failed-passed SlicesDisagree e
+
+      back : EarlierPass table store room × LockQuorum table store room → lockOf table store room .found ≡ Passed
+      back h =
+          let s = lentScene table store in
+          rw (h .0 .valid, hold-passed (earlyRows s) (h .0 .early))
+          (lock-decides (settingOf s room) (witnessLock s) (threshold-above s (h .0 .early)) .1 (h .0 .proofs, h .1))
+
+-- ---- what the lock promises, from what it found of its table
+
+-- the promises of an answer r and a buffer `after`, for a buffer `before`
+abbrev pub Promised : List ℕ → List ℕ → List ℕ → LockAnswer → List ℕ → Type 0
+Promised table store before r after =
+    (r ≡ told (lockOf table store (length before)))
+    × ((after ≡ answered before (lockOf table store (length before) .made))
+    × ((r .found ≡ Passed) ↔ (EarlierPass table store (length before) × LockQuorum table store (length before))))
+
+pub decided : (table store before : List ℕ) {r : LockAnswer} {after : List ℕ} → r ≡ told (lockOf table store (length before))
+    → after ≡ answered before (lockOf table store (length before) .made) → Promised table store before r after
+unfolding told
+decided table store before e k =
+    let f = ap (λ (x : LockAnswer). x .found) e in
+    let d = lock-accepts table store (length before) in
+    (e, (k, (λ h. d .0 (sym f ∙ h), λ q. f ∙ d .1 q)))
+
+module _ (table store : List ℕ) (room : ℕ) where
+  pub lock-valid : validTable table (length store) ≡ true → lockOf table store room ≡ lockScene (lentScene table store) room
+  unfolding lockOf
+  lock-valid v = rw v
+
+  pub lock-invalid : validTable table (length store) ≡ false → lockOf table store room ≡ refused (Failed SlicesDisagree)
+  unfolding lockOf
+  lock-invalid v = rw v
