@@ -7,11 +7,11 @@ mod exports;
 #[cfg(originals)]
 mod formats;
 mod hash;
-#[cfg(all(originals, lock))]
+#[cfg(originals)]
 #[allow(dead_code)]
 #[path = "../host/lent.rs"]
 mod lent;
-#[cfg(all(originals, lock))]
+#[cfg(originals)]
 mod lock;
 #[allow(dead_code)]
 #[path = "../host/prng.rs"]
@@ -24,7 +24,7 @@ mod scene;
 mod scene_exports;
 #[path = "scene.rs"]
 mod scene_speed;
-#[cfg(all(originals, lock))]
+#[cfg(originals)]
 #[path = "../host/scene_text.rs"]
 mod scene_text;
 
@@ -33,6 +33,6 @@ fn main() {
     scene_speed::run();
     #[cfg(originals)]
     formats::run();
-    #[cfg(all(originals, lock))]
+    #[cfg(originals)]
     lock::run();
 }

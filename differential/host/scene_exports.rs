@@ -14,7 +14,6 @@ mod library {
         pub fn fowlcredenza_table_valid(table: *const u32, table_len: usize, store_len: u64)
             -> u32;
     }
-    #[cfg(lock)]
     #[link(name = "exports_lock", kind = "static")]
     unsafe extern "C" {
         pub fn fowlcredenza_lock(
@@ -50,7 +49,6 @@ pub fn table_valid(table: &[u32], store_len: usize) -> u32 {
 }
 
 /// Runs the lock. `out` takes count, length and 1 where there is a digest, as 64-bit words, then the digest.
-#[cfg(lock)]
 pub fn lock(table: &[u32], store: &[u8], answer: &mut [u8], out: &mut [u8]) -> u32 {
     unsafe {
         library::fowlcredenza_lock(
