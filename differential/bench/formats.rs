@@ -6,15 +6,15 @@ use ckb_account_protocol::{validate_state, ALG_MLDSA44, OP_SPEND, VERIFIER_ABI_V
 use std::hint::black_box;
 use std::time::{Duration, Instant};
 
-const ROUNDS: usize = 300;
+pub const ROUNDS: usize = 300;
 /// Calls in one measurement.
-const CALLS: u32 = 100;
+pub const CALLS: u32 = 100;
 /// The aux of an ML-DSA-44 key: a profile byte and the key.
-const AUX: usize = 1_313;
+pub const AUX: usize = 1_313;
 /// The longest aux of which 16 fit a state of 16,384 bytes; of AUX bytes there is room for 11.
-const SHORTER_AUX: usize = 942;
+pub const SHORTER_AUX: usize = 942;
 /// An ML-DSA-44 signature.
-const PROOF: usize = 2_420;
+pub const PROOF: usize = 2_420;
 
 /// The time of CALLS calls.
 fn time(f: &mut dyn FnMut()) -> Duration {
@@ -26,7 +26,7 @@ fn time(f: &mut dyn FnMut()) -> Duration {
 }
 
 /// Prints the best time of each, taken in turn so that a disturbance meets both alike.
-fn print_row(name: &str, original: &mut dyn FnMut(), port: &mut dyn FnMut()) {
+pub fn print_row(name: &str, original: &mut dyn FnMut(), port: &mut dyn FnMut()) {
     let mut best = [Duration::MAX; 2];
     for _ in 0..ROUNDS {
         best[0] = time(original).min(best[0]);
@@ -37,7 +37,7 @@ fn print_row(name: &str, original: &mut dyn FnMut(), port: &mut dyn FnMut()) {
     println!("{name:48} {rust:8.1} {rattle:8.1} {ratio:12.2}");
 }
 
-fn state(entries: u16, aux_len: usize) -> AccountState {
+pub fn state(entries: u16, aux_len: usize) -> AccountState {
     let authenticator = |slot| Authenticator {
         slot,
         algorithm_id: ALG_MLDSA44,

@@ -7,18 +7,32 @@ mod exports;
 #[cfg(originals)]
 mod formats;
 mod hash;
+#[cfg(originals)]
+#[allow(dead_code)]
+#[path = "../host/lent.rs"]
+mod lent;
+#[cfg(originals)]
+mod lock;
 #[allow(dead_code)]
 #[path = "../host/prng.rs"]
 mod prng;
 #[allow(dead_code)]
 #[path = "../host/scene.rs"]
 mod scene;
+#[allow(dead_code)]
+#[path = "../host/scene_exports.rs"]
+mod scene_exports;
 #[path = "scene.rs"]
 mod scene_speed;
+#[cfg(originals)]
+#[path = "../host/scene_text.rs"]
+mod scene_text;
 
 fn main() {
     hash::run();
     scene_speed::run();
     #[cfg(originals)]
     formats::run();
+    #[cfg(originals)]
+    lock::run();
 }

@@ -2,37 +2,13 @@
 
 use crate::prng::Prng;
 use crate::scene::{self, ENTRIES};
+use crate::scene_exports::read_scene;
 use std::hint::black_box;
 use std::time::{Duration, Instant};
 
 const ROUNDS: usize = 2000;
 /// Bytes in one measurement, at least.
 const BYTES: usize = 1 << 16;
-
-#[link(name = "exports_scene", kind = "static")]
-unsafe extern "C" {
-    fn fowlcredenza_read_scene(
-        scene: *const u8,
-        scene_len: usize,
-        store: *mut u8,
-        store_len: usize,
-        table: *mut u32,
-        table_len: usize,
-    ) -> u32;
-}
-
-fn port(scene: &[u8], store: &mut [u8], table: &mut [u32]) -> u32 {
-    unsafe {
-        fowlcredenza_read_scene(
-            scene.as_ptr(),
-            scene.len(),
-            store.as_mut_ptr(),
-            store.len(),
-            table.as_mut_ptr(),
-            table.len(),
-        )
-    }
-}
 
 /// Random digits: a reader that guesses them by branches is slow on them.
 fn hex(random: &mut Prng, length: usize) -> String {
@@ -83,7 +59,7 @@ fn print_row(name: &str, lines: usize, length: usize) {
     let mut rust = (vec![0; length / 2], vec![0; ENTRIES]);
     let mut rattle = rust.clone();
     assert_eq!(scene::read(&scene, &mut rust.0, &mut rust.1), 0);
-    assert_eq!(port(&scene, &mut rattle.0, &mut rattle.1), 0);
+    assert_eq!(read_scene(&scene, &mut rattle.0, &mut rattle.1), 0);
     assert_eq!(rust, rattle, "the readers differ");
     let reads = BYTES.div_ceil(scene.len()) as u32;
     let mut best = [Duration::MAX; 2];
@@ -94,7 +70,7 @@ fn print_row(name: &str, lines: usize, length: usize) {
         };
         best[0] = time(reads, &mut read).min(best[0]);
         let mut read = || {
-            black_box(port(black_box(&scene), &mut rattle.0, &mut rattle.1));
+            black_box(read_scene(black_box(&scene), &mut rattle.0, &mut rattle.1));
         };
         best[1] = time(reads, &mut read).min(best[1]);
     }

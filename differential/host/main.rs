@@ -1,6 +1,10 @@
 //! Runs the port beside the original and compares. A comparison is a module with a function `run`.
 //! `originals` is set where the original files are at hand; what needs none runs without them too.
+//! Without arguments all is compared; `--long` takes many more random scenes of the lock. `--record FILE` writes scenes
+//! with the original's answers into a file, and `--samples FOLDER` sample scenes into a folder.
 
+#[cfg_attr(not(originals), allow(dead_code))]
+mod changes;
 #[cfg_attr(not(originals), allow(dead_code))]
 mod exports;
 #[cfg(originals)]
@@ -9,14 +13,22 @@ mod exports_transaction;
 mod formats;
 mod hash;
 mod hex;
+mod lent;
+#[cfg(originals)]
+mod locks;
 #[cfg(originals)]
 mod original;
 mod prng;
 mod report;
 #[cfg(originals)]
 mod samples;
+mod scene;
+mod scene_exports;
+mod scene_text;
+mod scenes;
 #[cfg(originals)]
 mod smoke;
+mod table;
 #[cfg(originals)]
 mod transaction;
 mod vectors;
@@ -24,7 +36,7 @@ mod vectors;
 use report::Report;
 use std::process::ExitCode;
 
-fn main() -> ExitCode {
+fn compare(long: bool) -> ExitCode {
     let mut report = Report::new();
     vectors::run(&mut report);
     #[cfg(originals)]
@@ -34,9 +46,43 @@ fn main() -> ExitCode {
     formats::run(&mut report);
     #[cfg(originals)]
     transaction::run(&mut report);
+    scenes::run(&mut report);
+    #[cfg(originals)]
+    locks::run(&mut report, long);
+    #[cfg(not(originals))]
+    let _ = long;
     if report.print() {
         ExitCode::SUCCESS
     } else {
         ExitCode::FAILURE
+    }
+}
+
+/// Whether a file was written.
+#[cfg(originals)]
+fn written(result: std::io::Result<()>) -> ExitCode {
+    match result {
+        Ok(()) => ExitCode::SUCCESS,
+        Err(error) => {
+            eprintln!("host: {error}");
+            ExitCode::FAILURE
+        }
+    }
+}
+
+fn main() -> ExitCode {
+    let arguments: Vec<String> = std::env::args().skip(1).collect();
+    let arguments: Vec<&str> = arguments.iter().map(String::as_str).collect();
+    match arguments[..] {
+        [] => compare(false),
+        ["--long"] => compare(true),
+        #[cfg(originals)]
+        ["--record", file] => written(locks::record::record(file)),
+        #[cfg(originals)]
+        ["--samples", folder] => written(locks::sample_files::write(folder)),
+        _ => {
+            eprintln!("host: takes nothing, --long, --record FILE or --samples FOLDER");
+            ExitCode::FAILURE
+        }
     }
 }

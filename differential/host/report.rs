@@ -73,17 +73,28 @@ impl Report {
     }
 
     /// Counts an answer of the port.
-    #[cfg(originals)]
     pub fn answered(&mut self, name: &'static str, number: u32) {
         *self.entry(name).answers.entry(number).or_default() += 1;
     }
 
     /// Expects that exactly these numbers, in rising order, were answered.
-    #[cfg(originals)]
     pub fn expect_answers(&mut self, name: &'static str, expected: &[u32]) {
         let answers: Vec<u32> = self.entry(name).answers.keys().copied().collect();
         let input = || format!("numbers that {name} answered");
         self.compare("answers", 0, input, &answers, &expected.to_vec());
+    }
+
+    /// Expects that exactly these numbers, in rising order, were answered, each so often at least.
+    #[cfg(originals)]
+    pub fn expect_each(&mut self, name: &'static str, expected: &[u32], least: usize) {
+        self.expect_answers(name, expected);
+        let answers = self.entry(name).answers.clone();
+        let seldom: Vec<u32> = answers
+            .into_iter()
+            .filter_map(|(number, count)| (count < least).then_some(number))
+            .collect();
+        let input = || format!("numbers that {name} answered less than {least} times");
+        self.compare("answers", 0, input, &seldom, &vec![]);
     }
 
     /// Prints a line for each name, mismatches below it, and the sum last. Returns whether all passed.

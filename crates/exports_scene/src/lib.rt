@@ -1,10 +1,11 @@
-// The scene reader for programs in other languages.
-use protocol::Check;
-use protocol::error_number;
+// The scene reader and the table's test for programs in other languages.
+use export_answers::check_number;
 ghost use mathlib.Core.Path.{_≡_};
+ghost use mathlib.Core.Bool.{cond};
 ghost use lib.ListN.{length};
 ghost use Rattle.protocol.specs.Rows.{checkNumber};
 ghost use Rattle.scene_reader.specs.Reader.{readOf, answerOf, storeOf, tableOf};
+ghost use Rattle.scene_table.specs.Valid.{validTable};
 
 // Reads a scene into the store and the table, and returns document 01's number, 0 where it is accepted.
 #[no_mangle]
@@ -13,8 +14,17 @@ pub extern "C" fn fowlcredenza_read_scene(scene: &[u8], store: &mut [u8], table:
     ensures { λ _. ⌜ now (store .exit) ≡ storeOf (length (now (store .entry))) (readOf (now (scene .entry)) (length (now (store .entry))) (length (now (table .entry)))) ⌝ }
     ensures { λ _. ⌜ now (table .exit) ≡ tableOf (length (now (table .entry))) (readOf (now (scene .entry)) (length (now (store .entry))) (length (now (table .entry)))) ⌝ }
 {
-    match scene_reader::read_scene(scene, store, table) {
-        Check::Failed(error) => error_number(error) as u32,
-        Check::Passed => 0,
+    check_number(scene_reader::read_scene(scene, store, table))
+}
+
+// 1 where a scene leaves this table with a store of that many bytes, else 0.
+#[no_mangle]
+pub extern "C" fn fowlcredenza_table_valid(table: &[u32], store_len: u64) -> u32
+    ensures { λ r. ⌜ r ≡ cond (validTable (now (table .entry)) «store_len») 1 0 ⌝ }
+{
+    if scene_table::table_valid(table, store_len as usize) {
+        1
+    } else {
+        0
     }
 }

@@ -1,7 +1,7 @@
 //! The lock's args, algorithms and operations.
 
 use super::calls::{numbered, place, Calls, Words, DISAGREE};
-use super::changes;
+use crate::changes;
 use crate::exports;
 use crate::hex::Hex;
 use ckb_account_host::account_lock_args;

@@ -2,15 +2,14 @@
 
 mod args;
 pub mod calls;
-pub mod changes;
 mod proof;
 mod request;
 mod state;
 mod state_walk;
-mod states;
+pub mod states;
 mod witness;
 mod witness_walk;
-mod witnesses;
+pub mod witnesses;
 
 use crate::prng::Prng;
 use crate::report::Report;

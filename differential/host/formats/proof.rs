@@ -1,7 +1,7 @@
 //! The public-key proof: its reader and its writer.
 
 use super::calls::{numbered, place, Calls, Words};
-use super::changes;
+use crate::changes;
 use crate::exports;
 use ckb_account_host::encode_public_key_proof;
 use ckb_account_protocol::parse_public_key_proof;

@@ -1,7 +1,7 @@
 //! The verifier request: its reader and its writer.
 
 use super::calls::{numbered, place, Calls, Words, DISAGREE};
-use super::changes;
+use crate::changes;
 use crate::exports::{self, LentRequest};
 use crate::prng::Prng;
 use ckb_account_host::encode_verifier_request;

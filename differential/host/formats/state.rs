@@ -1,7 +1,8 @@
 //! The account state: its readers and its writer.
 
 use super::calls::{numbered, Calls, Words, DISAGREE};
-use super::{changes, state_walk, states};
+use super::{state_walk, states};
+use crate::changes;
 use crate::exports::{self, LentState};
 use crate::prng::Prng;
 use ckb_account_host::{encode_state, AccountState};

@@ -2,7 +2,8 @@
 
 use super::calls::{numbered, Calls, Words, DISAGREE};
 use super::witnesses::Witness;
-use super::{changes, witness_walk, witnesses};
+use super::{witness_walk, witnesses};
+use crate::changes;
 use crate::exports::{self, LentWitness};
 use crate::prng::Prng;
 use ckb_account_host::encode_witness;

@@ -1,7 +1,7 @@
 //! Scenes for the sighash: inputs of the group and foreign ones, and witnesses for some of them, for all, or for more.
 
 use super::tables;
-use crate::formats::changes;
+use crate::changes;
 use crate::prng::Prng;
 use crate::samples;
 use ckb_std::{Input, Scene};

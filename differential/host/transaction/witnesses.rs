@@ -1,9 +1,9 @@
 //! The lock of a witness, the args of a script, and the canonical witness.
 
 use super::tables;
+use crate::changes;
 use crate::exports_transaction as exports;
 use crate::formats::calls::{numbered, place, Calls, Words};
-use crate::formats::changes;
 use crate::hex::{hex, Hex};
 use ckb_account_lock::opened;
 

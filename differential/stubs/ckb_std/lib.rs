@@ -8,7 +8,7 @@ mod scene;
 pub mod syscalls;
 mod verifiers;
 
-pub use node::serve;
+pub use node::{serve, serve_shared};
 pub use scene::{Cell, Input, Scene};
 
 /// The original takes `Vec` from `alloc`; the allocator itself is the host's.

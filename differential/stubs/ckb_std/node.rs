@@ -5,9 +5,10 @@ use crate::error::SysError;
 use crate::verifiers::Verifiers;
 use crate::{Cell, Input, Scene};
 use std::cell::RefCell;
+use std::rc::Rc;
 
 pub(crate) struct Node {
-    pub(crate) scene: Scene,
+    pub(crate) scene: Rc<Scene>,
     pub(crate) verifiers: Verifiers,
 }
 
@@ -17,9 +18,14 @@ thread_local! {
 
 /// Runs a program over a scene. Returns its result and the requests that it made, in order.
 pub fn serve<R>(scene: &Scene, program: impl FnOnce() -> R) -> (R, Vec<Vec<u8>>) {
+    serve_shared(Rc::new(scene.clone()), program)
+}
+
+/// The same, over a scene that is not copied.
+pub fn serve_shared<R>(scene: Rc<Scene>, program: impl FnOnce() -> R) -> (R, Vec<Vec<u8>>) {
     NODE.set(Some(Node {
-        scene: scene.clone(),
         verifiers: Verifiers::new(&scene.verdicts),
+        scene,
     }));
     let result = program();
     let node = NODE.take().expect("the node stays while it serves");

@@ -1,0 +1,182 @@
+//! The rows of the current state and of its successor: both are read alike.
+
+use super::parts::{put_u16, set, shorten, u16_at};
+use super::{row, Fault, OnBytes, Part, Row, ALL, CHANGING};
+
+/// Where the first entry stands.
+const FIRST: usize = 32;
+
+/// Where the second entry stands, if there is one.
+fn second(state: &[u8]) -> usize {
+    FIRST + u16_at(state, FIRST)
+}
+
+/// Takes the aux of the first entry away, the lengths staying right.
+fn without_aux(state: &mut Vec<u8>) {
+    let (start, end) = (FIRST + 80, second(state));
+    if start < end && end <= state.len() {
+        state.drain(start..end);
+        put_u16(state, FIRST, 80);
+        put_u16(state, FIRST + 46, 0);
+    }
+}
+
+/// Moves the border between key and aux of the first entry by one.
+fn move_border(state: &mut [u8], key_len: usize) {
+    let both = u16_at(state, FIRST + 44) + u16_at(state, FIRST + 46);
+    put_u16(state, FIRST + 44, key_len);
+    put_u16(state, FIRST + 46, both.saturating_sub(key_len));
+}
+
+/// Sets flag 1 or clears it, with these numbers for recovery.
+fn recovery(state: &mut [u8], flag: u8, threshold: usize, since: u8) {
+    set(state, 5, flag);
+    put_u16(state, 20, threshold);
+    for at in 24..32 {
+        set(state, at, 0);
+    }
+    set(state, 24, since);
+}
+
+const HEADER: [(i8, &str, OnBytes); 17] = [
+    (21, "is empty", |state, _| state.clear()),
+    (21, "has 31 bytes", |state, _| state.truncate(31)),
+    (21, "has another magic", |state, _| set(state, 3, b'W')),
+    (32, "has version 0", |state, _| set(state, 4, 0)),
+    (32, "has version 2", |state, _| set(state, 4, 2)),
+    (21, "has another magic and version 2", |state, _| {
+        set(state, 0, 0);
+        set(state, 4, 2);
+    }),
+    (32, "has version 2 and flags 4", |state, _| {
+        set(state, 4, 2);
+        set(state, 5, 4);
+    }),
+    (21, "has flags 4", |state, _| set(state, 5, 4)),
+    (21, "has flags 0x80", |state, _| set(state, 5, 0x80)),
+    (21, "has header length 33", |state, _| set(state, 6, 33)),
+    (21, "has header length 288", |state, _| set(state, 7, 1)),
+    (21, "has byte 23 set", |state, _| set(state, 23, 1)),
+    (21, "has no entry", |state, _| set(state, 22, 0)),
+    (21, "has 17 entries", |state, _| set(state, 22, 17)),
+    (21, "has an entry less than it counts", |state, _| {
+        let count = state.get(22).map_or(0, |count| count + 1);
+        set(state, 22, count);
+    }),
+    (21, "has a byte behind", |state, _| state.push(0)),
+    (21, "is one byte short", |state, _| shorten(state)),
+];
+
+const ENTRIES: [(i8, &str, OnBytes); 17] = [
+    (21, "has an entry length one more", |state, _| {
+        let length = u16_at(state, FIRST);
+        put_u16(state, FIRST, length + 1);
+    }),
+    (21, "has an entry length one less", |state, _| {
+        let length = u16_at(state, FIRST);
+        put_u16(state, FIRST, length.saturating_sub(1));
+    }),
+    (21, "has an aux past its end", |state, _| {
+        let length = u16_at(state, FIRST);
+        put_u16(state, FIRST, length + 20_000);
+        let aux = u16_at(state, FIRST + 46);
+        put_u16(state, FIRST + 46, aux + 20_000);
+    }),
+    (21, "has weight 0", |state, _| put_u16(state, FIRST + 8, 0)),
+    (21, "has capability 0x0010", |state, _| {
+        put_u16(state, FIRST + 6, 0x17)
+    }),
+    (21, "has capability 0x8000", |state, _| {
+        put_u16(state, FIRST + 6, 0x8007)
+    }),
+    (30, "has hash type 2", |state, _| set(state, FIRST + 10, 2)),
+    (30, "has ABI 0", |state, _| set(state, FIRST + 11, 0)),
+    (30, "has ABI 2", |state, _| set(state, FIRST + 11, 2)),
+    (21, "has weight 0 and ABI 2", |state, _| {
+        put_u16(state, FIRST + 8, 0);
+        set(state, FIRST + 11, 2);
+    }),
+    (30, "has ABI 2 and algorithm 0", |state, _| {
+        set(state, FIRST + 11, 2);
+        put_u16(state, FIRST + 4, 0);
+    }),
+    (33, "has algorithm 0", |state, _| {
+        put_u16(state, FIRST + 4, 0)
+    }),
+    (33, "has algorithm 0x0301", |state, _| {
+        put_u16(state, FIRST + 4, 0x0301)
+    }),
+    (33, "has algorithm 0 and a key of 31", |state, _| {
+        put_u16(state, FIRST + 4, 0);
+        move_border(state, 31);
+    }),
+    (21, "has a key of 31", |state, _| move_border(state, 31)),
+    (21, "has a key of 33", |state, _| move_border(state, 33)),
+    (21, "has an empty aux", |state, _| without_aux(state)),
+];
+
+const THRESHOLDS: [(i8, &str, OnBytes); 9] = [
+    (38, "has spend threshold 0", |state, _| {
+        put_u16(state, 16, 0)
+    }),
+    (38, "has rotate threshold 0", |state, _| {
+        put_u16(state, 18, 0)
+    }),
+    (38, "has spend threshold 65,535", |state, _| {
+        light(state, 16)
+    }),
+    (38, "has rotate threshold 65,535", |state, _| {
+        light(state, 18)
+    }),
+    (38, "has recovery threshold 0", |state, _| {
+        recovery(state, 1, 0, 0)
+    }),
+    (38, "has recovery threshold 65,535", |state, _| {
+        recovery(state, 1, 1, 0);
+        light(state, 20);
+    }),
+    (21, "has a recovery threshold and no flag", |state, _| {
+        recovery(state, 0, 1, 0)
+    }),
+    (21, "has recovery_since and no flag", |state, _| {
+        recovery(state, 0, 0, 1)
+    }),
+    (
+        38,
+        "has spend threshold 0 and recovery_since",
+        |state, _| {
+            recovery(state, 0, 0, 1);
+            put_u16(state, 16, 0);
+        },
+    ),
+];
+
+/// One entry of weight 1, which does not reach the threshold there.
+fn light(state: &mut Vec<u8>, at: usize) {
+    state.truncate(second(state));
+    set(state, 22, 1);
+    put_u16(state, FIRST + 6, 7);
+    put_u16(state, FIRST + 8, 1);
+    put_u16(state, 16, 1);
+    put_u16(state, 18, 1);
+    put_u16(state, at, 65_535);
+}
+
+pub fn rows() -> Vec<Row> {
+    let mut rows = Vec::new();
+    for (number, name, change) in HEADER.iter().chain(&ENTRIES).chain(&THRESHOLDS) {
+        let state = format!("state {name}");
+        let fault = Fault::Bytes(Part::State, *change);
+        rows.push(row(*number, ALL, &state, fault));
+        let successor = format!("successor {name}");
+        let fault = Fault::Bytes(Part::Successor, *change);
+        rows.push(row(*number, CHANGING, &successor, fault));
+    }
+    let twice: OnBytes = |state, _| {
+        let (slot, next) = (u16_at(state, FIRST + 2), second(state));
+        put_u16(state, next + 2, slot);
+    };
+    let fault = Fault::Bytes(Part::State, twice);
+    rows.push(row(21, ALL, "state has a slot twice", fault));
+    rows
+}

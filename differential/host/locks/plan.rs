@@ -1,0 +1,125 @@
+//! What an account is about to do, before it becomes a scene.
+
+use crate::formats::states;
+use crate::formats::witnesses::Witness;
+use crate::prng::Prng;
+use ckb_account_host::{AccountState, Proof};
+
+pub struct Plan {
+    pub id: [u8; 32],
+    pub state: AccountState,
+    /// What a rotation or a recovery leaves.
+    pub successor: AccountState,
+    pub lock: Witness,
+    /// The since of the input that holds the state.
+    pub since: u64,
+    pub verdicts: Vec<u8>,
+}
+
+/// The bit that an operation asks of an entry.
+pub fn capability(operation: u8) -> u16 {
+    match operation {
+        1 => 1,
+        2 => 2,
+        _ => 4,
+    }
+}
+
+/// A valid state of so many entries, with recovery where that is the operation.
+fn state(prng: &mut Prng, operation: u8, entries: usize) -> AccountState {
+    loop {
+        let state = states::valid(prng, entries);
+        if operation != 3 || state.flags & 1 == 1 {
+            return state;
+        }
+    }
+}
+
+/// Lets entries share one code hash.
+fn share_verifiers(state: &mut AccountState) {
+    let hash = state.authenticators[0].verifier_code_hash;
+    for auth in &mut state.authenticators {
+        auth.verifier_code_hash = hash;
+    }
+}
+
+/// Mostly one entry, at times up to 16.
+fn entries(prng: &mut Prng) -> usize {
+    match prng.up_to(9) {
+        0..=5 => 1,
+        6..=8 => 2 + prng.up_to(1),
+        _ => 1 + prng.up_to(15),
+    }
+}
+
+impl Plan {
+    /// Every entry with the capability gives a proof, and each is approved.
+    pub fn of_state(prng: &mut Prng, operation: u8, state: AccountState) -> Self {
+        let bit = capability(operation);
+        let mut proofs = Vec::new();
+        for auth in &state.authenticators {
+            let length = 1 + prng.up_to(20);
+            if auth.capabilities & bit != 0 {
+                let (slot, bytes) = (auth.slot, prng.bytes(length));
+                proofs.push(Proof { slot, bytes });
+            }
+        }
+        let count = 1 + prng.up_to(1);
+        let mut successor = states::valid(prng, count);
+        successor.sequence = state.sequence.wrapping_add(1);
+        let later = [0, 1, prng.next()][prng.up_to(2)];
+        Plan {
+            id: prng.bytes(32).try_into().expect("32 bytes"),
+            successor,
+            verdicts: vec![0; proofs.len()],
+            lock: Witness {
+                operation,
+                sequence: state.sequence,
+                proofs,
+            },
+            since: state.recovery_since.saturating_add(later),
+            state,
+        }
+    }
+
+    /// A plan that the lock accepts.
+    pub fn valid(prng: &mut Prng, operation: u8, entries: usize) -> Self {
+        let mut state = state(prng, operation, entries);
+        if prng.up_to(1) == 1 {
+            share_verifiers(&mut state);
+        }
+        Plan::of_state(prng, operation, state)
+    }
+
+    /// The same, every entry having a small weight and every capability, and one entry of it being enough.
+    pub fn full(prng: &mut Prng, operation: u8, entries: usize) -> Self {
+        let mut state = state(prng, operation, entries);
+        for auth in &mut state.authenticators {
+            auth.capabilities |= 7;
+            auth.weight = 1 + prng.up_to(4) as u16;
+        }
+        state.spend_threshold = 1;
+        state.rotate_threshold = 1;
+        state.recovery_threshold = u16::from(state.flags & 1);
+        Plan::of_state(prng, operation, state)
+    }
+
+    /// Some proofs are left out, and verdicts are of every kind.
+    pub fn random(prng: &mut Prng) -> Self {
+        let operation = 1 + prng.up_to(2) as u8;
+        let count = entries(prng);
+        let mut plan = Plan::valid(prng, operation, count);
+        if prng.up_to(2) == 0 {
+            plan.lock.proofs.retain(|_| prng.up_to(3) > 0);
+        }
+        let spare = [0, 0, 0, 1, 16][prng.up_to(4)];
+        let digits = (plan.lock.proofs.len() + spare).min(16);
+        let refusing = prng.up_to(2) == 0;
+        let digit = |prng: &mut Prng| [0, 0, 0, 1, 1, 2][prng.up_to(5)];
+        plan.verdicts = vec![0; digits];
+        if refusing {
+            plan.verdicts.fill_with(|| digit(prng));
+        }
+        plan
+    }
+}

@@ -1,0 +1,137 @@
+//! A sample of scenes with the original's answers, for a program that replays them with no Rust at hand. Each record is
+//! the scene's length in decimal on a line of its own, the scene, and the answer line.
+
+use super::faults::{build, rows, Fault, Row};
+use super::plan::Plan;
+use super::{by_number, random_faults};
+use crate::original::{self, Outcome};
+use crate::prng::Prng;
+use crate::scene_text::text;
+use ckb_std::Scene;
+use std::collections::BTreeMap;
+use std::io;
+
+const SCENES: usize = 2_000;
+/// The length of a scene that counts as short.
+const SHORT: usize = 1_400;
+/// Numbers that need a long aux or a long proof, and how many scenes with them there are.
+const NEED_LONG: [(i8, usize); 2] = [(35, 12), (39, 2)];
+
+/// The line that the program prints.
+pub fn answer_line(outcome: &Outcome) -> String {
+    let length: usize = outcome.requests.iter().map(|request| request.0.len()).sum();
+    let digits = |byte: &u8| format!("{byte:02x}");
+    let digest = outcome.digest.iter().flat_map(|digest| &digest.0);
+    format!(
+        "answer,{},{},{length},{}\n",
+        outcome.number,
+        outcome.requests.len(),
+        digest.map(digits).collect::<String>()
+    )
+}
+
+struct Recorder {
+    prng: Prng,
+    /// How many scenes of each number are still wanted.
+    wanted: BTreeMap<i8, usize>,
+    out: Vec<u8>,
+}
+
+impl Recorder {
+    fn wants(&self, number: i8) -> bool {
+        self.wanted.get(&number).is_some_and(|left| *left > 0)
+    }
+
+    /// Takes the scene where one with its number is wanted.
+    fn offer(&mut self, scene: &Scene, longest: usize) {
+        let text = text(scene);
+        let outcome = original::lock(scene);
+        if text.len() > longest || !self.wants(outcome.number) {
+            return;
+        }
+        *self.wanted.get_mut(&outcome.number).expect("wanted") -= 1;
+        self.out.extend(format!("{}\n", text.len()).bytes());
+        self.out.extend(text);
+        self.out.extend(answer_line(&outcome).bytes());
+    }
+
+    /// A scene with just these faults.
+    fn with(&mut self, operation: u8, faults: &[Fault]) -> Scene {
+        let plan = Plan::full(&mut self.prng, operation, 2);
+        build(&mut self.prng, plan, faults)
+    }
+
+    /// Every row once for each operation.
+    fn each_row(&mut self, rows: &[Row]) {
+        let short = rows.iter().filter(|row| !row.long);
+        for row in short.filter(|row| row.number != 35) {
+            for operation in row.operations {
+                let scene = self.with(*operation, &row.faults);
+                self.offer(&scene, SHORT);
+            }
+        }
+    }
+
+    /// The shortest scenes for the numbers that need long ones.
+    fn long(&mut self, rows: &[Row]) {
+        for (number, count) in NEED_LONG {
+            let rows = rows.iter().filter(|row| row.number == number);
+            let row = rows.min_by_key(|row| row.long).expect("a row");
+            for turn in 0..count {
+                let operation = row.operations[turn % row.operations.len()];
+                let scene = self.with(operation, &row.faults);
+                self.offer(&scene, usize::MAX);
+            }
+        }
+    }
+
+    /// Accepted scenes with many proofs.
+    fn many_proofs(&mut self) {
+        for entries in [4, 8, 16] {
+            for operation in 1..=3 {
+                let plan = Plan::full(&mut self.prng, operation, entries);
+                let scene = build(&mut self.prng, plan, &[]);
+                self.offer(&scene, usize::MAX);
+            }
+        }
+    }
+
+    /// Scenes with random faults, until none is wanted.
+    fn random(&mut self, rows: &[Row]) {
+        let rows = by_number(rows);
+        while self.wanted.values().any(|left| *left > 0) {
+            let plan = Plan::random(&mut self.prng);
+            let faults = random_faults(&mut self.prng, &rows);
+            let scene = build(&mut self.prng, plan, &faults);
+            self.offer(&scene, SHORT);
+        }
+    }
+}
+
+/// How many scenes of each number there are: as many of one as of another where short scenes give it.
+fn shares(rows: &[Row]) -> BTreeMap<i8, usize> {
+    let mut shares: BTreeMap<i8, usize> = rows.iter().map(|row| (row.number, 0)).collect();
+    let long: usize = NEED_LONG.iter().map(|(_, count)| count).sum();
+    let (short, numbers) = (SCENES - long, shares.len() - NEED_LONG.len());
+    shares
+        .values_mut()
+        .for_each(|share| *share = short / numbers);
+    *shares.get_mut(&0).expect("accepted scenes") += short % numbers;
+    shares.extend(NEED_LONG);
+    shares
+}
+
+pub fn record(file: &str) -> io::Result<()> {
+    let rows = rows();
+    let mut recorder = Recorder {
+        prng: Prng::new(5),
+        wanted: shares(&rows),
+        out: Vec::new(),
+    };
+    recorder.long(&rows);
+    recorder.many_proofs();
+    recorder.each_row(&rows);
+    recorder.random(&rows);
+    println!("{SCENES} scenes, {} bytes", recorder.out.len());
+    std::fs::write(file, recorder.out)
+}

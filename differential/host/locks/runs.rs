@@ -1,0 +1,121 @@
+//! Runs of the port's lock, compared with the original's.
+
+use super::answer::{Answer, ENOUGH};
+use crate::hex::Hex;
+use crate::lent::Lent;
+use crate::original::{self, Outcome};
+use crate::prng::Prng;
+use crate::report::Report;
+use crate::scene::ENTRIES;
+use crate::scene_exports;
+use crate::scene_text::text;
+use crate::table;
+use ckb_std::Scene;
+
+/// The answer buffer of runs over any table.
+const LENT: usize = 2_000;
+
+pub struct Runs<'a> {
+    pub report: &'a mut Report,
+    pub prng: Prng,
+}
+
+/// What a mismatch prints of its input.
+fn describe(text: &[u8], buffer_len: usize) -> String {
+    let text = String::from_utf8_lossy(text);
+    format!("answer buffer of {buffer_len}, {text:?}")
+}
+
+fn total(outcome: &Outcome) -> usize {
+    outcome.requests.iter().map(|request| request.0.len()).sum()
+}
+
+impl Runs<'_> {
+    /// Runs the port's lock over what it is lent. `size` and `input` are the report's.
+    fn run(&mut self, lent: &Lent, expected: &Answer, size: usize, input: impl FnOnce() -> String) {
+        let result = Answer::of_port(lent, expected.buffer.0.len());
+        self.report.answered("lock", result.number);
+        self.report.compare("lock", size, input, &result, expected);
+    }
+
+    /// The lock over a scene, with an answer buffer of this length.
+    fn compare(&mut self, text: &[u8], lent: &Lent, outcome: &Outcome, buffer_len: usize) {
+        let expected = Answer::expected(outcome, buffer_len);
+        let input = || describe(text, buffer_len);
+        self.run(lent, &expected, text.len(), input);
+    }
+
+    /// The port's reader leaves what the plain one does.
+    fn read(&mut self, text: &[u8]) -> Lent {
+        let lent = Lent::read(text);
+        let (mut store, mut table) = (vec![0; lent.store.len()], vec![0; ENTRIES]);
+        let number = scene_exports::read_scene(text, &mut store, &mut table);
+        let same = (number, &store == &lent.store, table == lent.table);
+        let input = || String::from_utf8_lossy(text).into();
+        let expected = (0, true, true);
+        self.report
+            .compare("lock's scene read", text.len(), input, &same, &expected);
+        lent
+    }
+
+    /// A scene of which document 01 says the number, and maybe how many requests were made and whether there is a digest.
+    pub fn expect(&mut self, name: &str, scene: &Scene, number: i8, made: Option<(usize, bool)>) {
+        let outcome = original::lock(scene);
+        let text = text(scene);
+        let found = (outcome.requests.len(), outcome.digest.is_some());
+        let result = (outcome.number, made.map(|_| found));
+        let input = || format!("{name}, {}", describe(&text, ENOUGH));
+        let rows = "original by document 01's rows";
+        self.report
+            .compare(rows, text.len(), input, &result, &(number, made));
+        let lent = self.read(&text);
+        self.compare(&text, &lent, &outcome, ENOUGH);
+    }
+
+    /// A length of answer buffer: one too short, the total, some more, or enough for any scene.
+    fn buffer_len(&mut self, total: usize) -> usize {
+        match self.prng.up_to(7) {
+            0 => self.prng.up_to(total),
+            1 => total,
+            2 => ENOUGH,
+            _ => (total + self.prng.up_to(200)).min(ENOUGH),
+        }
+    }
+
+    /// A scene, with some answer buffer, and a store that may be longer than the scene's bytes.
+    pub fn any(&mut self, scene: &Scene) {
+        let outcome = original::lock(scene);
+        let text = text(scene);
+        let mut lent = self.read(&text);
+        let spare = [0, 0, 0, 40][self.prng.up_to(3)];
+        lent.store.extend(self.prng.bytes(spare));
+        let buffer_len = self.buffer_len(total(&outcome));
+        self.compare(&text, &lent, &outcome, buffer_len);
+    }
+
+    /// A scene, with answer buffers at and around the end of each request.
+    pub fn every_buffer(&mut self, scene: &Scene) {
+        let outcome = original::lock(scene);
+        let text = text(scene);
+        let lent = self.read(&text);
+        let mut end = 0;
+        let mut lengths = vec![0, 1];
+        for Hex(request) in &outcome.requests {
+            end += request.len();
+            lengths.extend([end - request.len() / 2, end - 1, end, end + 1]);
+        }
+        for buffer_len in lengths {
+            self.compare(&text, &lent, &outcome, buffer_len);
+        }
+    }
+
+    /// Any table and store: 7, or what the original says of the scene that they hold.
+    pub fn lent(&mut self, lent: &Lent) {
+        let expected = match table::valid(&lent.table, lent.store.len()) {
+            true => Answer::expected(&original::lock(&lent.scene()), LENT),
+            false => Answer::no_table(LENT),
+        };
+        let input = || format!("store of {}, table {:?}", lent.store.len(), lent.table);
+        self.run(lent, &expected, lent.table.len(), input);
+    }
+}

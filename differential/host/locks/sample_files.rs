@@ -1,0 +1,105 @@
+//! Sample scenes as files: a spend, a rotation, a recovery, and one for each number of the reader and of the lock that a
+//! scene of up to 65,536 bytes gives, with the answer to each in `answers.txt`.
+
+use super::faults::{build, rows, Row};
+use super::plan::Plan;
+use super::record::answer_line;
+use crate::prng::Prng;
+use crate::scene::{self, ENTRIES};
+use crate::{original, scene_text};
+use std::{fs, io};
+
+const LONGEST: usize = 65_536;
+
+/// Names, operations and rows.
+const ACCEPTED: [(&str, u8); 3] = [("spend", 1), ("rotation", 2), ("recovery", 3)];
+const REFUSED: [(&str, u8, &str); 17] = [
+    ("20_invalid_args", 1, "args of 32 bytes"),
+    ("21_invalid_state", 1, "state has weight 0"),
+    ("22_invalid_witness", 1, "second proof's zeros"),
+    ("23_state_not_found", 1, "no state among deps"),
+    ("24_duplicate_state", 1, "two states among deps"),
+    ("25_state_consumed_on_spend", 1, "id among foreign inputs"),
+    ("26_invalid_transition", 2, "no state among outputs"),
+    ("27_invalid_sequence", 2, "successor's sequence the same"),
+    ("28_threshold_unsatisfied", 1, "every verdict 1"),
+    ("29_invalid_capability", 1, "capability missing"),
+    ("30_invalid_verifier_ref", 1, "no verifier"),
+    ("31_verifier_failure", 1, "first verdict 2"),
+    ("32_unsupported_version", 1, "args starting 0x02"),
+    ("33_unsupported_algorithm", 1, "state has algorithm 0"),
+    ("34_recovery_locked", 3, "since one below"),
+    ("35_invalid_request", 1, "aux 4,097"),
+    (
+        "38_unsatisfiable_threshold",
+        1,
+        "state has spend threshold 0",
+    ),
+];
+
+struct Samples<'a> {
+    folder: &'a str,
+    prng: Prng,
+    answers: String,
+}
+
+impl Samples<'_> {
+    fn write(&mut self, name: &str, text: &[u8], answer: &str) -> io::Result<()> {
+        assert!(text.len() <= LONGEST, "{name} is too long for the program");
+        self.answers.push_str(&format!("{name}.scene {answer}"));
+        fs::write(format!("{}/{name}.scene", self.folder), text)
+    }
+
+    /// A scene of two entries with the faults of a row, and the original's answer.
+    fn lock(&mut self, name: &str, operation: u8, row: Option<&Row>) -> io::Result<Vec<u8>> {
+        let plan = Plan::full(&mut self.prng, operation, 2);
+        let faults = row.map_or(&[][..], |row| &row.faults);
+        let scene = build(&mut self.prng, plan, faults);
+        let outcome = original::lock(&scene);
+        assert_eq!(outcome.number, row.map_or(0, |row| row.number), "{name}");
+        let text = scene_text::text(&scene);
+        self.write(name, &text, &answer_line(&outcome))?;
+        Ok(text)
+    }
+
+    /// A text that the reader refuses with this number.
+    fn refused(&mut self, name: &str, text: &[u8], number: u32) -> io::Result<()> {
+        let (mut store, mut table) = (vec![0; text.len()], vec![0; ENTRIES]);
+        assert_eq!(scene::read(text, &mut store, &mut table), number, "{name}");
+        self.write(name, text, &format!("answer,{number},0,0,\n"))
+    }
+
+    /// What the reader refuses, made of an accepted scene.
+    fn reader(&mut self, accepted: &[u8]) -> io::Result<()> {
+        let lines: Vec<&[u8]> = accepted.split_inclusive(|byte| *byte == 10).collect();
+        let (first, rest) = lines.split_first().expect("a scene has lines");
+        self.refused("02_line", &rest.concat(), 2)?;
+        let field = [b"script,0\n", &rest.concat()[..]].concat();
+        self.refused("03_field", &field, 3)?;
+        let tx_hash = rest.first().expect("a scene has a transaction hash");
+        let witnesses = b"witness,\n".repeat(65);
+        let many = [first, tx_hash, &witnesses[..], b"verdicts,\n"].concat();
+        self.refused("04_too_many", &many, 4)
+    }
+}
+
+pub fn write(folder: &str) -> io::Result<()> {
+    let rows = rows();
+    let named = |name: &str| rows.iter().find(|row| row.name == name).expect("a row");
+    let mut samples = Samples {
+        folder,
+        prng: Prng::new(6),
+        answers: String::new(),
+    };
+    fs::create_dir_all(folder)?;
+    for (name, operation) in ACCEPTED {
+        let text = samples.lock(name, operation, None)?;
+        if operation == 1 {
+            samples.reader(&text)?;
+        }
+    }
+    for (name, operation, row) in REFUSED {
+        samples.lock(name, operation, Some(named(row)))?;
+    }
+    fs::write(format!("{folder}/answers.txt"), samples.answers)
+}

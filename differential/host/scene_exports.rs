@@ -1,0 +1,65 @@
+//! The reader of scenes and the lock, of two more static libraries, wrapped to take slices as those of `exports` are.
+
+mod library {
+    #[link(name = "exports_scene", kind = "static")]
+    unsafe extern "C" {
+        pub fn fowlcredenza_read_scene(
+            scene: *const u8,
+            scene_len: usize,
+            store: *mut u8,
+            store_len: usize,
+            table: *mut u32,
+            table_len: usize,
+        ) -> u32;
+        pub fn fowlcredenza_table_valid(table: *const u32, table_len: usize, store_len: u64)
+            -> u32;
+    }
+    #[link(name = "exports_lock", kind = "static")]
+    unsafe extern "C" {
+        pub fn fowlcredenza_lock(
+            table: *const u32,
+            table_len: usize,
+            store: *const u8,
+            store_len: usize,
+            answer: *mut u8,
+            answer_len: usize,
+            out: *mut u8,
+            out_len: usize,
+        ) -> u32;
+    }
+}
+
+/// Reads a scene into the store and the table.
+pub fn read_scene(scene: &[u8], store: &mut [u8], table: &mut [u32]) -> u32 {
+    unsafe {
+        library::fowlcredenza_read_scene(
+            scene.as_ptr(),
+            scene.len(),
+            store.as_mut_ptr(),
+            store.len(),
+            table.as_mut_ptr(),
+            table.len(),
+        )
+    }
+}
+
+/// 1 where some scene leaves this table with a store of that length, else 0.
+pub fn table_valid(table: &[u32], store_len: usize) -> u32 {
+    unsafe { library::fowlcredenza_table_valid(table.as_ptr(), table.len(), store_len as u64) }
+}
+
+/// Runs the lock. `out` takes count, length and 1 where there is a digest, as 64-bit words, then the digest.
+pub fn lock(table: &[u32], store: &[u8], answer: &mut [u8], out: &mut [u8]) -> u32 {
+    unsafe {
+        library::fowlcredenza_lock(
+            table.as_ptr(),
+            table.len(),
+            store.as_ptr(),
+            store.len(),
+            answer.as_mut_ptr(),
+            answer.len(),
+            out.as_mut_ptr(),
+            out.len(),
+        )
+    }
+}
