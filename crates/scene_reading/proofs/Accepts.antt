@@ -13,7 +13,7 @@ use Rattle.scene_line.specs.Kind.{place}
 use Rattle.scene_reader.specs.Reader.{Held, held, seenWith, run, start}
 use Rattle.scene_table.specs.Valid.{every}
 use Rattle.scene_reading.specs.Lines.{Passes, kindOfLine, countOk, formOk, bytesOfLine}
-use Rattle.scene_reading.proofs.Tests.{and-both, both-and}
+use Rattle.scene_table.proofs.Truth.{and-both, both-and}
 use Rattle.scene_reading.proofs.Order.{Order}
 use Rattle.scene_reading.proofs.Ordered.{order-kinds, kinds-order}
 use Rattle.scene_reading.proofs.Run.{LinesPass, Ran, putLines, lines-run, run-lines}

@@ -13,7 +13,7 @@ use Rattle.scene_line.specs.declared.kind.Kind.the-variants.{Input, Output, Dep
 use Rattle.scene_line.specs.Kind.{place}
 use Rattle.scene_reader.specs.Reader.{seenWith}
 use Rattle.scene_reading.specs.Lines.{times, kindsOf}
-use Rattle.scene_reading.proofs.Order.{place-small}
+use Rattle.scene_line.proofs.KindLaws.{place-small}
 use Rattle.scene_reading.proofs.Ordered.{bodyKinds, body-right}
 
 -- a table after the counts of lines of these kinds

@@ -1,4 +1,3 @@
-pub mod Tests
 pub mod Order
 pub mod Ordered
 pub mod Run
@@ -7,9 +6,6 @@ pub mod LineRows
 pub mod Says
 pub mod CountLaws
 pub mod Leaves
-pub mod FieldForms
-pub mod ReadingOk
-pub mod TableSize
 pub mod Theorem
 pub mod PrintLists
 pub mod PrintPieces

@@ -1,6 +1,6 @@
 -- What the reader puts down of a line is what its kind and its fields say.
 -- Assumes nothing.
-use Prim.Native.Nat.{ℕ, suc, _/_, _%_, _^_}
+use Prim.Native.Nat.{ℕ, zero, suc, _/_, _%_, _^_}
 use mathlib.Core.Bool.{true}
 use mathlib.Core.Path.{_≡_, refl, ap, _∙_}
 use mathlib.Core.List.{List, [], _∷_, map, append-assoc, append-nil}
@@ -10,6 +10,7 @@ use borrow.Author.Tests.{eqb-true}
 use Rattle.scene_text.specs.declared.decimal.Number.{Number}
 use Rattle.scene_text.specs.declared.decimal.Number.the-variants.{Is, Bad}
 use Rattle.scene_text.specs.Text.{hexVal, hexBytes}
+use Rattle.scene_text.proofs.HexLaws.{hex-length}
 use Rattle.scene_line.specs.declared.form.Form.the-variants.{Group, TypeHash, Hash, Hex, Digits}
 use Rattle.scene_line.specs.declared.kind.Kind.{Kind}
 use Rattle.scene_line.specs.declared.kind.Kind.the-variants as kind
@@ -19,33 +20,17 @@ use Rattle.scene_table.specs.Scene.{Input, Line, cellBytes, cellLengths, bytesL
 use Rattle.scene_reading.specs.Lines.{kindOfLine, fieldsOfLine, countOk}
 use Rattle.scene_reading.specs.Reading.{fieldAt, numberIn, cellOf, inputOf}
 
-pub hex-length : (s : List ℕ) → length (hexBytes s) ≡ length s / 2
-unfolding hexBytes
-hex-length [] = refl
-hex-length (x ∷ []) = refl
-hex-length (x ∷ y ∷ s) = let h = hex-length s in omega arith
+-- the fields of a line by their places
+unfoldable pub fieldsFrom : (ℕ → List ℕ) → ℕ → List (List ℕ)
+fieldsFrom f zero = []
+fieldsFrom f (suc n) = f 0 ∷ fieldsFrom (λ (i : ℕ). f (suc i)) n
 
--- ---- the fields of a line, one by one
-
-pub one-field : (fs : List (List ℕ)) → length fs ≡ 1 → fs ≡ fieldAt fs 0 ∷ []
-unfolding fieldAt
-one-field [] e = absurd (omega arith)
-one-field (a ∷ []) e = refl
-one-field (a ∷ b ∷ fs) e = absurd (omega arith)
-
-pub four-fields : (fs : List (List ℕ)) → length fs ≡ 4 → fs ≡ fieldAt fs 0 ∷ fieldAt fs 1 ∷ fieldAt fs 2 ∷ fieldAt fs 3 ∷ []
-unfolding fieldAt
-four-fields [] e = absurd (omega arith)
-four-fields (a ∷ []) e = absurd (omega arith)
-four-fields (a ∷ b ∷ []) e = absurd (omega arith)
-four-fields (a ∷ b ∷ c ∷ fs) e = ap (λ (t : List (List ℕ)). a ∷ b ∷ c ∷ t) (one-field fs (omega arith))
-
-pub six-fields : (fs : List (List ℕ)) → length fs ≡ 6
-    → fs ≡ fieldAt fs 0 ∷ fieldAt fs 1 ∷ fieldAt fs 2 ∷ fieldAt fs 3 ∷ fieldAt fs 4 ∷ fieldAt fs 5 ∷ []
-unfolding fieldAt
-six-fields [] e = absurd (omega arith)
-six-fields (a ∷ []) e = absurd (omega arith)
-six-fields (a ∷ b ∷ fs) e = ap (λ (t : List (List ℕ)). a ∷ b ∷ t) (four-fields fs (omega arith))
+pub fields-from : (fs : List (List ℕ)) (n : ℕ) → length fs ≡ n → fs ≡ fieldsFrom (fieldAt fs) n
+unfolding fieldsFrom fieldAt
+fields-from [] zero e = refl
+fields-from [] (suc n) e = absurd (omega arith)
+fields-from (f ∷ fs) zero e = absurd (omega arith)
+fields-from (f ∷ fs) (suc n) e = ap (λ (r : List (List ℕ)). f ∷ r) (fields-from fs n (omega arith))
 
 -- ---- a line of each kind
 
@@ -96,15 +81,15 @@ unfolding lineBytes lineNumbers fieldBytes inputLine cellBytes cellLengths input
 input-row fs e = rw e (simp (append-assoc, append-nil, hex-length, halves-number))
 
 pub put-line : (k : Kind) (fs : List (List ℕ)) → length fs ≡ fieldCount k → putOf k fs ≡ lineOf k fs
-unfolding putOf lineOf
-put-line kind.Script fs e = hex-row fs (one-field fs e)
-put-line kind.Tx fs e = hash-row fs (one-field fs e)
-put-line kind.Input fs e = input-row fs (six-fields fs e)
-put-line kind.Output fs e = cell-row fs (four-fields fs e)
-put-line kind.Dep fs e = cell-row fs (four-fields fs e)
-put-line kind.Witness fs e = hex-row fs (one-field fs e)
-put-line kind.Verdicts fs e = digits-row fs (one-field fs e)
-put-line kind.Unknown fs e = hex-row fs (one-field fs e)
+unfolding putOf lineOf fieldsFrom
+put-line kind.Script fs e = hex-row fs (fields-from fs 1 e)
+put-line kind.Tx fs e = hash-row fs (fields-from fs 1 e)
+put-line kind.Input fs e = input-row fs (fields-from fs 6 e)
+put-line kind.Output fs e = cell-row fs (fields-from fs 4 e)
+put-line kind.Dep fs e = cell-row fs (fields-from fs 4 e)
+put-line kind.Witness fs e = hex-row fs (fields-from fs 1 e)
+put-line kind.Verdicts fs e = digits-row fs (fields-from fs 1 e)
+put-line kind.Unknown fs e = hex-row fs (fields-from fs 1 e)
 
 -- what the reader puts down of a line of the text
 unfoldable pub rowOf : List ℕ → Line

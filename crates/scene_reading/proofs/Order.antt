@@ -8,26 +8,15 @@ use native.Mathlib.Omega.{arith}
 use lib.Dec.{ltb, leb, eqb}
 use borrow.Author.Tests.{leb-true, eqb-true, eqb-false, le-leb, le-ltb, lt-ltb, eq-eqb, ne-eqb, not-true}
 use Rattle.scene_line.specs.declared.kind.Kind.{Kind}
-use Rattle.scene_line.specs.declared.kind.Kind.the-variants.{Script, Tx, Input, Output, Dep, Witness, Verdicts, Unknown}
 use Rattle.scene_line.specs.Kind.{place, follows}
 use Rattle.scene_reader.specs.Reader.{seenWith}
-use Rattle.scene_reading.proofs.Tests.{and-both}
+use Rattle.scene_table.proofs.Truth.{and-both}
 
 -- the kinds of the lines that are left, after `seen` lines of the kind at place `last`
 unfoldable pub Order : ℕ → ℕ → List Kind → Type 0
 Order last seen [] = last ≡ 7
 Order last seen (k ∷ ks) =
     (follows last (place k) ≡ true) × ((seenWith last seen (place k) ≤ 64) × Order (place k) (seenWith last seen (place k)) ks)
-
-pub place-small : (k : Kind) → place k < 8
-place-small Script = omega arith
-place-small Tx = omega arith
-place-small Input = omega arith
-place-small Output = omega arith
-place-small Dep = omega arith
-place-small Witness = omega arith
-place-small Verdicts = omega arith
-place-small Unknown = omega arith
 
 -- how many more lines of the kind at place p may come
 unfoldable pub left : ℕ → ℕ → ℕ → ℕ

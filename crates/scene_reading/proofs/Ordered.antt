@@ -11,9 +11,10 @@ use borrow.Author.Tests.{lt-ltb, ne-eqb, eqb-true, eqb-false}
 use Rattle.scene_line.specs.declared.kind.Kind.{Kind}
 use Rattle.scene_line.specs.declared.kind.Kind.the-variants.{Script, Tx, Input, Output, Dep, Witness, Verdicts, Unknown}
 use Rattle.scene_line.specs.Kind.{place, follows}
+use Rattle.scene_line.proofs.KindLaws.{place-small}
 use Rattle.scene_reader.specs.Reader.{seenWith}
 use Rattle.scene_reading.specs.Lines.{times, kindsOf}
-use Rattle.scene_reading.proofs.Order.{Order, place-small, left, left-next, follows-body, body-follows, left-before, left-behind}
+use Rattle.scene_reading.proofs.Order.{Order, left, left-next, follows-body, body-follows, left-before, left-behind}
 
 -- the kinds behind tx
 unfoldable pub bodyKinds : ℕ → ℕ → ℕ → ℕ → List Kind

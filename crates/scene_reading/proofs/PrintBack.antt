@@ -7,6 +7,7 @@ use mathlib.Core.List.{List, [], _∷_, _++_, map, append-cancel-right}
 use native.Mathlib.Omega.{arith}
 use borrow.Author.Tests.{le-leb}
 use lib.ListN.{length}
+use Rattle.scene_text.proofs.Tests.{and-left, and-right}
 use Rattle.scene_line.specs.declared.kind.Kind.{Kind}
 use Rattle.scene_line.specs.declared.kind.Kind.the-variants as kind
 use Rattle.scene_line.specs.Kind.{script, tx, output, dep, witness, verdicts}
@@ -15,7 +16,6 @@ use Rattle.scene_table.specs.Valid.{every, bytesOk, hashOk, cellOk, inputOk, fe
 use Rattle.scene_reading.specs.Lines.{Passes, kindsOf, times, kindOfLine, countOk, formOk}
 use Rattle.scene_reading.specs.Print.{lineText, digitsText, inputText, cellText, bytesText, textLines, textOf}
 use Rattle.scene_reading.specs.Reading.{readingOf}
-use Rattle.scene_reading.proofs.PrintLists.{and-left, and-right}
 use Rattle.scene_reading.proofs.PrintBackLines.{text-back, PrintOf, LinePasses, script-line, tx-line, input-line, output-line, dep-line, witness-line, verdicts-line}
 use Rattle.scene_reading.proofs.Printed.{printed-pieces, printed-reading}
 

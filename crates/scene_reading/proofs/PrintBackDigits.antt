@@ -10,44 +10,45 @@ use lib.ListN.{length}
 use lib.Dec.{ltb, eqb}
 use Rattle.scene_text.specs.declared.decimal.Number.the-variants.{Is, Bad}
 use Rattle.scene_text.specs.Text.{all, between, isHex, hexVal, hexOk, hexBytes, decimal, plain, numberOf, sinceOf}
+use Rattle.scene_text.proofs.Tests.{and-left, and-right, between-yes, between-low, between-high}
 use Rattle.scene_line.specs.Line.{isNumber}
 use Rattle.scene_table.specs.Valid.{every, bytesOk}
 use Rattle.scene_reading.specs.Print.{digitText, hexText, decimalText, digitsText}
 use Rattle.scene_reading.specs.Reading.{numberIn}
-use Rattle.scene_reading.proofs.PrintLists.{and-left, and-right, between-yes, between-low, between-top, all-left, all-right}
+use Rattle.scene_reading.proofs.PrintLists.{all-left, all-right}
 use Rattle.scene_reading.proofs.PrintDigits.{Leads, decimal-append, tenth}
 
 -- a digit is the text of its value
-record Digit (x : ℕ) : Type 0 where
+record DigitPrint (x : ℕ) : Type 0 where
   small : hexVal x < 16
   text : digitText (hexVal x) ≡ x
 
-hex-digit : (x : ℕ) → isHex x ≡ true → Digit x
+hex-digit : (x : ℕ) → isHex x ≡ true → DigitPrint x
 unfolding hexVal digitText
 hex-digit x h = go (between 48 57 x) refl h
   where
-    low : 48 ≤ x → x ≤ 57 → Digit x
+    low : 48 ≤ x → x ≤ 57 → DigitPrint x
     low a b =
         let e : 48 + (x - 48) ≡ x = omega arith in
         let v : hexVal x ≡ x - 48 = rw (between-yes 48 57 x a b) in
         record { small = rw v (omega arith); text = rw (v, lt-ltb (x - 48) 10 (omega arith), e) }
 
-    letter : between 48 57 x ≡ false → 97 ≤ x → x ≤ 102 → Digit x
+    letter : between 48 57 x ≡ false → 97 ≤ x → x ≤ 102 → DigitPrint x
     letter n a b =
         let e : 87 + (x - 87) ≡ x = omega arith in
         let v : hexVal x ≡ x - 87 = rw (n, between-yes 97 102 x a b) in
         record { small = rw v (omega arith); text = rw (v, le-ltb (x - 87) 10 (omega arith), e) }
 
-    go : (b : Bool) → between 48 57 x ≡ b → (b || between 97 102 x) ≡ true → Digit x
-    go true e h = low (between-low 48 57 x e) (between-top 48 57 x e)
-    go false e h = letter e (between-low 97 102 x h) (between-top 97 102 x h)
+    go : (b : Bool) → between 48 57 x ≡ b → (b || between 97 102 x) ≡ true → DigitPrint x
+    go true e h = low (between-low 48 57 x e) (between-high 48 57 x e)
+    go false e h = letter e (between-low 97 102 x h) (between-high 97 102 x h)
 
 -- hexadecimal digits are the text of their bytes
-pub record Hexes (f : List ℕ) : Type 0 where
+pub record HexPrint (f : List ℕ) : Type 0 where
   pub bytes : bytesOk (hexBytes f) ≡ true
   pub text : hexText (hexBytes f) ≡ f
 
-hexes : (f : List ℕ) → length f % 2 ≡ 0 → all isHex f ≡ true → Hexes f
+hexes : (f : List ℕ) → length f % 2 ≡ 0 → all isHex f ≡ true → HexPrint f
 unfolding hexBytes hexText bytesOk every all
 hexes [] e h = record { bytes = refl; text = refl }
 hexes (x ∷ []) e h = absurd (omega arith)
@@ -65,7 +66,7 @@ hexes (x ∷ y ∷ r) e h =
       text = rw (upper, lower, dx .text, dy .text, rest .text);
     }
 
-pub hex-print : (f : List ℕ) → hexOk f ≡ true → Hexes f
+pub hex-print : (f : List ℕ) → hexOk f ≡ true → HexPrint f
 unfolding hexOk
 hex-print f h = hexes f (eqb-true (length f % 2) 0 (and-left (eqb (length f % 2) 0) (all isHex f) h)) (and-right (eqb (length f % 2) 0) (all isHex f) h)
 
@@ -93,7 +94,7 @@ module _ (n y : ℕ) (digit : between 48 57 y ≡ true) where
   unfolding decimalText decimal
   one-digit =
       let low = between-low 48 57 y digit in
-      let top = between-top 48 57 y digit in
+      let top = between-high 48 57 y digit in
       let e : 48 + (0 * 10 + (y - 48)) ≡ y = omega arith in
       rw (lt-ltb (0 * 10 + (y - 48)) 10 (omega arith), e)
 
@@ -101,7 +102,7 @@ module _ (n y : ℕ) (digit : between 48 57 y ≡ true) where
   unfolding decimalText
   more-digits t p h =
       let low = between-low 48 57 y digit in
-      let top = between-top 48 57 y digit in
+      let top = between-high 48 57 y digit in
       let v = decimal 0 t in
       let e : (v * 10 + (y - 48)) / 10 ≡ v = omega arith in
       let m : 48 + (v * 10 + (y - 48)) % 10 ≡ y = omega arith in
@@ -149,15 +150,15 @@ plain-print n (x ∷ s) p h = go s (eqb (length (x ∷ s)) 1) refl d (and-right 
     go (y ∷ s) true e d o h = let z = eqb-true (length (x ∷ y ∷ s)) 1 e in absurd (omega arith)
 
 -- a SINCE is the text of its number
-pub record Since (f : List ℕ) : Type 0 where
+pub record SincePrint (f : List ℕ) : Type 0 where
   pub fits : numberIn (sinceOf f) < 2 ^ 64
   pub text : decimalText 20 (numberIn (sinceOf f)) ≡ f
 
-pub since-print : (f : List ℕ) → isNumber (sinceOf f) ≡ true → Since f
+pub since-print : (f : List ℕ) → isNumber (sinceOf f) ≡ true → SincePrint f
 unfolding sinceOf numberOf numberIn
 since-print f h = go (plain f) refl (ltb (decimal 0 f) (2 ^ 64)) refl h
   where
-    go : (a : Bool) → plain f ≡ a → (b : Bool) → ltb (decimal 0 f) (2 ^ 64) ≡ b → isNumber (cond a (cond b (Is (decimal 0 f)) Bad) Bad) ≡ true → Since f
+    go : (a : Bool) → plain f ≡ a → (b : Bool) → ltb (decimal 0 f) (2 ^ 64) ≡ b → isNumber (cond a (cond b (Is (decimal 0 f)) Bad) Bad) ≡ true → SincePrint f
     go true p true l h =
         let k = ltb-true (decimal 0 f) (2 ^ 64) l in
         let e : numberIn (sinceOf f) ≡ decimal 0 f = rw (p, l) in
@@ -166,17 +167,17 @@ since-print f h = go (plain f) refl (ltb (decimal 0 f) (2 ^ 64)) refl h
     go false p b l h = absurd (false≢true h)
 
 -- digits below m are the text of their values
-pub record Digits (m : ℕ) (f : List ℕ) : Type 0 where
+pub record DigitsPrint (m : ℕ) (f : List ℕ) : Type 0 where
   pub each : every (λ (d : ℕ). ltb d m) (map hexVal f) ≡ true
   pub text : digitsText (map hexVal f) ≡ f
 
-pub digits-print : (m : ℕ) → m ≤ 10 → (f : List ℕ) → all (between 48 (47 + m)) f ≡ true → Digits m f
+pub digits-print : (m : ℕ) → m ≤ 10 → (f : List ℕ) → all (between 48 (47 + m)) f ≡ true → DigitsPrint m f
 unfolding all every digitsText hexVal
 digits-print m small [] h = record { each = refl; text = refl }
 digits-print m small (x ∷ f) h =
     let y = and-left (between 48 (47 + m) x) (all (between 48 (47 + m)) f) h in
     let a = between-low 48 (47 + m) x y in
-    let b = between-top 48 (47 + m) x y in
+    let b = between-high 48 (47 + m) x y in
     let v : hexVal x ≡ x - 48 = rw (between-yes 48 57 x a (omega arith)) in
     let e : 48 + (x - 48) ≡ x = omega arith in
     let rest = digits-print m small f (and-right (between 48 (47 + m) x) (all (between 48 (47 + m)) f) h) in

@@ -1,6 +1,6 @@
 -- Fields that have their forms are the print of what they say.
 -- Assumes nothing.
-use Prim.Native.Nat.{ℕ, zero, suc, _+_, _*_, _^_}
+use Prim.Native.Nat.{ℕ, _+_, _*_, _^_}
 use mathlib.Core.Path.{_≡_, refl, sym, ap, _∙_}
 use mathlib.Core.Bool.{Bool, true, false, cond, _&&_, _||_}
 use mathlib.Core.List.{List, [], _∷_}
@@ -9,36 +9,25 @@ use borrow.Author.Tests.{ltb-true, eqb-true, eq-eqb, ne-eqb, lt-ltb}
 use lib.ListN.{length, getD}
 use lib.Dec.{ltb, eqb}
 use Rattle.scene_text.specs.Text.{all, between, hexOk, hexVal, hexBytes, sinceOf}
+use Rattle.scene_text.proofs.Tests.{and-left, and-right}
 use Rattle.scene_line.specs.declared.form.Form.the-variants.{Group, TypeHash}
 use Rattle.scene_line.specs.Line.{formsOk, isNumber}
 use Rattle.scene_table.specs.Valid.{every, bytesOk, hashOk, cellOk, inputOk}
 use Rattle.scene_reading.specs.Print.{hexText, digitsText, cellFields, inputFields}
 use Rattle.scene_reading.specs.Reading.{cellOf, inputOf, fieldAt, numberIn}
-use Rattle.scene_reading.proofs.PrintLists.{and-left, and-right}
+use Rattle.scene_reading.proofs.LineRows.{fieldsFrom, fields-from}
 use Rattle.scene_reading.proofs.PrintDigits.{hex-length}
-use Rattle.scene_reading.proofs.PrintBackDigits.{Hexes, hex-print, since-print, Digits, digits-print}
+use Rattle.scene_reading.proofs.PrintBackDigits.{HexPrint, hex-print, since-print, DigitsPrint, digits-print}
 
--- the fields of a line by their places
-unfoldable pub fieldsFrom : (ℕ → List ℕ) → ℕ → List (List ℕ)
-fieldsFrom f zero = []
-fieldsFrom f (suc n) = f 0 ∷ fieldsFrom (λ (i : ℕ). f (suc i)) n
-
-pub fields-from : (fs : List (List ℕ)) (n : ℕ) → length fs ≡ n → fs ≡ fieldsFrom (fieldAt fs) n
-unfolding fieldsFrom fieldAt
-fields-from [] zero e = refl
-fields-from [] (suc n) e = absurd (omega arith)
-fields-from (f ∷ fs) zero e = absurd (omega arith)
-fields-from (f ∷ fs) (suc n) e = ap (λ (r : List (List ℕ)). f ∷ r) (fields-from fs n (omega arith))
-
-hexes-length : (f : List ℕ) → Hexes f → length f ≡ 2 * length (hexBytes f)
+hexes-length : (f : List ℕ) → HexPrint f → length f ≡ 2 * length (hexBytes f)
 hexes-length f h = ap length (sym (h .text)) ∙ hex-length (hexBytes f)
 
 -- a hash
-pub record Hash (f : List ℕ) : Type 0 where
+pub record HashPrint (f : List ℕ) : Type 0 where
   pub ok : hashOk (hexBytes f) ≡ true
   pub text : hexText (hexBytes f) ≡ f
 
-pub hash-print : (f : List ℕ) → (eqb (length f) 64 && hexOk f) ≡ true → Hash f
+pub hash-print : (f : List ℕ) → (eqb (length f) 64 && hexOk f) ≡ true → HashPrint f
 unfolding hashOk
 hash-print f h =
     let x = hex-print f (and-right (eqb (length f) 64) (hexOk f) h) in
@@ -50,9 +39,9 @@ hash-print f h =
 record TypePair (a c : List ℕ) : Type 0 where
   ok : cond (eqb (length (hexBytes c)) 0) (eqb (length (hexBytes a)) 0) (hashOk (hexBytes a)) ≡ true
   hash : hexText (hexBytes a) ≡ a
-  script : Hexes c
+  script : HexPrint c
 
-no-hexes : (f : List ℕ) → length f ≡ 0 → Hexes f
+no-hexes : (f : List ℕ) → length f ≡ 0 → HexPrint f
 unfolding hexBytes hexText bytesOk every
 no-hexes [] e = record { bytes = refl; text = refl }
 no-hexes (x ∷ f) e = absurd (omega arith)
@@ -118,7 +107,7 @@ group-print : (g : List ℕ) → (eqb (length g) 1 && all (between 48 49) g) ≡
 unfolding every digitsText
 group-print g h =
     let e = one-digit g (eqb-true (length g) 1 (and-left (eqb (length g) 1) (all (between 48 49) g) h)) in
-    let d : Digits 2 (getD g 0 0 ∷ []) = digits-print 2 (omega arith) (getD g 0 0 ∷ []) (rw e at (and-right (eqb (length g) 1) (all (between 48 49) g) h)) in
+    let d : DigitsPrint 2 (getD g 0 0 ∷ []) = digits-print 2 (omega arith) (getD g 0 0 ∷ []) (rw e at (and-right (eqb (length g) 1) (all (between 48 49) g) h)) in
     (and-left (ltb (hexVal (getD g 0 0)) 2) true (d .each), d .text ∙ sym e)
 
 pub input-print : (fs : List (List ℕ)) → length fs ≡ 6 → formsOk true Group fs ≡ true → InputPrint fs

@@ -11,6 +11,8 @@ use lib.Dec.{eqb, leb}
 use Rattle.octets.specs.Lists.{same}
 use Rattle.octets.proofs.Same.{same-eq}
 use Rattle.scene_text.specs.Text.{all, between, before, pieces, hexOk, hexVal, hexBytes}
+use Rattle.scene_text.proofs.Tests.{and-left, and-right}
+use Rattle.scene_text.proofs.Pieces.{before-none}
 use Rattle.scene_line.specs.declared.kind.Kind.{Kind}
 use Rattle.scene_line.specs.declared.kind.Kind.the-variants as kind
 use Rattle.scene_line.specs.declared.form.Form.the-variants.{TypeHash, Hex}
@@ -21,10 +23,10 @@ use Rattle.scene_table.specs.Valid.{bytesOk, hashOk, cellOk, inputOk, digitsOk}
 use Rattle.scene_reading.specs.Lines.{wordOf, kindOfLine, fieldsOfLine, countOk, formOk}
 use Rattle.scene_reading.specs.Print.{commaed, lineText, digitsText, cellFields, inputFields, inputText, cellText, bytesText, endedLines}
 use Rattle.scene_reading.specs.Reading.{cellOf, inputOf, fieldAt}
-use Rattle.scene_reading.proofs.PrintLists.{and-left, and-right}
-use Rattle.scene_reading.proofs.PrintPieces.{before-none}
+use Rattle.scene_reading.proofs.LineRows as rows
+use Rattle.scene_reading.proofs.LineRows.{fieldsFrom, fields-from}
 use Rattle.scene_reading.proofs.PrintBackDigits.{hex-print, digits-print}
-use Rattle.scene_reading.proofs.PrintBackFields.{fieldsFrom, fields-from, hash-print, cell-print, input-print}
+use Rattle.scene_reading.proofs.PrintBackFields.{hash-print, cell-print, input-print}
 
 -- pieces with c before each
 parted : ℕ → List (List ℕ) → List ℕ
@@ -119,8 +121,7 @@ module _ (l : List ℕ) (k : Kind) (p : LinePasses l k) where
   named = rw (p .is) at (kind-named (wordOf (pieces 44 l)))
 
   field-count : length (fieldsOfLine l) ≡ fieldCount k
-  unfolding countOk
-  field-count = eqb-true (length (fieldsOfLine l)) (fieldCount k) (rw (p .is) at (p .counted))
+  field-count = rw (p .is) at (rows.field-count l (p .counted))
 
   field-forms : formsOk true (firstForm k) (fieldsOfLine l) ≡ true
   unfolding formOk

@@ -11,9 +11,10 @@ use lib.ListN.{length, getD, length-append, length-map, List·getD-append}
 use lib.Dec.{ltb, leb, eqb}
 use Rattle.scene_text.specs.declared.decimal.Number.the-variants.{Is}
 use Rattle.scene_text.specs.Text.{all, between, isHex, hexVal, hexOk, hexBytes, decimal, plain, numberOf, sinceOf}
+use Rattle.scene_text.proofs.Tests.{and-left, and-right, between-yes}
 use Rattle.scene_table.specs.Valid.{every, bytesOk}
 use Rattle.scene_reading.specs.Print.{digitText, hexText, decimalText, digitsText}
-use Rattle.scene_reading.proofs.PrintLists.{and-left, and-right, between-yes, all-append, all-more}
+use Rattle.scene_reading.proofs.PrintLists.{all-append, all-more}
 
 -- what a digit's text is: a digit's value, its form, and no byte below 48
 record Digit (d x : ℕ) : Type 0 where

@@ -9,13 +9,13 @@ use borrow.Author.Tests.{ltb-true, eqb-true, eqb-false, lt-ltb}
 use lib.ListN.{length, getD}
 use lib.Dec.{ltb, leb, eqb}
 use Rattle.scene_text.specs.Text.{all, hexOk, hexVal}
+use Rattle.scene_text.proofs.Tests.{and-left, and-right}
 use Rattle.scene_line.specs.declared.form.Form.the-variants.{Group, TypeHash}
 use Rattle.scene_line.specs.Line.{formsOk, fieldBytes, lineBytes}
 use Rattle.scene_table.specs.Scene.{Cell, Input, cellBytes}
 use Rattle.scene_table.specs.Valid.{every, bytesOk, hashOk, cellOk, inputOk}
 use Rattle.scene_reading.specs.Print.{hexText, digitsText, cellFields, inputFields}
 use Rattle.scene_reading.specs.Reading.{cellOf, inputOf, fieldAt, numberIn}
-use Rattle.scene_reading.proofs.PrintLists.{and-left, and-right}
 use Rattle.scene_reading.proofs.PrintDigits.{hex-back, hex-ok, hex-high, hex-length, decimal-back, decimal-high, digits-form, digits-high, digits-back}
 
 -- a hash

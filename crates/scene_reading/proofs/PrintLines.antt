@@ -10,6 +10,7 @@ use lib.ListN.{length}
 use lib.Dec.{leb, ltb, eqb}
 use Rattle.octets.specs.Lists.{same}
 use Rattle.scene_text.specs.Text.{all}
+use Rattle.scene_text.proofs.Tests.{and-left, and-right}
 use Rattle.scene_line.specs.declared.form.Form.the-variants.{TypeHash, Hex}
 use Rattle.scene_line.specs.declared.kind.Kind.{Kind}
 use Rattle.scene_line.specs.declared.kind.Kind.the-variants as kind
@@ -19,7 +20,7 @@ use Rattle.scene_table.specs.Scene.{Cell, Input, Line, bytesLine, hashLine, inp
 use Rattle.scene_table.specs.Valid.{every, bytesOk, digitsOk}
 use Rattle.scene_reading.specs.Lines.{wordOf, kindOfLine, fieldsOfLine, times, countOk, formOk, bytesOfLine}
 use Rattle.scene_reading.specs.Print.{commaed, lineText, hexText, digitsText, cellFields, inputFields, inputText, cellText, bytesText}
-use Rattle.scene_reading.proofs.PrintLists.{and-left, and-right, all-append, all-more}
+use Rattle.scene_reading.proofs.PrintLists.{all-append, all-more}
 use Rattle.scene_reading.proofs.PrintPieces.{without, line-pieces}
 use Rattle.scene_reading.proofs.PrintDigits.{hex-back, hex-ok, hex-high, digits-form, digits-high, digits-length}
 use Rattle.scene_reading.proofs.PrintFields.{HashHolds, hash-form, CellHolds, cell-high, cell-form, cell-bytes, InputHolds, input-high, input-form, input-bytes}

@@ -1,30 +1,11 @@
--- Laws of tests.
+-- Tests of each byte of a text and of its parts.
 -- Assumes nothing.
-use Prim.Native.Nat.{ℕ, _≤_}
+use Prim.Native.Nat.{ℕ}
 use mathlib.Core.Path.{_≡_, refl}
-use mathlib.Core.Bool.{Bool, true, false, _&&_}
+use mathlib.Core.Bool.{Bool, true}
 use mathlib.Core.List.{List, [], _∷_, _++_}
-use borrow.Author.Tests.{leb-true, le-leb}
-use lib.Dec.{leb}
-use Rattle.scene_text.specs.Text.{all, between}
-
-pub and-left : (a b : Bool) → (a && b) ≡ true → a ≡ true
-and-left true b e = refl
-and-left false b e = e
-
-pub and-right : (a b : Bool) → (a && b) ≡ true → b ≡ true
-and-right true b e = e
-and-right false true e = refl
-and-right false false e = e
-
-pub between-yes : (l h x : ℕ) → l ≤ x → x ≤ h → between l h x ≡ true
-between-yes l h x a b = rw (le-leb l x a, le-leb x h b)
-
-pub between-low : (l h x : ℕ) → between l h x ≡ true → l ≤ x
-between-low l h x e = leb-true l x (and-left (leb l x) (leb x h) e)
-
-pub between-top : (l h x : ℕ) → between l h x ≡ true → x ≤ h
-between-top l h x e = leb-true x h (and-right (leb l x) (leb x h) e)
+use Rattle.scene_text.specs.Text.{all}
+use Rattle.scene_text.proofs.Tests.{and-left, and-right}
 
 pub all-append : (p : ℕ → Bool) (s t : List ℕ) → all p s ≡ true → all p t ≡ true → all p (s ++ t) ≡ true
 unfolding all

@@ -1,35 +1,20 @@
 -- Texts joined by a separator that none of them holds are cut into themselves.
 -- Assumes nothing.
 use Prim.Native.Nat.{ℕ}
-use mathlib.Core.Path.{_≡_, refl, sym, ap, _∙_}
-use mathlib.Core.Bool.{Bool, true, false, cond, not}
-use mathlib.Core.List.{List, [], _∷_, _++_, append-assoc, append-nil}
+use mathlib.Core.Path.{_≡_, refl, ap, _∙_}
+use mathlib.Core.Bool.{Bool, true, not}
+use mathlib.Core.List.{List, [], _∷_, _++_, append-nil}
 use borrow.Author.Tests.{not-true, eq-eqb}
 use lib.Dec.{eqb}
 use Rattle.scene_text.specs.Text.{before, pieces, all}
+use Rattle.scene_text.proofs.Tests.{and-left, and-right}
+use Rattle.scene_text.proofs.Pieces.{before-before, before-none}
 use Rattle.scene_table.specs.Valid.{every}
 use Rattle.scene_reading.specs.Print.{commaed, lineText, endedLines}
-use Rattle.scene_reading.proofs.PrintLists.{and-left, and-right}
 
 -- c stands nowhere in s
 unfoldable pub without : ℕ → List ℕ → Bool
 without c s = all (λ (x : ℕ). not (eqb x c)) s
-
-before-before : (t u : List ℕ) (ps : List (List ℕ)) → before t (before u ps) ≡ before (t ++ u) ps
-unfolding before
-before-before t u [] = refl
-before-before t u (p ∷ ps) = ap (λ (q : List ℕ). q ∷ ps) (sym (append-assoc t u p))
-
-before-some : (b : Bool) (x : ℕ) (ps : List (List ℕ)) → before [] (cond b ([] ∷ ps) (before (x ∷ []) ps)) ≡ cond b ([] ∷ ps) (before (x ∷ []) ps)
-unfolding before
-before-some true x ps = refl
-before-some false x [] = refl
-before-some false x (p ∷ ps) = refl
-
-pub before-none : (c : ℕ) (s : List ℕ) → pieces c s ≡ before [] (pieces c s)
-unfolding pieces before
-before-none c [] = refl
-before-none c (x ∷ s) = sym (before-some (eqb x c) x (pieces c s))
 
 module _ (c : ℕ) where
   -- a text without c stands before the first piece of what follows

@@ -9,6 +9,7 @@ use borrow.Author.Tests.{leb-true}
 use lib.ListN.{length}
 use lib.Dec.{leb}
 use Rattle.scene_text.specs.Text.{pieces}
+use Rattle.scene_text.proofs.Tests.{and-left, and-right}
 use Rattle.scene_line.specs.declared.kind.Kind.{Kind}
 use Rattle.scene_line.specs.declared.kind.Kind.the-variants as kind
 use Rattle.scene_line.specs.Kind.{script, tx, output, dep, witness}
@@ -17,7 +18,6 @@ use Rattle.scene_table.specs.Valid.{every, bytesOk, hashOk, cellOk, inputOk, fe
 use Rattle.scene_reading.specs.Lines.{kindsOf, Passes}
 use Rattle.scene_reading.specs.Print.{hexText, cellFields, inputFields, inputText, cellText, bytesText, textLines, textOf}
 use Rattle.scene_reading.specs.Reading.{fieldAt, readingOf, withLine, nothing}
-use Rattle.scene_reading.proofs.PrintLists.{and-left, and-right}
 use Rattle.scene_reading.proofs.PrintPieces.{lines-pieces}
 use Rattle.scene_reading.proofs.PrintDigits.{hex-back, digits-back}
 use Rattle.scene_reading.proofs.PrintFields.{HashHolds, hash-holds, cell-holds, cell-back, input-holds, input-back}

@@ -19,7 +19,7 @@ use Rattle.scene_line.specs.Line.{formsOk, lineBytes}
 use Rattle.octets.specs.Lists.{same}
 use Rattle.scene_reader.specs.Reader.{Held, Outcome, refused, held, seenWith, put, stepAs, step, finish, andThen, isLast, run}
 use Rattle.scene_reading.specs.Lines.{wordOf, kindOfLine, fieldsOfLine, countOk, formOk, bytesOfLine}
-use Rattle.scene_reading.proofs.Tests.{and-both}
+use Rattle.scene_table.proofs.Truth.{and-both}
 
 -- a line passes the line rows, after `seen` lines of the kind at place `last`, with `used` of `size` bytes of the store filled
 pub record LinePasses (last seen used size : ℕ) (l : List ℕ) : Type 0 where

@@ -13,7 +13,7 @@ use Rattle.scene_table.specs.Scene.{Scene, Line, inputLine, cellLine, bytesLine
 use Rattle.scene_table.specs.Valid.{every}
 use Rattle.scene_reading.specs.Lines.{times, kindsOf, kindOfLine, countOk, bytesOfLine}
 use Rattle.scene_reading.specs.Reading.{nothing, withLine, readingOf}
-use Rattle.scene_reading.proofs.Tests.{and-both}
+use Rattle.scene_table.proofs.Truth.{and-both}
 use Rattle.scene_reading.proofs.Ordered.{bodyKinds}
 use Rattle.scene_reading.proofs.LineRows.{lineOf, putOf, rowOf, row-line}
 

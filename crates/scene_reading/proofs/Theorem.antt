@@ -22,8 +22,8 @@ use Rattle.scene_reading.specs.Reading.{readingOf}
 use Rattle.scene_reading.proofs.Run.{past}
 use Rattle.scene_reading.proofs.Accepts.{accepted-passes, passes-accepted}
 use Rattle.scene_reading.proofs.Leaves.{bytes-fit, passes-leaves}
-use Rattle.scene_reading.proofs.ReadingOk.{reading-ok}
-use Rattle.scene_reading.proofs.TableSize.{numbers-few}
+use Rattle.scene_reading.proofs.PrintBack.{reading-ok}
+use Rattle.scene_table.proofs.SceneBack.{numbers-few}
 
 -- an outcome that passes holds something
 passed-held : (o : Outcome) → answerOf o ≡ Passed → (g : Held) × (o ≡ held g)

@@ -1,4 +1,5 @@
--- When no line row refuses a scene, said of the lines of its text.
+-- When no line row refuses a scene, said of the lines of its text. 01: "The reader accepts every scene that no reader or line row
+-- refuses"; the rows are those of "Where each refusal is raised".
 use Prim.Native.Nat.{ℕ, zero, suc, _≤_}
 use mathlib.Core.Bool.{Bool, true}
 use mathlib.Core.Path.{_≡_}
@@ -8,12 +9,12 @@ use lib.Dec.{eqb}
 use Rattle.octets.specs.Lists.{joined}
 use Rattle.scene_text.specs.Text.{pieces}
 use Rattle.scene_line.specs.declared.kind.Kind.{Kind}
-use Rattle.scene_line.specs.declared.kind.Kind.the-variants.{Script, Tx, Input, Output, Dep, Witness, Verdicts, Unknown}
+use Rattle.scene_line.specs.declared.kind.Kind.the-variants.{Script, Tx, Input, Output, Dep, Witness, Verdicts}
 use Rattle.scene_line.specs.Kind.{kindOf, fieldCount, firstForm, fieldsOf}
 use Rattle.scene_line.specs.Line.{formsOk, lineBytes}
 use Rattle.scene_table.specs.Valid.{every}
 
--- a line's word, its kind, and its fields
+-- "Text lines ended by byte 10, fields parted by commas, no quoting": a line's word, its kind, and its fields
 unfoldable pub wordOf : List (List ℕ) → List ℕ
 wordOf [] = []
 wordOf (w ∷ fs) = w
@@ -29,7 +30,7 @@ unfoldable pub times : {A : Type 0} → ℕ → A → List A
 times zero x = []
 times (suc n) x = x ∷ times n x
 
--- 01: "in this order of kinds .. Script, tx and verdicts stand once"
+-- "in this order of kinds"; "Script, tx and verdicts stand once"
 unfoldable pub kindsOf : ℕ → ℕ → ℕ → ℕ → List Kind
 kindsOf inputs outputs deps witnesses =
     Script
@@ -40,35 +41,37 @@ kindsOf inputs outputs deps witnesses =
     ++ times witnesses Witness
     ++ (Verdicts ∷ [])
 
--- the line row for 2 on a line's fields, and the row for 3
+-- "line: kind, order, field count, ending, or a needed line missing: 2", of the field count
 unfoldable pub countOk : List ℕ → Bool
 countOk l = eqb (length (fieldsOfLine l)) (fieldCount (kindOfLine l))
 
+-- "line: a field's form, or just one of TYPEHASH and TYPESCRIPT empty: 3"
 unfoldable pub formOk : List ℕ → Bool
 formOk l = formsOk true (firstForm (kindOfLine l)) (fieldsOfLine l)
 
+-- "the bytes of all hexadecimal fields end to end", of one line
 unfoldable pub bytesOfLine : List ℕ → List ℕ
 bytesOfLine l = lineBytes (firstForm (kindOfLine l)) (fieldsOfLine l)
 
--- No line row refuses the text, with a store of n bytes
+-- no line row refuses the text, with a store of n bytes
 pub record Passes (text : List ℕ) (n : ℕ) : Type 0 where
   pub lines : List (List ℕ)
   pub inputs : ℕ
   pub outputs : ℕ
   pub deps : ℕ
   pub witnesses : ℕ
-  -- 2: each line has its ending, and nothing follows the last
+  -- 2, "ending": each line has its byte 10, and nothing follows the last
   pub ended : pieces 10 text ≡ lines ++ ([] ∷ [])
-  -- 2: kind and order, none missing
+  -- 2, "kind, order .. or a needed line missing"
   pub ordered : map kindOfLine lines ≡ kindsOf inputs outputs deps witnesses
-  -- 2: field count
+  -- 2, "field count"
   pub counted : every countOk lines ≡ true
-  -- 4: no 65th of a kind
+  -- 4, "65th of a kind"
   pub few-inputs : inputs ≤ 64
   pub few-outputs : outputs ≤ 64
   pub few-deps : deps ≤ 64
   pub few-witnesses : witnesses ≤ 64
-  -- 3: the fields' forms
+  -- 3, "a field's form"
   pub formed : every formOk lines ≡ true
-  -- 6: the store holds the bytes of all hexadecimal fields
+  -- 6, "store too short for the field": it holds the bytes of all of them
   pub room : length (joined (map bytesOfLine lines)) ≤ n

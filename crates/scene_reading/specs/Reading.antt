@@ -1,4 +1,4 @@
--- What a text says: the scene that its lines hold, each line read by its kind.
+-- What a text says: the scene that its lines hold, each line read by its kind, as 01, "The scene, added by the port", lists them.
 use Prim.Native.Nat.{ℕ, zero, suc, _+_}
 use mathlib.Core.List.{List, [], _∷_, map}
 use lib.ListN.{getD}
@@ -16,11 +16,12 @@ fieldAt [] i = []
 fieldAt (f ∷ fs) zero = f
 fieldAt (f ∷ fs) (suc i) = fieldAt fs i
 
+-- the number of a SINCE, 0 where it has none
 unfoldable pub numberIn : Number → ℕ
 numberIn (Is v) = v
 numberIn Bad = 0
 
--- 01: "TYPEHASH,DATAHASH,TYPESCRIPT,DATA", the first of them at a place
+-- "TYPEHASH,DATAHASH,TYPESCRIPT,DATA", the first of them at a place
 unfoldable pub cellOf : List (List ℕ) → ℕ → Cell
 cellOf fs at = record {
   typeHash = hexBytes (fieldAt fs at);
@@ -29,7 +30,7 @@ cellOf fs at = record {
   content = hexBytes (fieldAt fs (at + 3));
 }
 
--- "`input,GROUP,SINCE,..`"
+-- "`input,GROUP,SINCE,TYPEHASH,DATAHASH,TYPESCRIPT,DATA`"
 unfoldable pub inputOf : List (List ℕ) → Input
 inputOf fs = record {
   group = hexVal (getD (fieldAt fs 0) 0 0);
@@ -37,10 +38,12 @@ inputOf fs = record {
   cell = cellOf fs 2;
 }
 
+-- no line says anything
 unfoldable pub nothing : Scene
 nothing = record { script = []; transaction = []; inputs = []; outputs = []; deps = []; witnesses = []; digits = [] }
 
--- a line of a kind, before what the lines behind it say
+-- a line of each kind, and what the lines behind it say: "`script,HEX`; `tx,HASH`; `input,..`"; "`output,` and `dep,` each with the
+-- last four; `witness,HEX`; `verdicts,DIGITS`"
 unfoldable pub withLine : Kind → List (List ℕ) → Scene → Scene
 withLine kind.Script fs s = record {
   script = hexBytes (fieldAt fs 0);
@@ -107,6 +110,7 @@ withLine kind.Verdicts fs s = record {
 }
 withLine kind.Unknown fs s = s
 
+-- the lines from first to last
 unfoldable pub readingOf : List (List ℕ) → Scene
 readingOf [] = nothing
 readingOf (l ∷ ls) = withLine (kindOfLine l) (fieldsOfLine l) (readingOf ls)

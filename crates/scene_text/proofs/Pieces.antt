@@ -13,7 +13,7 @@ use lib.Seq.{drop-cons, take-suc}
 use lib.Dec.{eqb}
 use Rattle.scene_text.specs.Text.{pieces, before, Cut}
 
-before-before : (t u : List ℕ) (ps : List (List ℕ)) → before t (before u ps) ≡ before (t ++ u) ps
+pub before-before : (t u : List ℕ) (ps : List (List ℕ)) → before t (before u ps) ≡ before (t ++ u) ps
 unfolding before
 before-before t u [] = refl
 before-before t u (p ∷ ps) = ap (λ (q : List ℕ). q ∷ ps) (sym (append-assoc t u p))
