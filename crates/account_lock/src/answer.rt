@@ -15,7 +15,7 @@ pub struct LockAnswer {
 }
 
 // A refusal before the digest is reached.
-pub(crate) fn refused(error: ProtocolError) -> LockAnswer
+pub fn refused(error: ProtocolError) -> LockAnswer
     ensures { λ r. ⌜ r ≡ lock.told (lock.refused (Check.Failed error)) ⌝ }
 {
     let none = [0u8; 32];

@@ -4,7 +4,6 @@ mod script; // script.rt
 mod account; // account.rt
 
 use self::account::lock_account;
-use self::answer::refused;
 use self::script::account_in;
 use self::script::check_script;
 use group_sighash::check_group;
@@ -23,6 +22,7 @@ ghost use Rattle.decision.specs.Walk.{answered};
 ghost use Rattle.account_lock.specs.Lock.{lockOf, lockScene, told};
 ghost use Rattle.account_lock.specs.Decides.{EarlierPass, LockQuorum};
 pub use self::answer::LockAnswer;
+pub use self::answer::refused;
 
 // The lock over a transaction whose table is one that a scene leaves.
 fn lock_scene(table: &[u32], store: &[u8], answer: &mut [u8]) -> LockAnswer

@@ -1,0 +1,54 @@
+-- `answer_line::answer_line` meets its contract: the word, each field and the ending stored one behind another are the line.
+-- Assumes nothing.
+use borrow.Author.Needs.{needs}
+use Prim.Native.Nat.{ℕ, _+_, _≤_}
+use mathlib.Core.Path.{_≡_, refl, ap, _∙_}
+use mathlib.Core.List.{List, [], _∷_, _++_, append-nil, append-assoc}
+use native.Mathlib.Omega.{arith}
+use lib.ListN.{length}
+use lib.Seq.{sets}
+use Rattle.scene_reading.specs.Print.{commaed, lineText}
+use Rattle.answer_line.specs.Line.{answerWord, numberText, digestText, lineOf}
+use Rattle.answer_line.proofs.Stored.{Stored, stored-more}
+use Rattle.answer_line.proofs.answer_line.Statement.{statement}
+use Rattle.answer_line.proofs.answer_line.Tie as tie
+
+-- the parts of the line, joined
+line-parts : (word n c t d : List ℕ) → lineText word (n ∷ c ∷ t ∷ d ∷ []) ++ (10 ∷ []) ≡ ((((word ++ (44 ∷ n)) ++ (44 ∷ c)) ++ (44 ∷ t)) ++ (44 ∷ d)) ++ (10 ∷ [])
+unfolding lineText commaed
+line-parts word n c t d = simp (append-assoc, append-nil)
+
+returns : tie.Need-returns
+unfolding lineOf answerWord
+returns c =
+    let digest = c .before .before .before .before .before .before in
+    let total = digest .before .before .before .before .before in
+    let count = total .before .before .before .before in
+    let number = count .before .before .before .before in
+    let word = number .before .before .before .before in
+    let a = word .before .before .before .before .args in
+    let begun : Stored (a .out .now) (word .store-bytes .last .0) answerWord 6 = record { here = word .store-bytes .ensures; ends = refl } in
+    let numbered = stored-more (44 ∷ numberText (a .number)) _ _ begun (number .put-number .ensures .1 .1) (number .put-number .ensures .0) in
+    let counted = stored-more (44 ∷ numberText (a .count)) _ _ numbered (count .put-number2 .ensures .1 .1) (count .put-number2 .ensures .0) in
+    let totalled = stored-more (44 ∷ numberText (a .total)) _ _ counted (total .put-number3 .ensures .1 .1) (total .put-number3 .ensures .0) in
+    let digested = stored-more (44 ∷ digestText (a .reached) (a .t5)) _ _ totalled (digest .put-digest .ensures .1 .1) (digest .put-digest .ensures .0) in
+    let ended = stored-more (10 ∷ []) _ (digest .put-digest .result + 1) digested (c .before .before .put-byte .ensures) refl in
+    let parts = line-parts answerWord (numberText (a .number)) (numberText (a .count)) (numberText (a .total)) (digestText (a .reached) (a .t5)) in
+    let short : digest .put-digest .result + 1 ≤ 135 =
+    omega (arith, number .put-number .ensures .1 .0, count .put-number2 .ensures .1 .0, total .put-number3 .ensures .1 .0, digest .put-digest .ensures .1 .0) in
+    (rw parts (ended .ends), (short, rw parts (ended .here)))
+
+pub answer-line-spec : {M : Type 1} → statement M
+answer-line-spec =
+    tie.close
+    (tie.spec
+    (λ c. search needs)
+    (λ c κs. search needs)
+    (λ c κs. search needs)
+    (λ c κs. search needs)
+    (λ c κs. search needs)
+    (λ c κs. search needs)
+    (λ c κs. search needs)
+    (λ c. search needs)
+    (λ c. search needs)
+    returns)

@@ -1,0 +1,21 @@
+-- The line that the program prints: 01, "one line `answer,NUMBER,COUNT,LENGTH,DIGEST`. The line ends with byte 10."
+use Prim.Native.Nat.{ℕ}
+use mathlib.Core.Bool.{Bool, cond}
+use mathlib.Core.List.{List, [], _∷_, _++_}
+use Rattle.scene_reading.specs.Print.{lineText, hexText, decimalText}
+
+-- the word `answer`
+unfoldable pub answerWord : List ℕ
+answerWord = 97 ∷ 110 ∷ 115 ∷ 119 ∷ 101 ∷ 114 ∷ []
+
+-- "The first three fields are decimal": a number of 64 bits has at most 20 digits
+unfoldable pub numberText : ℕ → List ℕ
+numberText n = decimalText 20 n
+
+-- "DIGEST has 64 lower-case digits or is empty where there is none"
+unfoldable pub digestText : Bool → List ℕ → List ℕ
+digestText reached digest = cond reached (hexText digest) []
+
+unfoldable pub lineOf : ℕ → ℕ → ℕ → Bool → List ℕ → List ℕ
+lineOf number count total reached digest =
+    lineText answerWord (numberText number ∷ numberText count ∷ numberText total ∷ digestText reached digest ∷ []) ++ (10 ∷ [])

@@ -1,0 +1,65 @@
+// The line that the program prints.
+mod put; // put.rt
+
+use crate::put::put_byte;
+use crate::put::put_decimal;
+use crate::put::put_hex;
+use octets::store_bytes;
+ghost use mathlib.Core.Path.{_≡_};
+ghost use mathlib.Core.List.{_∷_};
+ghost use Prim.Native.Nat.{_+_, _≤_};
+ghost use lib.ListN.{length};
+ghost use lib.Seq.{sets};
+ghost use Rattle.answer_line.specs.Line.{numberText, digestText, lineOf};
+
+const COMMA: u8 = 44;
+
+const LINE_END: u8 = 10;
+
+// A comma and a number from `at` on; where they end.
+fn put_number(out: &mut [u8], at: usize, value: usize) -> usize
+    requires { ⌜ at ≤ 1000 ⌝ }
+    ensures { λ r. ⌜ r ≡ at + length (44 ∷ numberText value) ⌝ }
+    ensures { λ r. ⌜ r ≤ at + 21 ⌝ }
+    ensures { λ _. ⌜ now (out .exit) ≡ sets (now (out .entry)) at (44 ∷ numberText value) ⌝ }
+{
+    put_byte(out, at, COMMA);
+    put_decimal(out, at + 1, 20, value)
+}
+
+// A comma and the digest, if there is one, from `at` on; where they end.
+fn put_digest(out: &mut [u8], at: usize, reached: bool, digest: &[u8; 32]) -> usize
+    requires { ⌜ at ≤ 1000 ⌝ }
+    ensures { λ r. ⌜ r ≡ at + length (44 ∷ digestText reached (now (digest .entry))) ⌝ }
+    ensures { λ r. ⌜ r ≤ at + 65 ⌝ }
+    ensures { λ _. ⌜ now (out .exit) ≡ sets (now (out .entry)) at (44 ∷ digestText reached (now (digest .entry))) ⌝ }
+{
+    put_byte(out, at, COMMA);
+    if reached {
+        put_hex(out, at + 1, digest)
+    } else {
+        at + 1
+    }
+}
+
+// Stores the line from the front of `out` on, as far as there is room, and says how long it is.
+pub fn answer_line(
+    number: u8,
+    count: usize,
+    total: usize,
+    reached: bool,
+    digest: [u8; 32],
+    out: &mut [u8],
+) -> usize
+    ensures { λ r. ⌜ r ≡ length (lineOf number count total reached digest) ⌝ }
+    ensures { λ r. ⌜ r ≤ 135 ⌝ }
+    ensures { λ _. ⌜ now (out .exit) ≡ sets (now (out .entry)) 0 (lineOf number count total reached digest) ⌝ }
+{
+    store_bytes(out, 0, b"answer");
+    let number_end = put_number(out, 6, number as usize);
+    let count_end = put_number(out, number_end, count);
+    let total_end = put_number(out, count_end, total);
+    let digest_end = put_digest(out, total_end, reached, &digest);
+    put_byte(out, digest_end, LINE_END);
+    digest_end + 1
+}

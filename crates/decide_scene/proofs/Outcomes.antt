@@ -1,0 +1,63 @@
+-- What is decided, by what the reader finds and by the scene's length; and its line.
+-- Assumes nothing.
+use Prim.Native.Nat.{ℕ, _≤_, _<_}
+use mathlib.Core.Path.{_≡_, refl, sym, ap}
+use mathlib.Core.List.{List}
+use borrow.Author.Tests.{lt-ltb, le-ltb}
+use lib.ListN.{length}
+use Rattle.protocol.specs.declared.error.ProtocolError.{ProtocolError}
+use Rattle.protocol.specs.declared.error.ProtocolError.the-variants.{SceneTooLong}
+use Rattle.protocol.specs.declared.check.Check.{Check}
+use Rattle.protocol.specs.declared.check.Check.the-variants.{Passed, Failed}
+use Rattle.protocol.specs.Rows.{checkNumber}
+use Rattle.protocol.proofs.Hold.{failed-passed}
+use Rattle.scene_reader.specs.Reader.{Outcome, refused, held, readOf, answerOf, storeOf, tableOf}
+use Rattle.account_lock.specs.declared.answer.LockAnswer.{LockAnswer}
+use Rattle.account_lock.specs.Lock as lock
+use Rattle.answer_line.specs.Line.{lineOf}
+use Rattle.decide_scene.specs.Decided.{decidedBy, decided, programDecides, storeAfter, tableAfter, resultLine}
+
+-- the reader refuses
+pub refused-decides : (o : Outcome) (e : ProtocolError) (room : ℕ) → answerOf o ≡ Failed e → decidedBy o room ≡ lock.refused (Failed e)
+unfolding decidedBy
+refused-decides (refused d) e room h = ap lock.refused h
+refused-decides (held x) e room h = failed-passed e (sym h)
+
+-- the reader accepts
+pub held-decides : (o : Outcome) (n m room : ℕ) → answerOf o ≡ Passed → decidedBy o room ≡ lock.lockOf (tableOf m o) (storeOf n o) room
+unfolding decidedBy
+held-decides (refused d) n m room h = failed-passed d h
+held-decides (held x) n m room h = refl
+
+-- the line of an answer
+pub told-line : (a : LockAnswer) (r : lock.Result) → a ≡ lock.told r → lineOf (checkNumber (a .found)) (a .count) (a .length) (a .reached) (a .digest) ≡ resultLine r
+unfolding resultLine lock.told
+told-line a r e = rw e
+
+-- a scene that is too long for the program
+module _ (scene : List ℕ) (h : 65536 < length scene) where
+  pub long-decides : (n m room : ℕ) → programDecides scene n m room ≡ lock.refused (Failed SceneTooLong)
+  unfolding programDecides
+  long-decides n m room = rw (lt-ltb 65536 (length scene) h)
+
+  pub long-store : (store : List ℕ) (m : ℕ) → store ≡ storeAfter scene store m
+  unfolding storeAfter
+  long-store store m = rw (lt-ltb 65536 (length scene) h)
+
+  pub long-table : (n : ℕ) (table : List ℕ) → table ≡ tableAfter scene n table
+  unfolding tableAfter
+  long-table n table = rw (lt-ltb 65536 (length scene) h)
+
+-- a scene that is not
+module _ (scene : List ℕ) (h : length scene ≤ 65536) where
+  pub short-decides : (n m room : ℕ) → programDecides scene n m room ≡ decided scene n m room
+  unfolding programDecides
+  short-decides n m room = rw (le-ltb 65536 (length scene) h)
+
+  pub short-store : (store : List ℕ) (m : ℕ) → storeOf (length store) (readOf scene (length store) m) ≡ storeAfter scene store m
+  unfolding storeAfter
+  short-store store m = rw (le-ltb 65536 (length scene) h)
+
+  pub short-table : (n : ℕ) (table : List ℕ) → tableOf (length table) (readOf scene n (length table)) ≡ tableAfter scene n table
+  unfolding tableAfter
+  short-table n table = rw (le-ltb 65536 (length scene) h)
