@@ -6,7 +6,6 @@ pub use self::places::Place;
 pub use self::places::RequestPlaces;
 pub use self::places::part_at;
 pub use self::places::read_places;
-
 use octets::same_bytes;
 ghost use mathlib.Core.Path.{_≡_};
 ghost use Rattle.verifier_request.specs.Reader.{readRequest};
@@ -108,5 +107,9 @@ fn read_with(refusal: u8, found: &[u8], digest: &[u8]) -> bool
 pub fn is_for(request: &[u8], digest: &[u8]) -> bool
     ensures { λ r. ⌜ r ≡ isFor (now (request .entry)) (now (digest .entry)) ⌝ }
 {
-    read_with(refusal_of(request), authorization_digest_of(request), digest)
+    read_with(
+        refusal_of(request),
+        authorization_digest_of(request),
+        digest,
+    )
 }

@@ -59,10 +59,22 @@ fn places_at(fields: RequestFields) -> RequestPlaces
         slot: fields.slot,
         operation: fields.operation,
         verifier_profile: fields.verifier_profile,
-        authorization_digest: Place { start: fields.authorization_digest, len: 32 },
-        key_id: Place { start: fields.key_id, len: 32 },
-        aux: Place { start: fields.aux, len: fields.aux_len },
-        proof: Place { start: fields.proof, len: fields.proof_len },
+        authorization_digest: Place {
+            start: fields.authorization_digest,
+            len: 32,
+        },
+        key_id: Place {
+            start: fields.key_id,
+            len: 32,
+        },
+        aux: Place {
+            start: fields.aux,
+            len: fields.aux_len,
+        },
+        proof: Place {
+            start: fields.proof,
+            len: fields.proof_len,
+        },
     }
 }
 
