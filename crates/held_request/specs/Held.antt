@@ -1,12 +1,12 @@
 -- 01, From these files: "`VerifierRequest` holds slices: places by value first; then its reader keeps the request's bytes in
 -- the struct it hands out." What that struct has: the request's bytes, what was read in them, and the bytes at a place.
 use Prim.Native.Nat.{ℕ}
-use mathlib.Core.Bool.{Bool}
+use mathlib.Core.Bool.{Bool, _&&_}
 use mathlib.Core.List.{List}
 use lib.Dec.{eqb}
 use lib.ListN.{take, drop}
 use denote.Ref.{RefT, now}
-use Rattle.octets.specs.Lists.{both, same}
+use Rattle.octets.specs.Lists.{same}
 use Rattle.protocol.specs.Errors.{errorNumber}
 use Rattle.verifier_request.specs.declared.reader.RequestFields.{RequestFields}
 use Rattle.verifier_request.specs.declared.reader.RequestAnswer.{RequestAnswer}
@@ -77,7 +77,7 @@ heldReading s p =
 
 -- nothing was refused, and the digest found is this one
 unfoldable pub readWith : ℕ → List ℕ → List ℕ → Bool
-readWith refusal found digest = both (eqb refusal 0) (same found digest)
+readWith refusal found digest = eqb refusal 0 && same found digest
 
 -- the bytes are a request for this digest
 unfoldable pub isFor : List ℕ → List ℕ → Bool
