@@ -84,7 +84,8 @@ held-accepts s = (λ z. reader-accepts s .0 (accepted s (readRequest s) refl z),
 
 -- The theorem: what the functions hand out is the one reading, and writing it gives the same bytes or 5.
 pub held-theorem : (s : List ℕ) → Bytes s → found s .refusal ≡ 0
-    → OneReading RequestTyped requestBytes s (heldReading s (found s)) × WritesBack (requestWritten (heldReading s (found s))) (requestStored (heldReading s (found s))) s
+    → OneReading RequestTyped requestBytes s (heldReading s (found s)) × WritesBack (requestWritten (heldReading s (found s)))
+    (requestStored (heldReading s (found s))) s
 held-theorem s b z =
     let e = accepted s (readRequest s) refl z in
     rw (held-given s (fieldsAt s) e) (request-theorem s (fieldsAt s) b e)

@@ -1,5 +1,7 @@
--- The walk of a function whose body is `parse(bytes).G()`, for any function G over the struct alone: from plain bytes to plain data. All that it knows of `parse` and of G is that each meets its contract.
--- The machine value that `parse` returns is stored and passed on as it is. In a local of a body MIR erases the lifetime of the struct's type.
+-- The walk of a function whose body is `parse(request).G()`, for any function G over the struct alone: from plain bytes to plain
+-- data. All that it knows of `parse` and of G is that each meets its contract.
+-- The machine value that `parse` returns is stored and passed on as it is. In a local of a body MIR erases the lifetime of the
+-- struct's type.
 -- Assumes `Given`, which every proof has.
 use Prim.Native.Nat.{ℕ}
 use mathlib.Core.Path.{_≡_, refl, subst}
@@ -53,13 +55,15 @@ throughFn τ g =
       lifetimes = 1;
       outlives = [];
       params = 1;
-      locals = local τ valueLocal ∷ local (sliceTy (tyRef (named 0) imm (tyInt w8))) valueLocal ∷ local (T′.mir erased) valueLocal ∷ [];
+      locals = local τ valueLocal ∷ local (sliceTy (tyRef (named 0) imm (tyInt w8))) valueLocal ∷ local
+          (T′.mir erased) valueLocal ∷ [];
       body = seq (call #parse (copy (place 1 []) ∷ []) (place 2 [])) (seq (call g (copy (place 2 []) ∷ []) (place 0 [])) return);
     }
 
 -- its signature, and its contract: what G's says, of the request that `parse` makes
 abbrev pub Plainly : Slot 1 → Ended
-Plainly R = record { signature = record { lifetimes = 1; outlives = []; params = SliceRefOf (0 ∷ []) tt (plain (λ κs. u8)) (λ κs. tt) ∷ []; result = R }; kept = (yes, tt) }
+Plainly R =
+    record { signature = record { lifetimes = 1; outlives = []; params = SliceRefOf (0 ∷ []) tt (plain (λ κs. u8)) (λ κs. tt) ∷ []; result = R }; kept = (yes, tt) }
 
 abbrev pub OfParsed : {M : Type 1} (𝓤 : URA M) (R : Slot 1) → Said R → Clauses 𝓤 (Plainly R)
 OfParsed 𝓤 R φ κs a = record { ghost = Unit {0}; requires = λ _. emp 𝓤; ensures = λ _ r e. fact 𝓤 (φ (parsed (a .0)) κs r) }
@@ -110,39 +114,63 @@ module _ {M : Type 1} (𝓤 : URA M) (H : Heap 𝓤) (A : Atoms 𝓤) (W : Given
         move ! (1 ∷ []) $ fsplit ! $ use1 W (‵ Own ⊛ ‵ Own) (shr-slice-copy 𝓤 H A W (named 0) κ u8 .twice s (v ∷ [])) $ split ! $
         move ! (0 ∷ 2 ∷ []) $ fjoin ! $ move ! (2 ∷ 0 ∷ []) $ frame ! $ frame ! $ done !
 
-    exits : (r : Q .Denot) (u : Val) → φ (parsed s) (κ, tt) r → ent 𝓤 (⋆ 𝓤 H A (‵ (Q .own r (u ∷ [])) ∷ (‵ (flft κ q) ⊛ ‵ ftrue) ∷ ‵ Own ∷ [])) (Post u)
+    exits : (r : Q .Denot) (u : Val) → φ (parsed s) (κ, tt) r
+        → ent 𝓤 (⋆ 𝓤 H A (‵ (Q .own r (u ∷ [])) ∷ (‵ (flft κ q) ⊛ ‵ ftrue) ∷ ‵ Own ∷ [])) (Post u)
     exits r u e =
         qed W (‵ (Q .own r (u ∷ [])) ∷ (‵ (flft κ q) ⊛ ‵ ftrue) ∷ ‵ Own ∷ []) ∵
-        suffices ! _ (ends-at 𝓤 H A (Plainly R) (stayed R) c W (((κ, tt), (q, tt), tt, (s, tt), (v ∷ [], tt)), tt) u r (tt, tt) (tt, tt)) $ says ! e $
+        suffices ! _
+        (ends-at 𝓤 H A (Plainly R) (stayed R) c W (((κ, tt), (q, tt), tt, (s, tt), (v ∷ [], tt)), tt) u r (tt, tt) (tt, tt)) $
+        says ! e $
         move ! (1 ∷ []) $ frame ! $ nothing ! $ move ! (2 ∷ 0 ∷ []) $ fjoin ! $ frame ! $ done !
 
-    module _ (C : Calls 𝓤 H) (Λ : Loops 𝓤 H) (fm : FmC 𝓤 H (W .laws) C) (known-parse : Triple 𝓤 (C #parse) (Stated 𝓤 H A ps (yes, tt) (plain B) Parsed)) (known-g : Triple 𝓤 (C g) (Stated 𝓤 H A (plain B ∷ []) (yes, tt) R (Of R φ))) where
-      walk : Is S s (v ∷ []) → ent 𝓤 (onEntry 𝓤 H A (Plainly R .signature) (κ, tt) (q, tt) (s, tt) (v ∷ [], tt)) (WpFn 𝓤 H C Λ (throughFn τ g) (v ∷ []) Post)
+    module _ (C : Calls 𝓤 H) (Λ : Loops 𝓤 H) (fm : FmC 𝓤 H (W .laws) C)
+        (known-parse : Triple 𝓤 (C #parse) (Stated 𝓤 H A ps (yes, tt) (plain B) Parsed))
+        (known-g : Triple 𝓤 (C g) (Stated 𝓤 H A (plain B ∷ []) (yes, tt) R (Of R φ))) where
+      walk : Is S s (v ∷ [])
+          → ent 𝓤 (onEntry 𝓤 H A (Plainly R .signature) (κ, tt) (q, tt) (s, tt) (v ∷ [], tt))
+          (WpFn 𝓤 H C Λ (throughFn τ g) (v ∷ []) Post)
       walk p =
-          qed W (raw (onEntry 𝓤 H A (Plainly R .signature) (κ, tt) (q, tt) (s, tt) (v ∷ [], tt)) ∷ []) ∵ enter ! C Λ (throughFn τ g) (v ∷ []) _ $
-          alloc1 ! (λ l₀. alloc1 ! (λ l₁. alloc1 ! (λ l₂. alloc0 ! $ params1 ! $ pass1 ! (init ! 2 refl (shr-slice-lawful 𝓤 H A W (named 0) κ u8 .typed s (v ∷ []) p .0)) $ pass0 ! $
-          move ! (6 ∷ []) $ use1 W ((‵ (flft κ q) ⊛ ‵ ftrue) ⊛ (‵ (owns (typesAt ps (κ, tt)) (s, tt) (v ∷ [], tt)) ⊛ ‵ Own)) goes $ split3 ! $
-          calls-stated ! fm ps (yes, tt) (plain B) Parsed known-parse κ q (s, tt) (v ∷ [], tt) (and-then ! (load ! (from ! (stop !)) (look ! 4 refl)) (no-more !)) (λ d u e is.
+          qed W (raw (onEntry 𝓤 H A (Plainly R .signature) (κ, tt) (q, tt) (s, tt) (v ∷ [], tt)) ∷ []) ∵ enter ! C Λ
+          (throughFn τ g) (v ∷ []) _ $
+          alloc1 ! (λ l₀. alloc1 ! (λ l₁. alloc1 ! (λ l₂. alloc0 ! $ params1 ! $
+          pass1 ! (init ! 2 refl (shr-slice-lawful 𝓤 H A W (named 0) κ u8 .typed s (v ∷ []) p .0)) $ pass0 ! $
+          move ! (6 ∷ []) $
+          use1 W ((‵ (flft κ q) ⊛ ‵ ftrue) ⊛ (‵ (owns (typesAt ps (κ, tt)) (s, tt) (v ∷ [], tt)) ⊛ ‵ Own)) goes $ split3 ! $
+          calls-stated ! fm ps (yes, tt) (plain B) Parsed known-parse κ q (s, tt) (v ∷ [], tt)
+          (and-then ! (load ! (from ! (stop !)) (look ! 4 refl)) (no-more !)) (λ d u e is.
           -- [what the struct owns; the token; what s owns; room for _2; …; _1; …; room for _0; …]
           land ! (from ! (stop !)) (init ! 3 refl (LL.lawful (T.the-type αᵉ) (T′.the-laws αᵉ) 𝓤 H A W .typed d _ is .0)) $
           nothing ! $ move ! (1 ∷ 0 ∷ []) $ fjoin ! $ move ! (1 ∷ 0 ∷ []) $
-          calls-stated ! fm (plain B ∷ []) (yes, tt) R (Of R φ) known-g κ q (d, tt) (u ∷ [], tt) (and-then ! (load ! (from ! (stop !)) (look ! 2 refl)) (no-more !)) (λ r u′ e′ is′.
+          calls-stated ! fm (plain B ∷ []) (yes, tt) R (Of R φ) known-g κ q (d, tt) (u ∷ [], tt)
+          (and-then ! (load ! (from ! (stop !)) (look ! 2 refl)) (no-more !)) (λ r u′ e′ is′.
           -- [the result; the token; what s owns; _2; …; _1; …; room for _0; …]
           land ! (from ! (stop !)) (init ! 7 refl (typed (κ, tt) r u′ is′)) $
-          returns ! (look ! 7 refl) $ forget ! 3 refl $ forget ! 5 refl $ forget ! 7 refl $ move ! (7 ∷ 8 ∷ []) $ free1 ! $ move ! (5 ∷ 6 ∷ []) $ free1 ! $ move ! (3 ∷ 4 ∷ []) $ free1 ! $ free0 ! $
+          returns ! (look ! 7 refl) $ forget ! 3 refl $ forget ! 5 refl $ forget ! 7 refl $ move ! (7 ∷ 8 ∷ []) $ free1 ! $
+          move ! (5 ∷ 6 ∷ []) $ free1 ! $ move ! (3 ∷ 4 ∷ []) $ free1 ! $ free0 ! $
           by ! (exits r u′ (subst (λ (x : VerifierRequest). φ x (κ, tt) r) e e′)))))))
 
-  walks : (C : Calls 𝓤 H) (Λ : Loops 𝓤 H) → FmC 𝓤 H (W .laws) C → Triple 𝓤 (C #parse) (Stated 𝓤 H A ps (yes, tt) (plain B) Parsed) → Triple 𝓤 (C g) (Stated 𝓤 H A (plain B ∷ []) (yes, tt) R (Of R φ)) → Walks 𝓤 H A (Plainly R) (stayed R) (WpFn 𝓤 H C Λ (throughFn τ g)) c
-  walks C Λ fm known-parse known-g = walked 𝓤 H A (Plainly R) (stayed R) c (WpFn 𝓤 H C Λ (throughFn τ g)) (λ κs. (slice-vals, tt)) (λ κs. (shr-slice-tells (named 0) (κs .0) u8, tt))
+  walks : (C : Calls 𝓤 H) (Λ : Loops 𝓤 H) → FmC 𝓤 H (W .laws) C → Triple 𝓤 (C #parse) (Stated 𝓤 H A ps (yes, tt) (plain B) Parsed)
+      → Triple 𝓤 (C g) (Stated 𝓤 H A (plain B ∷ []) (yes, tt) R (Of R φ))
+      → Walks 𝓤 H A (Plainly R) (stayed R) (WpFn 𝓤 H C Λ (throughFn τ g)) c
+  walks C Λ fm known-parse known-g =
+      walked 𝓤 H A (Plainly R) (stayed R) c (WpFn 𝓤 H C Λ (throughFn τ g)) (λ κs. (slice-vals, tt))
+      (λ κs. (shr-slice-tells (named 0) (κs .0) u8, tt))
       (λ κs qs bounds a y are. via 𝓤 _ (fst∗ 𝓤 _ (emp 𝓤)) (walk (κs .0) (qs .0) (a .0) C Λ fm known-parse known-g (are .0)))
 
-  meets : (𝓣 : Tables 𝓤 H) → Triple 𝓤 (𝓣 .C #parse) (Stated 𝓤 H A ps (yes, tt) (plain B) Parsed) → Triple 𝓤 (𝓣 .C g) (Stated 𝓤 H A (plain B ∷ []) (yes, tt) R (Of R φ)) → Meets 𝓤 H A (Plainly R .signature) (WpFn 𝓤 H (𝓣 .C) (𝓣 .Λ) (throughFn τ g)) (closing 𝓤 H A (Plainly R) c)
-  meets 𝓣 known-parse known-g = walk-meets 𝓤 H A (Plainly R) (stayed R) W (goes-none-slice 𝓤 H A W 1 (0 ∷ []) tt (plain (λ _. u8)) yes, tt) c (WpFn 𝓤 H (𝓣 .C) (𝓣 .Λ) (throughFn τ g)) (WpFn-mono 𝓤 H (W .laws) 𝓣 (throughFn τ g)) (walks (𝓣 .C) (𝓣 .Λ) (fmOf 𝓤 H (W .laws) 𝓣) known-parse known-g)
+  meets : (𝓣 : Tables 𝓤 H) → Triple 𝓤 (𝓣 .C #parse) (Stated 𝓤 H A ps (yes, tt) (plain B) Parsed)
+      → Triple 𝓤 (𝓣 .C g) (Stated 𝓤 H A (plain B ∷ []) (yes, tt) R (Of R φ))
+      → Meets 𝓤 H A (Plainly R .signature) (WpFn 𝓤 H (𝓣 .C) (𝓣 .Λ) (throughFn τ g)) (closing 𝓤 H A (Plainly R) c)
+  meets 𝓣 known-parse known-g =
+      walk-meets 𝓤 H A (Plainly R) (stayed R) W (goes-none-slice 𝓤 H A W 1 (0 ∷ []) tt (plain (λ _. u8)) yes, tt) c
+      (WpFn 𝓤 H (𝓣 .C) (𝓣 .Λ) (throughFn τ g)) (WpFn-mono 𝓤 H (W .laws) 𝓣 (throughFn τ g))
+      (walks (𝓣 .C) (𝓣 .Λ) (fmOf 𝓤 H (W .laws) 𝓣) known-parse known-g)
 
 -- at the function's own routine
-module _ {M : Type 1} (𝓤 : URA M) (H : Heap 𝓤) (𝓜 : Model 𝓤 H) (𝓖 : GhostRules 𝓤 H) (𝓡 : Running 𝓤 H 𝓜) (γ : Env) (f g : Name) (R : Slot 1) (φ : Said R) (τ : Ty)
+module _ {M : Type 1} (𝓤 : URA M) (H : Heap 𝓤) (𝓜 : Model 𝓤 H) (𝓖 : GhostRules 𝓤 H) (𝓡 : Running 𝓤 H 𝓜) (γ : Env) (f g : Name)
+    (R : Slot 1) (φ : Said R) (τ : Ty)
     (typed : (κs : Lfts 1) (r : R .row κs .Denot) (u : Val) → Is (R .row κs) r (u ∷ []) → Holds (hasTy τ u) × WT u) where
-  pub through : Closed 𝓤 H (tables 𝓤 H 𝓜 𝓡 γ .C) (tables 𝓤 H 𝓜 𝓡 γ .Λ) f (throughFn τ g) → γ #parse ≡ parse-def.routine → {g-runs : Routine} → γ g ≡ g-runs → Triple 𝓤 (𝓡 .run g-runs) (Stated 𝓤 H (𝓖 .A) (plain B ∷ []) (yes, tt) R (Of R φ))
+  pub through : Closed 𝓤 H (tables 𝓤 H 𝓜 𝓡 γ .C) (tables 𝓤 H 𝓜 𝓡 γ .Λ) f (throughFn τ g) → γ #parse ≡ parse-def.routine
+      → {g-runs : Routine} → γ g ≡ g-runs → Triple 𝓤 (𝓡 .run g-runs) (Stated 𝓤 H (𝓖 .A) (plain B ∷ []) (yes, tt) R (Of R φ))
       → Meets 𝓤 H (𝓖 .A) (Plainly R .signature) (𝓡 .run (γ f)) (closing 𝓤 H (𝓖 .A) (Plainly R) (OfParsed 𝓤 R φ))
   unfolding tablesOf
   through closed calls-parse {g-runs} calls-g g-met =

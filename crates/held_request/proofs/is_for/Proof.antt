@@ -1,4 +1,5 @@
--- `held_request::is_for` meets its contract, by those of the functions that it calls: it takes plain slices, and needs no walk. Assumes nothing.
+-- `held_request::is_for` meets its contract, by those of the functions that it calls: it takes plain slices, and needs no walk.
+-- Assumes nothing.
 use Rattle.held_request.specs.Held.{isFor}
 use borrow.Author.Needs.{needs}
 use Rattle.held_request.proofs.is_for.Statement.{statement}

@@ -15,5 +15,7 @@ use Rattle.held_request.proofs.refusal_of.Code as code
 pub refusal-of-spec : {M : Type 1} → statement M
 unfolding code.routine
 refusal-of-spec 𝓤 H 𝓜 𝓖 𝓡 =
-    through 𝓤 H 𝓜 𝓖 𝓡 code.env name #refusal (plain (λ κs. u8)) (λ d κs r. r ≡ d .places .refusal) (tyInt w8) (λ κs r u is. uint-lawful 𝓤 H (𝓖 .A) (givenOf 𝓤 H 𝓜 𝓖) w8 .typed r _ is .0)
-    (code.unfolded 𝓤 H 𝓜 𝓡) code.calls-held-request·VerifierRequest·parse code.calls-held-request·VerifierRequest·refusal (refusal-thm.met 𝓤 H 𝓜 𝓖 𝓡)
+    through 𝓤 H 𝓜 𝓖 𝓡 code.env name #refusal (plain (λ κs. u8)) (λ d κs r. r ≡ d .places .refusal) (tyInt w8)
+    (λ κs r u is. uint-lawful 𝓤 H (𝓖 .A) (givenOf 𝓤 H 𝓜 𝓖) w8 .typed r _ is .0)
+    (code.unfolded 𝓤 H 𝓜 𝓡) code.calls-held-request·VerifierRequest·parse code.calls-held-request·VerifierRequest·refusal
+    (refusal-thm.met 𝓤 H 𝓜 𝓖 𝓡)

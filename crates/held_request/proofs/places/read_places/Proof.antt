@@ -12,7 +12,8 @@ returns c =
 
 returns-2 : tie.Need-returns-2
 unfolding placesOf
-returns-2 c = rw (c .places-at .ensures, sym (c .before .before .before .before .parse-verifier-request .ensures) ∙ c .before .before .fields .given .1)
+returns-2 c =
+    rw (c .places-at .ensures, sym (c .before .before .before .before .parse-verifier-request .ensures) ∙ c .before .before .fields .given .1)
 
 pub read-places-spec : {M : Type 1} → statement M
 read-places-spec =
