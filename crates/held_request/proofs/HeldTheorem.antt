@@ -98,11 +98,12 @@ held-digest s h = rw (reader-accepts s .1 h)
 -- a request for this digest: every check passes, and its reading has the digest
 pub for-theorem : (s digest : List ℕ) → (isFor s digest ≡ true) ↔ (Hold (requestRows s) × (requestReading s .digest ≡ digest))
 unfolding isFor readWith
-for-theorem s digest =
-    (λ t.
-    let p = and-eq-true-iff (eqb (found s .refusal) 0) (same (partAt s (found s .«authorization_digest»)) digest) .0 t in
-    let h = held-accepts s .0 (eqb-true _ _ (p .0)) in
-    (h, sym (held-digest s h) ∙ same-eq _ _ (p .1)),
-    λ p.
-    and-eq-true-iff (eqb (found s .refusal) 0) (same (partAt s (found s .«authorization_digest»)) digest) .1
-    (eq-eqb _ _ (held-accepts s .1 (p .0)), eq-same _ _ (held-digest s (p .0) ∙ p .1)))
+for-theorem s digest = (
+  λ t.
+      let p = and-eq-true-iff (eqb (found s .refusal) 0) (same (partAt s (found s .«authorization_digest»)) digest) .0 t in
+      let h = held-accepts s .0 (eqb-true _ _ (p .0)) in
+      (h, sym (held-digest s h) ∙ same-eq _ _ (p .1)),
+  λ p.
+      and-eq-true-iff (eqb (found s .refusal) 0) (same (partAt s (found s .«authorization_digest»)) digest) .1
+      (eq-eqb _ _ (held-accepts s .1 (p .0)), eq-same _ _ (held-digest s (p .0) ∙ p .1)),
+)
