@@ -1,7 +1,7 @@
 -- What the walks of the functions over a `VerifierRequest` share: the struct's type, the signature and the contract of a function
 -- that takes one, and what is known of a field of its places.
--- Takes, Taken, Says   a function that takes the struct and gives an R; with its `Kept`; its contract, which states a fact of the
--- struct and the result
+--     Takes, Taken     a function that takes the struct and gives an R; with what it keeps
+--     Says             its contract, which states a fact of the struct and the result
 --     mach, Post       the struct's machine value, and where a walk ends
 --     Walk, taken      a walk of the MIR e, at each choice of lifetime, share and struct; and the function's theorem from it
 --     At τ k v         field k of `RequestPlaces` has the MIR type τ, and holds v's machine value
