@@ -25,7 +25,7 @@ use Rattle.verifier_request.specs.Reading.{RequestTyped, readingOf, requestRead
 use Rattle.verifier_request.specs.Writer.{requestWritten, requestStored}
 use Rattle.verifier_request.proofs.RequestTheorem.{reader-accepts, request-given, request-theorem}
 use Rattle.held_request.specs.declared.places.RequestPlaces.{RequestPlaces}
-use Rattle.held_request.specs.Held.{partAt, placesOf, heldReading, readWith, isFor}
+use Rattle.held_request.specs.Held.{partAt, placesOf, heldReading, isFor}
 
 -- no refusal has the number 0
 numbered : (e : ProtocolError) → leb 1 (errorNumber e) ≡ true
@@ -97,7 +97,7 @@ held-digest s h = rw (reader-accepts s .1 h)
 
 -- a request for this digest: every check passes, and its reading has the digest
 pub for-theorem : (s digest : List ℕ) → (isFor s digest ≡ true) ↔ (Hold (requestRows s) × (requestReading s .digest ≡ digest))
-unfolding isFor readWith
+unfolding isFor
 for-theorem s digest = (
   λ t.
       let p = and-eq-true-iff (eqb (found s .refusal) 0) (same (partAt s (found s .«authorization_digest»)) digest) .0 t in

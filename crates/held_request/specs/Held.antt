@@ -75,10 +75,8 @@ heldReading s p =
     (partAt s (p .aux))
     (partAt s (p .proof))
 
--- nothing was refused, and the digest found is this one
-unfoldable pub readWith : ℕ → List ℕ → List ℕ → Bool
-readWith refusal found digest = eqb refusal 0 && same found digest
-
--- the bytes are a request for this digest
+-- the bytes are a request for this digest: nothing was refused, and the digest found is this one
 unfoldable pub isFor : List ℕ → List ℕ → Bool
-isFor s digest = readWith (placesOf (readRequest s) .refusal) (partAt s (placesOf (readRequest s) .«authorization_digest»)) digest
+isFor s digest =
+    let found = placesOf (readRequest s) in
+    eqb (found .refusal) 0 && same (partAt s (found .«authorization_digest»)) digest

@@ -9,7 +9,7 @@ pub use self::places::read_places;
 use octets::same_bytes;
 ghost use mathlib.Core.Path.{_≡_};
 ghost use Rattle.verifier_request.specs.Reader.{readRequest};
-ghost use Rattle.held_request.specs.Held.{partAt, placesOf, parsed, readWith, isFor};
+ghost use Rattle.held_request.specs.Held.{partAt, placesOf, parsed, isFor};
 
 pub struct VerifierRequest<'a> {
     pub request: &'a [u8],
@@ -97,19 +97,9 @@ pub fn authorization_digest_of(request: &[u8]) -> &[u8]
     VerifierRequest::parse(request).authorization_digest()
 }
 
-fn read_with(refusal: u8, found: &[u8], digest: &[u8]) -> bool
-    ensures { λ r. ⌜ r ≡ readWith refusal (now (found .entry)) (now (digest .entry)) ⌝ }
-{
-    refusal == 0 && same_bytes(found, digest)
-}
-
 // Whether these bytes are a request for this digest.
 pub fn is_for(request: &[u8], digest: &[u8]) -> bool
     ensures { λ r. ⌜ r ≡ isFor (now (request .entry)) (now (digest .entry)) ⌝ }
 {
-    read_with(
-        refusal_of(request),
-        authorization_digest_of(request),
-        digest,
-    )
+    refusal_of(request) == 0 && same_bytes(authorization_digest_of(request), digest)
 }
