@@ -1,0 +1,105 @@
+// The verifier request that holds its bytes: a struct of the request's slice and of what the reader found in it, with thin
+// functions over it. Functions with plain parameters stand above them, for every other caller.
+mod places; // places.rt
+
+pub use self::places::Place;
+pub use self::places::RequestPlaces;
+pub use self::places::part_at;
+pub use self::places::read_places;
+use octets::same_bytes;
+ghost use mathlib.Core.Path.{_≡_};
+ghost use Rattle.verifier_request.specs.Reader.{readRequest};
+ghost use Rattle.held_request.specs.Held.{partAt, placesOf, parsed, isFor};
+
+pub struct VerifierRequest<'a> {
+    pub request: &'a [u8],
+    pub places: RequestPlaces,
+}
+
+impl<'a> VerifierRequest<'a> {
+    // The request in these bytes, read or refused.
+    pub fn parse(request: &'a [u8]) -> Self
+        ensures { λ r. ⌜ r ≡ parsed (request .entry) ⌝ }
+    {
+        Self {
+            request,
+            places: read_places(request),
+        }
+    }
+
+    // 0 where the request was read, else the refusal's number.
+    pub fn refusal(self) -> u8
+        ensures { λ r. ⌜ r ≡ self .entry .places .refusal ⌝ }
+    {
+        self.places.refusal
+    }
+
+    pub fn algorithm_id(self) -> u16
+        ensures { λ r. ⌜ r ≡ self .entry .places .«algorithm_id» ⌝ }
+    {
+        self.places.algorithm_id
+    }
+
+    pub fn slot(self) -> u16
+        ensures { λ r. ⌜ r ≡ self .entry .places .slot ⌝ }
+    {
+        self.places.slot
+    }
+
+    pub fn operation(self) -> u8
+        ensures { λ r. ⌜ r ≡ self .entry .places .operation ⌝ }
+    {
+        self.places.operation
+    }
+
+    pub fn verifier_profile(self) -> u8
+        ensures { λ r. ⌜ r ≡ self .entry .places .«verifier_profile» ⌝ }
+    {
+        self.places.verifier_profile
+    }
+
+    pub fn authorization_digest(self) -> &'a [u8]
+        ensures { λ r. ⌜ now r ≡ partAt (now (self .entry .request)) (self .entry .places .«authorization_digest») ⌝ }
+    {
+        part_at(self.request, self.places.authorization_digest)
+    }
+
+    pub fn key_id(self) -> &'a [u8]
+        ensures { λ r. ⌜ now r ≡ partAt (now (self .entry .request)) (self .entry .places .«key_id») ⌝ }
+    {
+        part_at(self.request, self.places.key_id)
+    }
+
+    pub fn aux(self) -> &'a [u8]
+        ensures { λ r. ⌜ now r ≡ partAt (now (self .entry .request)) (self .entry .places .aux) ⌝ }
+    {
+        part_at(self.request, self.places.aux)
+    }
+
+    pub fn proof(self) -> &'a [u8]
+        ensures { λ r. ⌜ now r ≡ partAt (now (self .entry .request)) (self .entry .places .proof) ⌝ }
+    {
+        part_at(self.request, self.places.proof)
+    }
+}
+
+// 0 where these bytes are a request, else the refusal's number.
+pub fn refusal_of(request: &[u8]) -> u8
+    ensures { λ r. ⌜ r ≡ placesOf (readRequest (now (request .entry))) .refusal ⌝ }
+{
+    VerifierRequest::parse(request).refusal()
+}
+
+// The digest that the request in these bytes is for; no byte where it is refused.
+pub fn authorization_digest_of(request: &[u8]) -> &[u8]
+    ensures { λ r. ⌜ now r ≡ partAt (now (request .entry)) (placesOf (readRequest (now (request .entry))) .«authorization_digest») ⌝ }
+{
+    VerifierRequest::parse(request).authorization_digest()
+}
+
+// Whether these bytes are a request for this digest.
+pub fn is_for(request: &[u8], digest: &[u8]) -> bool
+    ensures { λ r. ⌜ r ≡ isFor (now (request .entry)) (now (digest .entry)) ⌝ }
+{
+    refusal_of(request) == 0 && same_bytes(authorization_digest_of(request), digest)
+}
