@@ -11,6 +11,9 @@ mod exports;
 mod exports_transaction;
 #[cfg(originals)]
 mod formats;
+#[cfg_attr(not(originals), allow(dead_code))]
+#[path = "../../include/fowlcredenza.rs"]
+mod fowlcredenza;
 mod hash;
 mod hex;
 mod lent;
