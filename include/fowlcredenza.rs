@@ -195,7 +195,6 @@ unsafe extern "C" {
     pub fn fowlcredenza_table_valid(table: *const u32, table_len: usize, store_len: u64) -> u32;
 }
 
-#[cfg(lock)]
 #[link(name = "exports_lock", kind = "static")]
 unsafe extern "C" {
     pub fn fowlcredenza_lock(

@@ -10,11 +10,11 @@ mod formats;
 #[path = "../../include/fowlcredenza.rs"]
 mod fowlcredenza;
 mod hash;
-#[cfg(all(originals, lock))]
+#[cfg(originals)]
 #[allow(dead_code)]
 #[path = "../host/lent.rs"]
 mod lent;
-#[cfg(all(originals, lock))]
+#[cfg(originals)]
 mod lock;
 #[allow(dead_code)]
 #[path = "../host/prng.rs"]
@@ -27,7 +27,7 @@ mod scene;
 mod scene_exports;
 #[path = "scene.rs"]
 mod scene_speed;
-#[cfg(all(originals, lock))]
+#[cfg(originals)]
 #[path = "../host/scene_text.rs"]
 mod scene_text;
 
@@ -36,6 +36,6 @@ fn main() {
     scene_speed::run();
     #[cfg(originals)]
     formats::run();
-    #[cfg(all(originals, lock))]
+    #[cfg(originals)]
     lock::run();
 }

@@ -21,7 +21,6 @@ mod lent;
 mod locks;
 #[cfg(originals)]
 mod original;
-mod port;
 mod prng;
 mod report;
 #[cfg(originals)]
@@ -32,8 +31,6 @@ mod scene_text;
 mod scenes;
 #[cfg(originals)]
 mod smoke;
-#[cfg(all(originals, not(lock)))]
-mod stand_in;
 mod table;
 #[cfg(originals)]
 mod transaction;

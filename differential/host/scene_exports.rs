@@ -22,7 +22,6 @@ pub fn table_valid(table: &[u32], store_len: usize) -> u32 {
 }
 
 /// Runs the lock. `out` takes count, length and 1 where there is a digest, as 64-bit words, then the digest.
-#[cfg(lock)]
 pub fn lock(table: &[u32], store: &[u8], answer: &mut [u8], out: &mut [u8]) -> u32 {
     unsafe {
         library::fowlcredenza_lock(

@@ -1,6 +1,5 @@
 // The scene reader and the table's test for programs in other languages.
-use protocol::Check;
-use protocol::error_number;
+use export_answers::check_number;
 ghost use mathlib.Core.Path.{_≡_};
 ghost use mathlib.Core.Bool.{cond};
 ghost use lib.ListN.{length};
@@ -15,10 +14,7 @@ pub extern "C" fn fowlcredenza_read_scene(scene: &[u8], store: &mut [u8], table:
     ensures { λ _. ⌜ now (store .exit) ≡ storeOf (length (now (store .entry))) (readOf (now (scene .entry)) (length (now (store .entry))) (length (now (table .entry)))) ⌝ }
     ensures { λ _. ⌜ now (table .exit) ≡ tableOf (length (now (table .entry))) (readOf (now (scene .entry)) (length (now (store .entry))) (length (now (table .entry)))) ⌝ }
 {
-    match scene_reader::read_scene(scene, store, table) {
-        Check::Failed(error) => error_number(error) as u32,
-        Check::Passed => 0,
-    }
+    check_number(scene_reader::read_scene(scene, store, table))
 }
 
 // 1 where a scene leaves this table with a store of that many bytes, else 0.

@@ -3,7 +3,7 @@
 use crate::hex::Hex;
 use crate::lent::Lent;
 use crate::original::Outcome;
-use crate::port;
+use crate::scene_exports;
 use std::sync::LazyLock;
 
 /// An answer buffer that is long enough for any scene.
@@ -74,7 +74,7 @@ impl Answer {
     pub fn of_port(lent: &Lent, buffer_len: usize) -> Self {
         let mut buffer = BEFORE[..buffer_len].to_vec();
         let mut out = [0; OUT];
-        let number = port::lock(&lent.table, &lent.store, &mut buffer, &mut out);
+        let number = scene_exports::lock(&lent.table, &lent.store, &mut buffer, &mut out);
         let word = |i: usize| u64::from_le_bytes(out[8 * i..8 * i + 8].try_into().unwrap());
         Answer {
             number,

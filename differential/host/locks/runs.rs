@@ -4,10 +4,10 @@ use super::answer::{Answer, ENOUGH};
 use crate::hex::Hex;
 use crate::lent::Lent;
 use crate::original::{self, Outcome};
-use crate::port;
 use crate::prng::Prng;
 use crate::report::Report;
 use crate::scene::ENTRIES;
+use crate::scene_exports;
 use crate::scene_text::text;
 use crate::table;
 use ckb_std::Scene;
@@ -49,7 +49,7 @@ impl Runs<'_> {
     fn read(&mut self, text: &[u8]) -> Lent {
         let lent = Lent::read(text);
         let (mut store, mut table) = (vec![0; lent.store.len()], vec![0; ENTRIES]);
-        let number = port::read_scene(text, &mut store, &mut table);
+        let number = scene_exports::read_scene(text, &mut store, &mut table);
         let same = (number, &store == &lent.store, table == lent.table);
         let input = || String::from_utf8_lossy(text).into();
         let expected = (0, true, true);

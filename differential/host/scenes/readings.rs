@@ -1,10 +1,10 @@
 //! Calls of both readers, compared.
 
 use crate::lent::Lent;
-use crate::port;
 use crate::prng::Prng;
 use crate::report::Report;
 use crate::scene::{self, ENTRIES};
+use crate::scene_exports;
 use crate::scene_text::text;
 use crate::table;
 
@@ -38,7 +38,7 @@ fn read(reader: Reader, text: &[u8], store_len: usize, table_len: usize, before:
 impl Readings<'_> {
     /// A text, with a store and a table of these lengths.
     pub fn scene_in(&mut self, text: &[u8], store_len: usize, table_len: usize) {
-        let result = read(port::read_scene, text, store_len, table_len, 0xa5);
+        let result = read(scene_exports::read_scene, text, store_len, table_len, 0xa5);
         let expected = read(scene::read, text, store_len, table_len, 0x5a);
         self.report.answered("read_scene", result.number);
         let input = || {
@@ -78,7 +78,7 @@ impl Readings<'_> {
     }
 
     pub fn table(&mut self, table: &[u32], store_len: usize) {
-        let result = port::table_valid(table, store_len);
+        let result = scene_exports::table_valid(table, store_len);
         let expected = u32::from(table::valid(table, store_len));
         self.report.answered("table_valid", result);
         let input = || format!("store of {store_len}, table {table:?}");

@@ -1,0 +1,45 @@
+// The lock for programs in other languages.
+use account_lock::LockAnswer;
+use account_lock::lock;
+use export_answers::check_number;
+use export_answers::store_words;
+use octets::store_bytes;
+ghost use mathlib.Core.Path.{_≡_};
+ghost use lib.ListN.{length};
+ghost use Rattle.protocol.specs.Rows.{checkNumber};
+ghost use Rattle.decision.specs.Walk.{answered};
+ghost use Rattle.account_lock.specs.Lock.{lockOf, told};
+ghost use Rattle.exports_lock.specs.Stored.{answerStored};
+
+// Stores count, length and whether the digest is reached, as words, and the digest behind them.
+fn store_answer(answer: LockAnswer, out: &mut [u8])
+    ensures { λ _. ⌜ now (out .exit) ≡ answerStored answer (now (out .entry)) ⌝ }
+{
+    let words = [
+        answer.count as u64,
+        answer.length as u64,
+        answer.reached as u64,
+    ];
+    store_words(&words, out);
+    let digest = answer.digest;
+    store_bytes(out, 24, &digest);
+}
+
+// Decides the transaction that table and store hold, writes the requests to the front of `answer`, and returns document
+// 01's number, 0 where it is accepted.
+#[no_mangle]
+pub extern "C" fn fowlcredenza_lock(
+    table: &[u32],
+    store: &[u8],
+    answer: &mut [u8],
+    out: &mut [u8],
+) -> u32
+    ensures { λ r. ⌜ r ≡ checkNumber (lockOf (now (table .entry)) (now (store .entry)) (length (now (answer .entry))) .found) ⌝ }
+    ensures { λ _. ⌜ now (answer .exit) ≡ answered (now (answer .entry)) (lockOf (now (table .entry)) (now (store .entry)) (length (now (answer .entry))) .made) ⌝ }
+    ensures { λ _. ⌜ now (out .exit) ≡ answerStored (told (lockOf (now (table .entry)) (now (store .entry)) (length (now (answer .entry))))) (now (out .entry)) ⌝ }
+{
+    let decided = lock(table, store, answer);
+    let found = decided.found;
+    store_answer(decided, out);
+    check_number(found)
+}
