@@ -110,13 +110,10 @@ fn without_parts(mut text: Vec<u8>, length: usize) -> Vec<u8> {
     text
 }
 
-fn smallest(mut text: Vec<u8>) -> Vec<u8> {
-    let mut length = text.len() / 2;
-    while length > 0 {
-        text = without_parts(text, length);
-        length /= 2;
-    }
-    text
+/// Leaves out long parts first. Two digits are a byte, so lengths are powers of two.
+fn smallest(text: Vec<u8>) -> Vec<u8> {
+    let lengths = (0..=text.len().ilog2()).rev().map(|power| 1 << power);
+    lengths.fold(text, without_parts)
 }
 
 struct Fuzz<'a> {
