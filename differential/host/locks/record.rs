@@ -30,10 +30,11 @@ pub fn answer_line(outcome: &Outcome) -> String {
     )
 }
 
-/// A scene and the original's answer line.
+/// A scene, and the number and the line of the original's answer.
 pub struct Record {
     pub text: Vec<u8>,
-    answer: String,
+    pub number: i8,
+    line: String,
 }
 
 struct Recorder {
@@ -56,8 +57,11 @@ impl Recorder {
             return;
         }
         *self.wanted.get_mut(&outcome.number).expect("wanted") -= 1;
-        let answer = answer_line(&outcome);
-        self.records.push(Record { text, answer });
+        self.records.push(Record {
+            text,
+            number: outcome.number,
+            line: answer_line(&outcome),
+        });
     }
 
     /// A scene with just these faults.
@@ -142,10 +146,10 @@ pub fn records() -> Vec<Record> {
 
 pub fn record(file: &str) -> io::Result<()> {
     let mut out = Vec::new();
-    for Record { text, answer } in records() {
-        out.extend(format!("{}\n", text.len()).bytes());
-        out.extend(text);
-        out.extend(answer.bytes());
+    for record in records() {
+        out.extend(format!("{}\n", record.text.len()).bytes());
+        out.extend(record.text);
+        out.extend(record.line.bytes());
     }
     println!("{SCENES} scenes, {} bytes", out.len());
     std::fs::write(file, out)
