@@ -52,11 +52,11 @@ impl Limits {
     }
 }
 
-/// What can be seen of a text: what its reader leaves, and what the lock answers where the reader accepts.
+/// What can be seen of a text: what the lock answers where the reader accepts, and what the reader leaves.
 #[derive(Debug, PartialEq)]
 struct Seen {
-    reading: Reading,
     answer: Option<Answer>,
+    reading: Reading,
 }
 
 impl Seen {
@@ -74,14 +74,14 @@ fn of_port(text: &[u8]) -> Seen {
         table: reading.table.clone(),
     };
     let answer = (reading.number == 0).then(|| Answer::of_port(&lent(), ENOUGH));
-    Seen { reading, answer }
+    Seen { answer, reading }
 }
 
 fn expected(text: &[u8]) -> Seen {
     let reading = read(scene::read, text, text.len() / 2, ENTRIES, 0x5a);
     let outcome = || original::lock(&Lent::read(text).scene());
     let answer = (reading.number == 0).then(|| Answer::expected(&outcome(), ENOUGH));
-    Seen { reading, answer }
+    Seen { answer, reading }
 }
 
 /// Both sides. The original's is none where it panics.
