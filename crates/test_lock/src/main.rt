@@ -1,0 +1,84 @@
+// Reads and decides recorded scenes, and compares with what the original answered. It writes the answers that are not given, and
+// then how many passed. Standard input has for each scene
+//   LENGTH                              its length
+//   the scene
+//   answer,NUMBER,COUNT,LENGTH,DIGEST   the original's answer
+mod record; // record.rt
+
+use crate::record::behind_record;
+use crate::record::run;
+use crate::record::value;
+use scene_text::find;
+use scene_text::head;
+use scene_text::tail;
+ghost use mathlib.Core.Path.{_≡_};
+ghost use lib.ListN.{length};
+
+struct Counts {
+    passed: u64,
+    failed: u64,
+}
+
+fn counted(counts: Counts, passes: bool) -> Counts {
+    let mut passed = counts.passed;
+    let mut failed = counts.failed;
+    if passes {
+        passed = std::num::wrapping_add_u64(passed, 1);
+    } else {
+        failed = std::num::wrapping_add_u64(failed, 1);
+    }
+    Counts { passed, failed }
+}
+
+fn run_all(records: &[u8], store: &mut [u8], table: &mut [u32], answer: &mut [u8]) -> Counts {
+    let mut rest = records;
+    let mut counts = Counts {
+        passed: 0,
+        failed: 0,
+    };
+    loop {
+        let e = find(rest, 10);
+        if e == rest.len() {
+            return counts;
+        }
+        let len = value(head(rest, e)) as usize;
+        let text = tail(rest, e);
+        let after = counted(counts, run(text, len, store, table, answer));
+        counts = after;
+        let next = behind_record(text, len);
+        rest = next;
+    }
+}
+
+// Room for all records.
+fn records() -> [u8; 3145728]
+    ensures { λ r. ⌜ 3145728 ≡ length r ⌝ }
+{
+    [0; 3145728]
+}
+
+// Room for the bytes of any of the scenes, and for any answer.
+fn bytes() -> [u8; 148992]
+    ensures { λ r. ⌜ 148992 ≡ length r ⌝ }
+{
+    [0; 148992]
+}
+
+fn words() -> [u32; 2048]
+    ensures { λ r. ⌜ 2048 ≡ length r ⌝ }
+{
+    [0; 2048]
+}
+
+fn main() {
+    let mut text = records();
+    let n = io::read_full(0, &mut text);
+    let mut store = bytes();
+    let mut table = words();
+    let mut answer = bytes();
+    let counts = run_all(&text[..n], &mut store, &mut table, &mut answer);
+    io::print_decimal(1, counts.passed);
+    io::write_all(1, b" passed, ");
+    io::print_decimal(1, counts.failed);
+    io::write_all(1, b" failed\n");
+}

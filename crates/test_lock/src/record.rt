@@ -1,0 +1,97 @@
+// One record: a scene that is read and decided, and the line of its answer.
+use account_lock::LockAnswer;
+use account_lock::lock;
+use export_answers::check_number;
+use octets::part;
+use octets::rest;
+use octets::same_bytes;
+use protocol::Check;
+use scene_reader::read_scene;
+use scene_text::Number;
+use scene_text::decode;
+use scene_text::find;
+use scene_text::head;
+use scene_text::since;
+use scene_text::tail;
+ghost use Prim.Native.Nat.{_≤_};
+ghost use lib.ListN.{length};
+
+// The number that a field is the decimal form of; one that no answer has where it is none.
+pub(crate) fn value(f: &[u8]) -> u64 {
+    match since(f) {
+        Number::Is(v) => v,
+        Number::Bad => 18446744073709551615,
+    }
+}
+
+// The first field.
+fn field(fields: &[u8]) -> &[u8] {
+    head(fields, find(fields, 44))
+}
+
+// The fields behind the first.
+fn behind(fields: &[u8]) -> &[u8] {
+    tail(fields, find(fields, 44))
+}
+
+// What follows the record of a scene of that length.
+pub(crate) fn behind_record(text: &[u8], len: usize) -> &[u8]
+    ensures { λ r. ⌜ length (now r) ≤ length (now (text .entry)) ⌝ }
+{
+    let line = rest(text, len);
+    tail(line, find(line, 10))
+}
+
+fn same_digest(digits: &[u8], reached: bool, digest: &[u8]) -> bool {
+    if !reached {
+        return digits.len() == 0;
+    }
+    let mut expected = [0u8; 32];
+    decode(digits, &mut expected, 0);
+    (digits.len() == 64) & same_bytes(&expected, digest)
+}
+
+// Whether the line has this answer.
+fn same_answer(line: &[u8], answer: LockAnswer) -> bool {
+    let number = behind(line);
+    let count = behind(number);
+    let len = behind(count);
+    let found = answer.found;
+    let digest = answer.digest;
+    (value(field(number)) == check_number(found) as u64)
+        & (value(field(count)) == answer.count as u64)
+        & (value(field(len)) == answer.length as u64)
+        & same_digest(behind(len), answer.reached, &digest)
+}
+
+// Whether the scene is read, and the line has the lock's answer.
+fn passes(
+    scene: &[u8],
+    line: &[u8],
+    store: &mut [u8],
+    table: &mut [u32],
+    answer: &mut [u8],
+) -> bool {
+    match read_scene(scene, store, table) {
+        Check::Failed(_) => false,
+        Check::Passed => same_answer(line, lock(table, store, answer)),
+    }
+}
+
+// Whether the record that begins with a scene of that length passes; a line that fails is written.
+pub(crate) fn run(
+    text: &[u8],
+    len: usize,
+    store: &mut [u8],
+    table: &mut [u32],
+    answer: &mut [u8],
+) -> bool {
+    let behind_scene = rest(text, len);
+    let line = head(behind_scene, find(behind_scene, 10));
+    let passed = passes(part(text, 0, len), line, store, table, answer);
+    if !passed {
+        io::write_all(1, line);
+        io::write_all(1, b"\n");
+    }
+    passed
+}
