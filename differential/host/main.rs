@@ -23,6 +23,7 @@ mod report;
 #[cfg(originals)]
 mod samples;
 mod scene;
+#[cfg_attr(not(originals), allow(dead_code))]
 mod scene_exports;
 mod scene_text;
 mod scenes;
