@@ -6,6 +6,9 @@
 mod exports;
 #[cfg(originals)]
 mod formats;
+#[allow(dead_code)]
+#[path = "../../include/fowlcredenza.rs"]
+mod fowlcredenza;
 mod hash;
 #[cfg(originals)]
 #[allow(dead_code)]

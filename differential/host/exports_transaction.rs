@@ -1,53 +1,6 @@
 //! The functions of the second static library, wrapped to take slices as those of `exports` are.
 
-mod library {
-    #[link(name = "exports_transaction", kind = "static")]
-    unsafe extern "C" {
-        pub fn fowlcredenza_witness_lock(
-            witness: *const u8,
-            witness_len: usize,
-            out: *mut u8,
-            out_len: usize,
-        ) -> u32;
-        pub fn fowlcredenza_script_args(
-            script: *const u8,
-            script_len: usize,
-            out: *mut u8,
-            out_len: usize,
-        ) -> u32;
-        pub fn fowlcredenza_canonical_witness(
-            witness: *const u8,
-            witness_len: usize,
-            out: *mut u8,
-            out_len: usize,
-            len: *mut u64,
-        ) -> u32;
-        pub fn fowlcredenza_authorization_digest(
-            operation: u8,
-            account: *const u8,
-            account_len: usize,
-            sequence: u64,
-            state: *const u8,
-            state_len: usize,
-            sighash: *const u8,
-            sighash_len: usize,
-            out: *mut u8,
-            out_len: usize,
-        ) -> u32;
-        pub fn fowlcredenza_sighash(
-            transaction_hash: *const u8,
-            transaction_hash_len: usize,
-            first: *const u8,
-            first_len: usize,
-            store: *const u8,
-            store_len: usize,
-            rows: *const u32,
-            rows_len: usize,
-            out: *mut u8,
-            out_len: usize,
-        ) -> u32;
-    }
-}
+use crate::fowlcredenza as library;
 
 /// Place and length of the lock's bytes.
 pub fn witness_lock(witness: &[u8], out: &mut [u8]) -> u32 {

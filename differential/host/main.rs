@@ -1,7 +1,8 @@
 //! Runs the port beside the original and compares. A comparison is a module with a function `run`.
 //! `originals` is set where the original files are at hand; what needs none runs without them too.
 //! Without arguments all is compared; `--long` takes many more random scenes of the lock. `--record FILE` writes scenes
-//! with the original's answers into a file, and `--samples FOLDER` sample scenes into a folder.
+//! with the original's answers into a file, and `--samples FOLDER` sample scenes into a folder. `--fuzz`, with limits
+//! behind it, compares recorded scenes that are changed at random, and nothing else.
 
 #[cfg_attr(not(originals), allow(dead_code))]
 mod changes;
@@ -11,6 +12,11 @@ mod exports;
 mod exports_transaction;
 #[cfg(originals)]
 mod formats;
+#[cfg_attr(not(originals), allow(dead_code))]
+#[path = "../../include/fowlcredenza.rs"]
+mod fowlcredenza;
+#[cfg(originals)]
+mod fuzz;
 mod hash;
 mod hex;
 mod lent;
@@ -23,6 +29,7 @@ mod report;
 #[cfg(originals)]
 mod samples;
 mod scene;
+#[cfg_attr(not(originals), allow(dead_code))]
 mod scene_exports;
 mod scene_text;
 mod scenes;
@@ -35,6 +42,15 @@ mod vectors;
 
 use report::Report;
 use std::process::ExitCode;
+
+/// Prints what was compared.
+fn print(report: &Report) -> ExitCode {
+    if report.print() {
+        ExitCode::SUCCESS
+    } else {
+        ExitCode::FAILURE
+    }
+}
 
 fn compare(long: bool) -> ExitCode {
     let mut report = Report::new();
@@ -49,13 +65,22 @@ fn compare(long: bool) -> ExitCode {
     scenes::run(&mut report);
     #[cfg(originals)]
     locks::run(&mut report, long);
+    #[cfg(originals)]
+    fuzz::run(&mut report, &fuzz::Limits::usual());
     #[cfg(not(originals))]
     let _ = long;
-    if report.print() {
-        ExitCode::SUCCESS
-    } else {
-        ExitCode::FAILURE
-    }
+    print(&report)
+}
+
+#[cfg(originals)]
+fn only_fuzz(limits: &[&str]) -> ExitCode {
+    let Some(limits) = fuzz::Limits::of(limits) else {
+        eprintln!("host: --fuzz takes --seconds, --count and --seed, each with a number");
+        return ExitCode::FAILURE;
+    };
+    let mut report = Report::new();
+    fuzz::run(&mut report, &limits);
+    print(&report)
 }
 
 /// Whether a file was written.
@@ -80,8 +105,10 @@ fn main() -> ExitCode {
         ["--record", file] => written(locks::record::record(file)),
         #[cfg(originals)]
         ["--samples", folder] => written(locks::sample_files::write(folder)),
+        #[cfg(originals)]
+        ["--fuzz", ref limits @ ..] => only_fuzz(limits),
         _ => {
-            eprintln!("host: takes nothing, --long, --record FILE or --samples FOLDER");
+            eprintln!("host: takes nothing, --long, --record FILE, --samples FOLDER or --fuzz");
             ExitCode::FAILURE
         }
     }

@@ -1,33 +1,6 @@
 //! The reader of scenes and the lock, of two more static libraries, wrapped to take slices as those of `exports` are.
 
-mod library {
-    #[link(name = "exports_scene", kind = "static")]
-    unsafe extern "C" {
-        pub fn fowlcredenza_read_scene(
-            scene: *const u8,
-            scene_len: usize,
-            store: *mut u8,
-            store_len: usize,
-            table: *mut u32,
-            table_len: usize,
-        ) -> u32;
-        pub fn fowlcredenza_table_valid(table: *const u32, table_len: usize, store_len: u64)
-            -> u32;
-    }
-    #[link(name = "exports_lock", kind = "static")]
-    unsafe extern "C" {
-        pub fn fowlcredenza_lock(
-            table: *const u32,
-            table_len: usize,
-            store: *const u8,
-            store_len: usize,
-            answer: *mut u8,
-            answer_len: usize,
-            out: *mut u8,
-            out_len: usize,
-        ) -> u32;
-    }
-}
+use crate::fowlcredenza as library;
 
 /// Reads a scene into the store and the table.
 pub fn read_scene(scene: &[u8], store: &mut [u8], table: &mut [u32]) -> u32 {

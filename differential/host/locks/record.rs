@@ -30,11 +30,18 @@ pub fn answer_line(outcome: &Outcome) -> String {
     )
 }
 
+/// A scene, and the number and the line of the original's answer.
+pub struct Record {
+    pub text: Vec<u8>,
+    pub number: i8,
+    line: String,
+}
+
 struct Recorder {
     prng: Prng,
     /// How many scenes of each number are still wanted.
     wanted: BTreeMap<i8, usize>,
-    out: Vec<u8>,
+    records: Vec<Record>,
 }
 
 impl Recorder {
@@ -50,9 +57,11 @@ impl Recorder {
             return;
         }
         *self.wanted.get_mut(&outcome.number).expect("wanted") -= 1;
-        self.out.extend(format!("{}\n", text.len()).bytes());
-        self.out.extend(text);
-        self.out.extend(answer_line(&outcome).bytes());
+        self.records.push(Record {
+            text,
+            number: outcome.number,
+            line: answer_line(&outcome),
+        });
     }
 
     /// A scene with just these faults.
@@ -121,17 +130,27 @@ fn shares(rows: &[Row]) -> BTreeMap<i8, usize> {
     shares
 }
 
-pub fn record(file: &str) -> io::Result<()> {
+pub fn records() -> Vec<Record> {
     let rows = rows();
     let mut recorder = Recorder {
         prng: Prng::new(5),
         wanted: shares(&rows),
-        out: Vec::new(),
+        records: Vec::new(),
     };
     recorder.long(&rows);
     recorder.many_proofs();
     recorder.each_row(&rows);
     recorder.random(&rows);
-    println!("{SCENES} scenes, {} bytes", recorder.out.len());
-    std::fs::write(file, recorder.out)
+    recorder.records
+}
+
+pub fn record(file: &str) -> io::Result<()> {
+    let mut out = Vec::new();
+    for record in records() {
+        out.extend(format!("{}\n", record.text.len()).bytes());
+        out.extend(record.text);
+        out.extend(record.line.bytes());
+    }
+    println!("{SCENES} scenes, {} bytes", out.len());
+    std::fs::write(file, out)
 }

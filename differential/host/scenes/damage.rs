@@ -118,6 +118,12 @@ const CHANGES: [Change; 10] = [
     },
 ];
 
+/// Changes one thing.
+pub fn change(text: &mut Vec<u8>, prng: &mut Prng) {
+    let change = CHANGES[prng.up_to(CHANGES.len() - 1)];
+    change(text, prng);
+}
+
 fn most(prng: &mut Prng) -> Most {
     match prng.up_to(99) {
         0 => Most {
@@ -144,7 +150,6 @@ fn random(readings: &mut Readings) {
         for damages in 1..=3 {
             let mut copy = whole.clone();
             for _ in 0..damages {
-                let change = CHANGES[readings.prng.up_to(CHANGES.len() - 1)];
                 change(&mut copy, &mut readings.prng);
             }
             readings.scene(&copy);

@@ -1,10 +1,10 @@
 //! The reader of scenes beside the host's plain one, and the test of lent tables beside the plain test.
 
-mod damage;
+pub mod damage;
 mod limits;
 mod marked;
 mod random;
-mod readings;
+pub mod readings;
 pub mod tables;
 
 use crate::prng::Prng;

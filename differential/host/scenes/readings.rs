@@ -15,16 +15,22 @@ pub struct Readings<'a> {
 
 /// What a reader leaves.
 #[derive(Debug, PartialEq)]
-struct Reading {
-    number: u32,
-    store: Vec<u8>,
-    table: Vec<u32>,
+pub struct Reading {
+    pub number: u32,
+    pub store: Vec<u8>,
+    pub table: Vec<u32>,
 }
 
 type Reader = fn(&[u8], &mut [u8], &mut [u32]) -> u32;
 
 /// Both buffers hold this before.
-fn read(reader: Reader, text: &[u8], store_len: usize, table_len: usize, before: u8) -> Reading {
+pub fn read(
+    reader: Reader,
+    text: &[u8],
+    store_len: usize,
+    table_len: usize,
+    before: u8,
+) -> Reading {
     let mut store = vec![before; store_len];
     let mut table = vec![u32::from(before); table_len];
     let number = reader(text, &mut store, &mut table);

@@ -1,0 +1,51 @@
+/* Decides the scene on standard input, and prints the line that the program prints. */
+
+#include "fowlcredenza.h"
+
+#include <inttypes.h>
+#include <stdio.h>
+
+enum { LONGEST = 65536, ENTRIES = 2048, ANSWER = 148992, DIGEST = 32, TOO_LONG = 1 };
+
+/* One byte more than the longest scene, to see that there is more. */
+static uint8_t scene[LONGEST + 1];
+static uint8_t store[LONGEST / 2];
+static uint32_t table[ENTRIES];
+static uint8_t answer[ANSWER];
+/* Count and length of the requests and 1 where there is a digest, as words, then the digest. */
+static uint8_t out[3 * 8 + DIGEST];
+
+static uint64_t word(size_t place)
+{
+    uint64_t value = 0;
+    for (size_t i = 8; i > 0; i--)
+        value = value << 8 | out[8 * place + i - 1];
+    return value;
+}
+
+static uint32_t decide(size_t length)
+{
+    if (length > LONGEST)
+        return TOO_LONG;
+    uint32_t number =
+        fowlcredenza_read_scene(scene, length, store, sizeof store, table, ENTRIES);
+    if (number != 0)
+        return number;
+    return fowlcredenza_lock(table, ENTRIES, store, sizeof store, answer, sizeof answer, out,
+                             sizeof out);
+}
+
+int main(void)
+{
+    size_t length = fread(scene, 1, sizeof scene, stdin);
+    if (ferror(stdin)) {
+        perror("decide");
+        return 2;
+    }
+    uint32_t number = decide(length);
+    printf("answer,%" PRIu32 ",%" PRIu64 ",%" PRIu64 ",", number, word(0), word(1));
+    for (size_t i = 0; word(2) == 1 && i < DIGEST; i++)
+        printf("%02x", out[3 * 8 + i]);
+    printf("\n");
+    return fflush(stdout) == 0 ? 0 : 2;
+}

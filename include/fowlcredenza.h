@@ -1,0 +1,148 @@
+/* The functions of the static libraries. `include/fowlcredenza.rs` declares the same for Rust.
+ *
+ * A slice is a pointer and the number of its elements. The pointer is never NULL, not even where the number is 0. A slice
+ * that is not `const` is written, and shares no memory with another slice of the same call.
+ *
+ * A function that returns a number returns that of docs/NUMBERS.md: 0 accepted. docs/LAYOUTS.md has the layouts of slices.
+ * Numbers go to `out` as 64-bit little-endian words from its front, as far as there is room, and places are offsets into
+ * the input. A refusal leaves `out` and `len` as they were, except in `fowlcredenza_lock`. */
+#ifndef FOWLCREDENZA_H
+#define FOWLCREDENZA_H
+
+#include <stddef.h>
+#include <stdint.h>
+
+#ifdef __cplusplus
+extern "C" {
+#endif
+
+/* libexports.a: the hash, 32 bytes to the front of `out`, as far as there is room. */
+
+void fowlcredenza_ckb_hash(const uint8_t *data, size_t data_len, uint8_t *out, size_t out_len);
+
+/* The same of bytes that are fed as the first `first` of them, then `step` at a time, or the rest at once where `step`
+ * is 0. */
+void fowlcredenza_ckb_hash_parts(const uint8_t *data, size_t data_len, size_t first, size_t step,
+                                 uint8_t *out, size_t out_len);
+
+/* libexports.a: numbers of algorithms and operations. */
+
+/* 1 or 0. */
+uint32_t fowlcredenza_is_supported_algorithm(uint16_t algorithm);
+
+/* The capability bit, or 0 where there is no such operation. */
+uint32_t fowlcredenza_capability_for_operation(uint8_t operation);
+
+/* libexports.a: readers. */
+
+/* Version, place of the account id. */
+uint32_t fowlcredenza_parse_args(const uint8_t *args, size_t args_len, uint8_t *out,
+                                 size_t out_len);
+
+/* Flags, sequence, spend, rotate and recovery thresholds, count, recovery_since. */
+uint32_t fowlcredenza_parse_state_header(const uint8_t *state, size_t state_len, uint8_t *out,
+                                         size_t out_len);
+
+/* The same, then the weights of the holders of spend, rotate and recovery. */
+uint32_t fowlcredenza_validate_state(const uint8_t *state, size_t state_len, uint8_t *out,
+                                     size_t out_len);
+
+/* Slot, algorithm, capabilities, weight, hash type, ABI, place of the code hash, place and length of key and of aux,
+ * offset and least slot of the next entry. */
+uint32_t fowlcredenza_next_entry(const uint8_t *state, size_t state_len, size_t offset,
+                                 uint32_t least, uint8_t *out, size_t out_len);
+
+/* Operation, proof count, sequence. */
+uint32_t fowlcredenza_parse_witness_header(const uint8_t *witness, size_t witness_len,
+                                           uint8_t *out, size_t out_len);
+
+/* The same, of a witness lock whose every proof passes. */
+uint32_t fowlcredenza_validate_witness(const uint8_t *witness, size_t witness_len, uint8_t *out,
+                                       size_t out_len);
+
+/* Slot, place and length of the proof, offset and least slot of the next one. */
+uint32_t fowlcredenza_next_proof(const uint8_t *witness, size_t witness_len, size_t offset,
+                                 uint32_t least, uint8_t *out, size_t out_len);
+
+/* Algorithm, slot, operation, profile, places of digest and key, place and length of aux and of proof. */
+uint32_t fowlcredenza_parse_verifier_request(const uint8_t *request, size_t request_len,
+                                             uint8_t *out, size_t out_len);
+
+/* Place and length of key and of signature. */
+uint32_t fowlcredenza_parse_public_key_proof(const uint8_t *proof, size_t proof_len, uint8_t *out,
+                                             size_t out_len);
+
+/* libexports.a: writers. `len` takes the length written. */
+
+uint32_t fowlcredenza_account_lock_args(const uint8_t *account, size_t account_len, uint8_t *out,
+                                        size_t out_len, uint64_t *len);
+
+uint32_t fowlcredenza_encode_state(uint8_t flags, uint64_t sequence, uint16_t spend,
+                                   uint16_t rotate, uint16_t recovery, uint64_t since,
+                                   const uint16_t *fields, size_t fields_len, const uint8_t *bytes,
+                                   size_t bytes_len, uint8_t *out, size_t out_len, uint64_t *len);
+
+uint32_t fowlcredenza_encode_witness(uint8_t operation, uint64_t sequence, const uint16_t *slots,
+                                     size_t slots_len, const uint32_t *lengths, size_t lengths_len,
+                                     const uint8_t *bytes, size_t bytes_len, uint8_t *out,
+                                     size_t out_len, uint64_t *len);
+
+uint32_t fowlcredenza_encode_verifier_request(uint16_t algorithm, uint16_t slot, uint8_t operation,
+                                              uint8_t profile, const uint8_t *digest,
+                                              size_t digest_len, const uint8_t *key,
+                                              size_t key_len, const uint8_t *aux, size_t aux_len,
+                                              const uint8_t *proof, size_t proof_len, uint8_t *out,
+                                              size_t out_len, uint64_t *len);
+
+uint32_t fowlcredenza_encode_public_key_proof(const uint8_t *key, size_t key_len,
+                                              const uint8_t *signature, size_t signature_len,
+                                              uint8_t *out, size_t out_len, uint64_t *len);
+
+/* libexports_transaction.a */
+
+/* Place and length of the lock's bytes. */
+uint32_t fowlcredenza_witness_lock(const uint8_t *witness, size_t witness_len, uint8_t *out,
+                                   size_t out_len);
+
+/* Place and length of the args' bytes. */
+uint32_t fowlcredenza_script_args(const uint8_t *script, size_t script_len, uint8_t *out,
+                                  size_t out_len);
+
+uint32_t fowlcredenza_canonical_witness(const uint8_t *witness, size_t witness_len, uint8_t *out,
+                                        size_t out_len, uint64_t *len);
+
+/* The digest, 32 bytes. */
+uint32_t fowlcredenza_authorization_digest(uint8_t operation, const uint8_t *account,
+                                           size_t account_len, uint64_t sequence,
+                                           const uint8_t *state, size_t state_len,
+                                           const uint8_t *sighash, size_t sighash_len, uint8_t *out,
+                                           size_t out_len);
+
+/* The sighash, 32 bytes. */
+uint32_t fowlcredenza_sighash(const uint8_t *transaction_hash, size_t transaction_hash_len,
+                              const uint8_t *first, size_t first_len, const uint8_t *store,
+                              size_t store_len, const uint32_t *rows, size_t rows_len, uint8_t *out,
+                              size_t out_len);
+
+/* libexports_scene.a */
+
+/* Reads a scene into the store and the table, which are all zero after a refusal. */
+uint32_t fowlcredenza_read_scene(const uint8_t *scene, size_t scene_len, uint8_t *store,
+                                 size_t store_len, uint32_t *table, size_t table_len);
+
+/* 1 where some scene leaves this table with a store of that length, else 0. */
+uint32_t fowlcredenza_table_valid(const uint32_t *table, size_t table_len, uint64_t store_len);
+
+/* libexports_lock.a */
+
+/* Decides what table and store hold; the requests go to the front of `answer`. Whatever the number, `out` takes count and
+ * length of the requests and 1 where there is a digest, as words, then the digest's 32 bytes, zeros where there is none. */
+uint32_t fowlcredenza_lock(const uint32_t *table, size_t table_len, const uint8_t *store,
+                           size_t store_len, uint8_t *answer, size_t answer_len, uint8_t *out,
+                           size_t out_len);
+
+#ifdef __cplusplus
+}
+#endif
+
+#endif
