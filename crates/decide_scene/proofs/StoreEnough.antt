@@ -1,25 +1,24 @@
 -- A store as long as the scene is long enough: the reader never gives 6 with it.
 -- Assumes nothing.
-use Prim.Native.Nat.{ℕ, suc, _+_, _≤_, _<_}
+use Prim.Native.Nat.{ℕ, suc, _+_, _≤_}
 use mathlib.Core.Bool.{Bool, true, false, cond, _&&_}
-use mathlib.Core.Path.{_≡_, refl, sym, ap, _∙_}
-use mathlib.Core.List.{List, [], _∷_, _++_}
+use mathlib.Core.Path.{_≡_, refl}
+use mathlib.Core.List.{List, [], _∷_}
 use native.Mathlib.Omega.{arith}
 use borrow.Author.Tests.{le-ltb}
 use lib.Dec.{ltb, eqb}
-use lib.ListN.{length, set, length-append, length-replicate}
-use lib.Seq.{sets, length-sets}
+use lib.ListN.{length, length-append, length-replicate}
+use lib.Seq.{length-sets}
 use Rattle.octets.specs.Lists.{joined}
 use Rattle.protocol.specs.Errors.{errorNumber}
 use Rattle.protocol.specs.Rows.{checkNumber}
-use Rattle.protocol.specs.declared.error.ProtocolError.the-variants.{SceneTooLong, InvalidLine, InvalidField, TooManyLines, StoreTooShort}
+use Rattle.protocol.specs.declared.error.ProtocolError.the-variants.{SceneTooLong, InvalidLine, InvalidField, TooManyLines}
 use Rattle.scene_text.specs.Text.{pieces, before, hexBytes}
 use Rattle.scene_text.proofs.HexLaws.{hex-length}
 use Rattle.scene_line.specs.declared.form.Form.{Form}
-use Rattle.scene_line.specs.declared.kind.Kind.{Kind}
 use Rattle.scene_line.specs.Line.{after, hexForm, fieldBytes, lineBytes, formsOk}
 use Rattle.scene_line.specs.Kind.{place, firstForm, lineKind, fieldsOf}
-use Rattle.scene_reader.specs.Reader.{Held, Outcome, refused, held, seenWith, put, stepAs, step, finish, andThen, isLast, run, start, readOf, answerOf}
+use Rattle.scene_reader.specs.Reader.{Held, Outcome, refused, held, seenWith, put, stepAs, step, finish, andThen, run, start, readOf, answerOf}
 
 -- the pieces of a text have no more bytes than it
 joined-before : (x : ℕ) (ps : List (List ℕ)) → length (joined (before (x ∷ []) ps)) ≡ suc (length (joined ps))

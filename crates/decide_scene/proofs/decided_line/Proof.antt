@@ -1,13 +1,12 @@
 -- `decide_scene::decided_line` meets its contract, by the scene's length. Assumes nothing.
 use borrow.Author.Needs.{needs}
-use mathlib.Core.Path.{_≡_, sym, ap, _∙_}
+use mathlib.Core.Path.{sym, ap, _∙_}
 use mathlib.Core.List.{List}
 use Prim.Native.Nat.{ℕ}
 use lib.ListN.{length}
 use lib.Seq.{sets}
 use Rattle.decision.specs.Walk.{answered}
 use Rattle.account_lock.specs.Lock as lock
-use Rattle.decide_scene.specs.Decided.{programDecides}
 use Rattle.decide_scene.proofs.Outcomes.{told-line, long-decides, long-store, long-table, short-decides, short-store, short-table}
 use Rattle.decide_scene.proofs.decided_line.Statement.{statement}
 use Rattle.decide_scene.proofs.decided_line.Tie as tie
