@@ -29,7 +29,7 @@ impl Limits {
     pub fn usual() -> Self {
         let now = SystemTime::now().duration_since(UNIX_EPOCH);
         Limits {
-            seconds: 20,
+            seconds: 60,
             count: u64::MAX,
             seed: now.map_or(0, |now| now.as_millis() as u64),
         }
