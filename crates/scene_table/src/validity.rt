@@ -180,18 +180,19 @@ fn digits_valid(table: &[u32], first: usize, n: u32) -> bool
     true
 }
 
-// Whether the entries from `first` on are 0.
+// Whether the entries from `first` on are 0. The loop is not left early, so that the compiler tests several at once.
 fn zeros_from(table: &[u32], first: usize) -> bool
     ensures { λ r. ⌜ r ≡ every (λ e. eqb e 0) (drop first (now (table .entry))) ⌝ }
 {
+    let mut zero = true;
     let mut at = first;
     while at < table.len() {
         if table[at] != 0 {
-            return false;
+            zero = false;
         }
         at += 1;
     }
-    true
+    zero
 }
 
 // The lines, the digits, the room for the bytes, and the entries behind.

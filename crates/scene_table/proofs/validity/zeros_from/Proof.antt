@@ -1,12 +1,14 @@
--- `scene_table::validity::zeros_from` meets its contract: the entries passed are zero, so the rest decides. Assumes nothing.
+-- `scene_table::validity::zeros_from` meets its contract: what was found of the entries passed, and the rest. Assumes nothing.
 use mathlib.Core.Path.{_≡_, refl, sym, _∙_}
-use mathlib.Core.Bool.{Bool}
+use mathlib.Core.Bool.{Bool, true, false, _&&_}
+use mathlib.Core.Logic.{⊎-elim}
 use Prim.Native.Nat.{ℕ, _-_}
 use native.Mathlib.Omega.{arith}
 use borrow.Author.Tests.{eq-eqb, ne-eqb}
 use lib.Dec.{eqb}
 use lib.ListN.{length, drop, getD}
 use Rattle.scene_table.specs.Valid.{every}
+use Rattle.scene_table.proofs.Truth.{and-true, and-false}
 use Rattle.scene_table.proofs.WalkLaws.{every-turn, every-end}
 use Rattle.scene_table.proofs.validity.zeros_from.Statement.{statement}
 use Rattle.scene_table.proofs.validity.zeros_from.Tie as tie
@@ -15,27 +17,25 @@ abbrev good : ℕ → Bool
 good e = eqb e 0
 
 abbrev Inv-loop : tie.InvT-loop
-Inv-loop table first at₀ at = every good (drop at table) ≡ every good (drop first table)
+Inv-loop table first zero₀ at₀ zero at = (zero && every good (drop at table)) ≡ every good (drop first table)
 
 abbrev μ-loop : tie.MeasureT-loop
-μ-loop table first at₀ at = length table - at
-
-returns : tie.Need-returns Inv-loop μ-loop
-returns c =
-    let l = c .before .before .before .loop in
-    let T = c .before .before .before .before .args .table .now in
-    sym (sym (l .inv) ∙ rw (every-turn good T (l .at) (c .before .before .loop-test .taken), ne-eqb (getD T (l .at) 0) 0 (c .if1 .taken)))
+μ-loop table first zero₀ at₀ zero at = length table - at
 
 loop-again : tie.Need-loop-again Inv-loop μ-loop
 loop-again c =
     let l = c .before .before .before .loop in
     let T = c .before .before .before .before .args .table .now in
-    sym (rw (eq-eqb (getD T (l .at) 0) 0 (c .if1 .left)) at (every-turn good T (l .at) (c .before .before .loop-test .taken))) ∙ l .inv
+    let turn = every-turn good T (l .at) (c .before .before .loop-test .taken) in
+    ⊎-elim
+    (λ w. rw (w .1) (sym (and-false (l .zero)) ∙ rw (turn, ne-eqb (getD T (l .at) 0) 0 (w .0 .taken)) at (l .inv)))
+    (λ w. rw (w .1) (rw (turn, eq-eqb (getD T (l .at) 0) 0 (w .0 .left)) at (l .inv)))
+    (c .if1 .came)
 
-returns-2 : tie.Need-returns-2 Inv-loop μ-loop
-returns-2 c =
+returns : tie.Need-returns Inv-loop μ-loop
+returns c =
     let l = c .before .loop in
-    every-end good (c .before .before .args .table .now) (l .at) (c .loop-test .left) ∙ l .inv
+    sym (and-true (l .zero)) ∙ rw (sym (every-end good (c .before .before .args .table .now) (l .at) (c .loop-test .left))) at (l .inv)
 
 pub zeros-from-spec : {M : Type 1} → statement M
 zeros-from-spec =
@@ -46,8 +46,7 @@ zeros-from-spec =
     (λ c. refl)
     (λ c. omega arith)
     (λ c. omega arith)
-    returns
     (λ c. omega arith)
     (λ c. omega arith)
     loop-again
-    returns-2)
+    returns)
