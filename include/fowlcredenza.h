@@ -5,7 +5,7 @@
  *
  * A function that returns a number returns that of docs/NUMBERS.md: 0 accepted. docs/LAYOUTS.md has the layouts of slices.
  * Numbers go to `out` as 64-bit little-endian words from its front, as far as there is room, and places are offsets into
- * the input. A refusal leaves `out` and `len` as they were, except in `fowlcredenza_lock`. */
+ * the input. A refusal leaves `out` and `len` as they were, except in the functions of libexports_lock.a. */
 #ifndef FOWLCREDENZA_H
 #define FOWLCREDENZA_H
 
@@ -140,6 +140,12 @@ uint32_t fowlcredenza_table_valid(const uint32_t *table, size_t table_len, uint6
 uint32_t fowlcredenza_lock(const uint32_t *table, size_t table_len, const uint8_t *store,
                            size_t store_len, uint8_t *answer, size_t answer_len, uint8_t *out,
                            size_t out_len);
+
+/* Reads a scene as `fowlcredenza_read_scene` does, and decides it as `fowlcredenza_lock` does. */
+uint32_t fowlcredenza_decide_scene(const uint8_t *scene, size_t scene_len, uint8_t *store,
+                                   size_t store_len, uint32_t *table, size_t table_len,
+                                   uint8_t *answer, size_t answer_len, uint8_t *out,
+                                   size_t out_len);
 
 #ifdef __cplusplus
 }

@@ -207,4 +207,16 @@ unsafe extern "C" {
         out: *mut u8,
         out_len: usize,
     ) -> u32;
+    pub fn fowlcredenza_decide_scene(
+        scene: *const u8,
+        scene_len: usize,
+        store: *mut u8,
+        store_len: usize,
+        table: *mut u32,
+        table_len: usize,
+        answer: *mut u8,
+        answer_len: usize,
+        out: *mut u8,
+        out_len: usize,
+    ) -> u32;
 }

@@ -27,12 +27,8 @@ static uint32_t decide(size_t length)
 {
     if (length > LONGEST)
         return TOO_LONG;
-    uint32_t number =
-        fowlcredenza_read_scene(scene, length, store, sizeof store, table, ENTRIES);
-    if (number != 0)
-        return number;
-    return fowlcredenza_lock(table, ENTRIES, store, sizeof store, answer, sizeof answer, out,
-                             sizeof out);
+    return fowlcredenza_decide_scene(scene, length, store, sizeof store, table, ENTRIES, answer,
+                                     sizeof answer, out, sizeof out);
 }
 
 int main(void)

@@ -36,3 +36,27 @@ pub fn lock(table: &[u32], store: &[u8], answer: &mut [u8], out: &mut [u8]) -> u
         )
     }
 }
+
+/// Reads a scene into the store and the table and runs the lock, as `read_scene` and `lock` do.
+pub fn decide_scene(
+    scene: &[u8],
+    store: &mut [u8],
+    table: &mut [u32],
+    answer: &mut [u8],
+    out: &mut [u8],
+) -> u32 {
+    unsafe {
+        library::fowlcredenza_decide_scene(
+            scene.as_ptr(),
+            scene.len(),
+            store.as_mut_ptr(),
+            store.len(),
+            table.as_mut_ptr(),
+            table.len(),
+            answer.as_mut_ptr(),
+            answer.len(),
+            out.as_mut_ptr(),
+            out.len(),
+        )
+    }
+}

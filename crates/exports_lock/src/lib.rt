@@ -1,6 +1,7 @@
 // The lock for programs in other languages.
 use account_lock::LockAnswer;
 use account_lock::lock;
+use decide_scene::decide_scene;
 use export_answers::check_number;
 use export_answers::store_words;
 use octets::store_bytes;
@@ -9,6 +10,8 @@ ghost use lib.ListN.{length};
 ghost use Rattle.protocol.specs.Rows.{checkNumber};
 ghost use Rattle.decision.specs.Walk.{answered};
 ghost use Rattle.account_lock.specs.Lock.{lockOf, told};
+ghost use Rattle.scene_reader.specs.Reader.{readOf, storeOf, tableOf};
+ghost use Rattle.decide_scene.specs.Decided.{decided};
 ghost use Rattle.exports_lock.specs.Stored.{answerStored};
 
 // Stores count, length and whether the digest is reached, as words, and the digest behind them.
@@ -38,8 +41,29 @@ pub extern "C" fn fowlcredenza_lock(
     ensures { λ _. ⌜ now (answer .exit) ≡ answered (now (answer .entry)) (lockOf (now (table .entry)) (now (store .entry)) (length (now (answer .entry))) .made) ⌝ }
     ensures { λ _. ⌜ now (out .exit) ≡ answerStored (told (lockOf (now (table .entry)) (now (store .entry)) (length (now (answer .entry))))) (now (out .entry)) ⌝ }
 {
-    let decided = lock(table, store, answer);
-    let found = decided.found;
-    store_answer(decided, out);
+    let locked = lock(table, store, answer);
+    let found = locked.found;
+    store_answer(locked, out);
+    check_number(found)
+}
+
+// Reads a scene into the store and the table, and decides it as `fowlcredenza_lock` does.
+#[no_mangle]
+pub extern "C" fn fowlcredenza_decide_scene(
+    scene: &[u8],
+    store: &mut [u8],
+    table: &mut [u32],
+    answer: &mut [u8],
+    out: &mut [u8],
+) -> u32
+    ensures { λ r. ⌜ r ≡ checkNumber (decided (now (scene .entry)) (length (now (store .entry))) (length (now (table .entry))) (length (now (answer .entry))) .found) ⌝ }
+    ensures { λ _. ⌜ now (store .exit) ≡ storeOf (length (now (store .entry))) (readOf (now (scene .entry)) (length (now (store .entry))) (length (now (table .entry)))) ⌝ }
+    ensures { λ _. ⌜ now (table .exit) ≡ tableOf (length (now (table .entry))) (readOf (now (scene .entry)) (length (now (store .entry))) (length (now (table .entry)))) ⌝ }
+    ensures { λ _. ⌜ now (answer .exit) ≡ answered (now (answer .entry)) (decided (now (scene .entry)) (length (now (store .entry))) (length (now (table .entry))) (length (now (answer .entry))) .made) ⌝ }
+    ensures { λ _. ⌜ now (out .exit) ≡ answerStored (told (decided (now (scene .entry)) (length (now (store .entry))) (length (now (table .entry))) (length (now (answer .entry))))) (now (out .entry)) ⌝ }
+{
+    let read = decide_scene(scene, store, table, answer);
+    let found = read.found;
+    store_answer(read, out);
     check_number(found)
 }

@@ -71,10 +71,8 @@ impl Answer {
         Answer::expected(&outcome, buffer_len)
     }
 
-    pub fn of_port(lent: &Lent, buffer_len: usize) -> Self {
-        let mut buffer = BEFORE[..buffer_len].to_vec();
-        let mut out = [0; OUT];
-        let number = scene_exports::lock(&lent.table, &lent.store, &mut buffer, &mut out);
+    /// An answer as the port stores it.
+    fn stored(number: u32, out: [u8; OUT], buffer: Vec<u8>) -> Self {
         let word = |i: usize| u64::from_le_bytes(out[8 * i..8 * i + 8].try_into().unwrap());
         Answer {
             number,
@@ -83,5 +81,22 @@ impl Answer {
             digest: (word(2), Hex(out[24..].to_vec())),
             buffer: Hex(buffer),
         }
+    }
+
+    pub fn of_port(lent: &Lent, buffer_len: usize) -> Self {
+        let mut buffer = BEFORE[..buffer_len].to_vec();
+        let mut out = [0; OUT];
+        let number = scene_exports::lock(&lent.table, &lent.store, &mut buffer, &mut out);
+        Answer::stored(number, out, buffer)
+    }
+
+    /// What the port gives for a scene's text, with a store and a table as long as those.
+    pub fn of_text(text: &[u8], lent: &Lent, buffer_len: usize) -> Self {
+        let (mut store, mut table) = (vec![0; lent.store.len()], vec![0; lent.table.len()]);
+        let mut buffer = BEFORE[..buffer_len].to_vec();
+        let mut out = [0; OUT];
+        let number =
+            scene_exports::decide_scene(text, &mut store, &mut table, &mut buffer, &mut out);
+        Answer::stored(number, out, buffer)
     }
 }

@@ -70,6 +70,16 @@ impl Runs<'_> {
             .compare(rows, text.len(), input, &result, &(number, made));
         let lent = self.read(&text);
         self.compare(&text, &lent, &outcome, ENOUGH);
+        self.decide(&text, &lent, &outcome);
+    }
+
+    /// The text, read and decided in one call.
+    fn decide(&mut self, text: &[u8], lent: &Lent, outcome: &Outcome) {
+        let expected = Answer::expected(outcome, ENOUGH);
+        let result = Answer::of_text(text, lent, ENOUGH);
+        let input = || describe(text, ENOUGH);
+        self.report
+            .compare("decide_scene", text.len(), input, &result, &expected);
     }
 
     /// A length of answer buffer: one too short, the total, some more, or enough for any scene.
