@@ -1,3 +1,4 @@
+-- `account_lock::lock` meets its contract. Assumes nothing.
 use mathlib.Core.Path.{_≡_, refl, sym, ap, _∙_}
 use denote.Ref.{now}
 use Rattle.scene_table.specs.Lent.{lentScene}
@@ -11,29 +12,7 @@ use Rattle.account_lock.proofs.LockTheorem.{decided, lock-valid, lock-i
 use borrow.Author.Needs.{needs}
 use Rattle.account_lock.proofs.lock.Statement.{statement}
 use Rattle.account_lock.proofs.lock.Tie as tie
-use Rattle.account_lock.proofs.lock.Reads as reads
-use Rattle.account_lock.proofs.lock.Lts as lts
-use Rattle.account_lock.proofs.answer.refused.Reads as refused-reads
-use Rattle.account_lock.proofs.lock_scene.Reads as lock-scene-reads
-use Rattle.scene_table.proofs.table_valid.Reads as table-valid-reads
 
--- src/lib.rt:49:8
-table-valid-requires : tie.Need-table-valid-requires
-table-valid-requires c κs = search needs
-
--- src/lib.rt:50:9
-lock-scene-requires : tie.Need-lock-scene-requires
-lock-scene-requires c κs = search needs
-
--- src/lib.rt:52:9
-refused-requires : tie.Need-refused-requires
-refused-requires c κs = search needs
-
--- src/lib.rt:44:1
-same-length : tie.Need-same-length
-same-length c = search needs
-
--- src/lib.rt:44:1
 returns : tie.Need-returns
 returns c =
     let p = c .before .before .before .before .before .before .before .before .before in
@@ -41,7 +20,6 @@ returns c =
     let same = sym (lock-valid (now (p .args .table)) (now (p .args .store)) (length (now (p .args .answer))) valid) in
     decided (now (p .args .table)) (now (p .args .store)) (now (p .args .answer)) (c .before .before .lock-scene .ensures .0 ∙ ap told same) (c .before .before .lock-scene .ensures .1 ∙ ap (λ (x : Result). answered (now (p .args .answer)) (x .made)) same)
 
--- src/lib.rt:44:1
 returns-2 : tie.Need-returns-2
 unfolding answered refused
 returns-2 c =
@@ -54,9 +32,9 @@ pub lock-spec : {M : Type 1} → statement M
 lock-spec =
     tie.close
     (tie.spec
-    table-valid-requires
-    lock-scene-requires
-    refused-requires
-    same-length
+    (λ c κs. search needs)
+    (λ c κs. search needs)
+    (λ c κs. search needs)
+    (λ c. search needs)
     returns
     returns-2)

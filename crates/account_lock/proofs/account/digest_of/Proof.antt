@@ -1,3 +1,4 @@
+-- `account_lock::account::digest_of` meets its contract. Assumes nothing.
 use mathlib.Core.Path.{_≡_, refl, sym, ap, _∙_}
 use denote.Ref.{now}
 use Rattle.scene_table.specs.Lent.{lentScene}
@@ -7,34 +8,7 @@ use Rattle.account_lock.proofs.Digested.{id-kept, digest-given, sighash
 use borrow.Author.Needs.{needs}
 use Rattle.account_lock.proofs.account.digest_of.Statement.{statement}
 use Rattle.account_lock.proofs.account.digest_of.Tie as tie
-use Rattle.account_lock.proofs.account.digest_of.Reads as reads
-use Rattle.account_lock.proofs.account.digest_of.Lts as lts
-use Rattle.authorization.proofs.authorization_digest.Reads as authorization-digest-reads
-use Rattle.group_sighash.proofs.canonical_group_sighash.Reads as canonical-group-sighash-reads
-use Rattle.octets.proofs.u64_at.Reads as u64-at-reads
-use Rattle.octets.proofs.store_bytes.Reads as store-bytes-reads
 
--- src/account.rt:42:17
-slice-aggregate-store-bytes : tie.Need-slice-aggregate-store-bytes
-slice-aggregate-store-bytes c = search needs
-
--- src/account.rt:42:5
-store-bytes-requires : tie.Need-store-bytes-requires
-store-bytes-requires c κs = search needs
-
--- src/account.rt:43:19
-canonical-group-sighash-requires : tie.Need-canonical-group-sighash-requires
-canonical-group-sighash-requires c κs = search needs
-
--- src/account.rt:44:46
-u64-at-requires : tie.Need-u64-at-requires
-u64-at-requires c κs = search needs
-
--- src/account.rt:44:5
-authorization-digest-requires : tie.Need-authorization-digest-requires
-authorization-digest-requires c κs = search needs
-
--- src/account.rt:31:1
 returns : tie.Need-returns
 unfolding sequenceOf
 returns c =
@@ -48,9 +22,9 @@ pub digest-of-spec : {M : Type 1} → statement M
 digest-of-spec =
     tie.close
     (tie.spec
-    slice-aggregate-store-bytes
-    store-bytes-requires
-    canonical-group-sighash-requires
-    u64-at-requires
-    authorization-digest-requires
+    (λ c. search needs)
+    (λ c κs. search needs)
+    (λ c κs. search needs)
+    (λ c κs. search needs)
+    (λ c κs. search needs)
     returns)

@@ -1,3 +1,4 @@
+-- `cell_search::cells::cell_content` meets its contract. Assumes nothing.
 use denote.Ref.{now}
 use mathlib.Core.Path.{_≡_, sym, ap, _∙_}
 use Rattle.scene_table.specs.Scene.{Cell}
@@ -5,25 +6,10 @@ use Rattle.molecule.specs.Bytes.{bytesAt}
 use Rattle.scene_table.specs.Places as places
 use Rattle.cell_search.specs.Search.{noCell}
 use Rattle.cell_search.proofs.CellLaws.{cell-there, cell-missing}
-use native.Mathlib.Omega.{arith}
 use borrow.Author.Needs.{needs}
 use Rattle.cell_search.proofs.cells.cell_content.Statement.{statement}
 use Rattle.cell_search.proofs.cells.cell_content.Tie as tie
-use Rattle.cell_search.proofs.cells.cell_content.Reads as reads
-use Rattle.cell_search.proofs.cells.cell_content.Lts as lts
-use Rattle.cell_search.proofs.cells.cell_count.Reads as cell-count-reads
-use Rattle.cell_search.proofs.cells.cell_places.Reads as cell-places-reads
-use Rattle.octets.proofs.part.Reads as part-reads
 
--- src/cells.rt:70:8
-cell-count-requires : tie.Need-cell-count-requires
-cell-count-requires c κs = search needs
-
--- src/cells.rt:71:9
-part-requires : tie.Need-part-requires
-part-requires c κs = search needs
-
--- src/cells.rt:71:9
 returns : tie.Need-returns
 unfolding noCell
 returns c =
@@ -31,15 +17,6 @@ returns c =
     c .part .ensures
     ∙ sym (ap (λ (x : Cell). x .content) (cell-missing (a .source) (now (a .table)) (now (a .store)) (a .i) (rw (c .before .before .cell-count .ensures) at (c .before .if1 .taken))))
 
--- src/cells.rt:73:9
-cell-places-requires : tie.Need-cell-places-requires
-cell-places-requires c κs = search needs
-
--- src/cells.rt:74:5
-part-requires-2 : tie.Need-part-requires-2
-part-requires-2 c κs = search needs
-
--- src/cells.rt:67:1
 returns-2 : tie.Need-returns-2
 unfolding places.cellAt bytesAt
 returns-2 c =
@@ -51,9 +28,9 @@ pub cell-content-spec : {M : Type 1} → statement M
 cell-content-spec =
     tie.close
     (tie.spec
-    cell-count-requires
-    part-requires
+    (λ c κs. search needs)
+    (λ c κs. search needs)
     returns
-    cell-places-requires
-    part-requires-2
+    (λ c κs. search needs)
+    (λ c κs. search needs)
     returns-2)

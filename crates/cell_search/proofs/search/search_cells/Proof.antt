@@ -1,3 +1,4 @@
+-- `cell_search::search::search_cells` meets its contract. Assumes nothing.
 use mathlib.Core.Path.{_≡_, refl, sym, ap, _∙_}
 use mathlib.Core.Logic.{⊎-elim}
 use mathlib.Core.List.{List, _∷_, _++_}
@@ -11,11 +12,6 @@ use Rattle.cell_search.specs.Cells.{cellCount}
 use Rattle.cell_search.proofs.CellLaws.{cells-listed, matchFrom, match-yes, match-no, match-end, placesOf, found-places, second-match}
 use Rattle.cell_search.proofs.search.search_cells.Statement.{statement}
 use Rattle.cell_search.proofs.search.search_cells.Tie as tie
-use Rattle.cell_search.proofs.search.search_cells.Reads as reads
-use Rattle.cell_search.proofs.search.search_cells.Lts as lts
-use Rattle.cell_search.proofs.cells.cell_count.Reads as cell-count-reads
-use Rattle.cell_search.proofs.cells.cell_hash.Reads as cell-hash-reads
-use Rattle.octets.proofs.same_bytes.Reads as same-bytes-reads
 
 abbrev Inv-loop : tie.InvT-loop
 Inv-loop table store source field hash count found₀ i₀ found i =
@@ -25,36 +21,10 @@ Inv-loop table store source field hash count found₀ i₀ found i =
 abbrev μ-loop : tie.MeasureT-loop
 μ-loop table store source field hash count found₀ i₀ found i = count - i
 
--- src/search.rt:28:9
-cell-count-requires : tie.Need-cell-count-requires Inv-loop μ-loop
-cell-count-requires c κs = search needs
-
--- src/search.rt:31:5
 loop-holds : tie.Need-loop-holds Inv-loop μ-loop
 unfolding cellSearch matches matchFrom placesOf
 loop-holds c = (c .cell-count .ensures, refl)
 
--- src/search.rt:32:23
-cell-hash-requires : tie.Need-cell-hash-requires Inv-loop μ-loop
-cell-hash-requires c κs = search needs
-
--- src/search.rt:32:12
-same-bytes-requires : tie.Need-same-bytes-requires Inv-loop μ-loop
-same-bytes-requires c κs = search needs
-
--- src/search.rt:34:36
-enum-told : tie.Need-enum-told Inv-loop μ-loop
-enum-told c = search needs
-
--- src/search.rt:41:9
-add-i : tie.Need-add-i Inv-loop μ-loop
-add-i c = omega arith
-
--- src/search.rt:31:5
-loop-less : tie.Need-loop-less Inv-loop μ-loop
-loop-less c = omega arith
-
--- src/search.rt:31:5
 loop-again : tie.Need-loop-again Inv-loop μ-loop
 unfolding placesOf
 loop-again c =
@@ -69,7 +39,6 @@ loop-again c =
           (c .if1 .came),
     )
 
--- src/search.rt:19:1
 returns : tie.Need-returns Inv-loop μ-loop
 returns c =
     let l = c .before in
@@ -77,7 +46,6 @@ returns c =
     let rows = cells-listed (a .source) (now (a .table)) (now (a .store)) in
     sym (l .loop .inv .1 ∙ rw (match-end (a .field) (now (a .hash)) rows (l .loop .i) (rw (l .loop .inv .0) at (c .loop-test .left))) (found-places (l .loop .found)))
 
--- src/search.rt:19:1
 returns-2 : tie.Need-returns-2 Inv-loop μ-loop
 returns-2 c =
     let l = c .before .before .before .before .before in
@@ -95,13 +63,13 @@ search-cells-spec =
     (tie.spec
     Inv-loop
     μ-loop
-    cell-count-requires
+    (λ c κs. search needs)
     loop-holds
-    cell-hash-requires
-    same-bytes-requires
-    enum-told
-    add-i
-    loop-less
+    (λ c κs. search needs)
+    (λ c κs. search needs)
+    (λ c. search needs)
+    (λ c. omega arith)
+    (λ c. omega arith)
     loop-again
     returns
     returns-2)

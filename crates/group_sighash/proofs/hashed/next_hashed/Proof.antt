@@ -1,3 +1,4 @@
+-- `group_sighash::hashed::next_hashed` meets its contract. Assumes nothing.
 use mathlib.Core.Path.{_≡_, refl, sym, ap, _∙_}
 use native.Mathlib.Omega.{arith}
 use denote.Ref.{now}
@@ -9,10 +10,6 @@ use Rattle.group_sighash.specs.Hashed.{hashedFrom, groupFrom, isHashed, 
 use Rattle.group_sighash.proofs.HashedLaws.{hashed-skip, group-skip}
 use Rattle.group_sighash.proofs.hashed.next_hashed.Statement.{statement}
 use Rattle.group_sighash.proofs.hashed.next_hashed.Tie as tie
-use Rattle.group_sighash.proofs.hashed.next_hashed.Reads as reads
-use Rattle.group_sighash.proofs.hashed.next_hashed.Lts as lts
-use Rattle.group_sighash.proofs.hashed.is_hashed.Reads as is-hashed-reads
-use Rattle.scene_table.proofs.witness_count.Reads as witness-count-reads
 
 abbrev Inv-loop : tie.InvT-loop
 Inv-loop table from count i₀ i =
@@ -24,33 +21,14 @@ Inv-loop table from count i₀ i =
 abbrev μ-loop : tie.MeasureT-loop
 μ-loop table from count i₀ i = count - i
 
--- src/hashed.rt:36:9
-witness-count-requires : tie.Need-witness-count-requires Inv-loop μ-loop
-witness-count-requires c κs = search needs
-
--- src/hashed.rt:38:5
 loop-holds : tie.Need-loop-holds Inv-loop μ-loop
 loop-holds c = (c .witness-count .ensures, λ s. refl, λ s. refl, omega arith)
 
--- src/hashed.rt:39:12
-is-hashed-requires : tie.Need-is-hashed-requires Inv-loop μ-loop
-is-hashed-requires c κs = search needs
-
--- src/hashed.rt:40:13
 returns : tie.Need-returns Inv-loop μ-loop
 returns c =
     let l = c .before .before .before in
     record { behind = l .loop .inv .3; hashed = l .loop .inv .1; group = l .loop .inv .2; hit = λ h. sym (c .before .is-hashed .ensures) ∙ c .if1 .taken }
 
--- src/hashed.rt:42:9
-add-i : tie.Need-add-i Inv-loop μ-loop
-add-i c = omega arith
-
--- src/hashed.rt:38:5
-loop-less : tie.Need-loop-less Inv-loop μ-loop
-loop-less c = omega arith
-
--- src/hashed.rt:38:5
 loop-again : tie.Need-loop-again Inv-loop μ-loop
 loop-again c =
     let l = c .before .before .before in
@@ -63,7 +41,6 @@ loop-again c =
       omega (arith, l .loop .inv .3),
     )
 
--- src/hashed.rt:33:1
 returns-2 : tie.Need-returns-2 Inv-loop μ-loop
 returns-2 c =
     let l = c .before in
@@ -75,11 +52,11 @@ next-hashed-spec =
     (tie.spec
     Inv-loop
     μ-loop
-    witness-count-requires
+    (λ c κs. search needs)
     loop-holds
-    is-hashed-requires
+    (λ c κs. search needs)
     returns
-    add-i
-    loop-less
+    (λ c. omega arith)
+    (λ c. omega arith)
     loop-again
     returns-2)

@@ -1,3 +1,4 @@
+-- `group_sighash::transaction::canonical_group_sighash` meets its contract. Assumes nothing.
 use mathlib.Core.Path.{_≡_, refl, sym, ap, _∙_}
 use denote.Ref.{now}
 use Rattle.protocol.specs.Rows.{decide, _▷_, _then_}
@@ -17,63 +18,7 @@ use Rattle.group_sighash.specs.GroupSighash.{groupAnswer}
 use borrow.Author.Needs.{needs}
 use Rattle.group_sighash.proofs.transaction.canonical_group_sighash.Statement.{statement}
 use Rattle.group_sighash.proofs.transaction.canonical_group_sighash.Tie as tie
-use Rattle.group_sighash.proofs.transaction.canonical_group_sighash.Reads as reads
-use Rattle.group_sighash.proofs.transaction.canonical_group_sighash.Lts as lts
-use Rattle.authorization.proofs.feed_canonical_witness.Reads as feed-canonical-witness-reads
-use Rattle.blake2b.proofs.Blake2b.digest.Reads as digest-reads
-use Rattle.blake2b.proofs.Blake2b.finish.Reads as finish-reads
-use Rattle.blake2b.proofs.Blake2b.new.Reads as new-reads
-use Rattle.blake2b.proofs.Blake2b.update.Reads as update-reads
-use Rattle.group_sighash.proofs.transaction.feed_others.Reads as feed-others-reads
-use Rattle.group_sighash.proofs.witnesses.first_witness.Reads as first-witness-reads
-use Rattle.octets.proofs.part.Reads as part-reads
-use Rattle.scene_table.proofs.transaction_hash.Reads as transaction-hash-reads
 
--- src/transaction.rt:39:9
-transaction-hash-requires : tie.Need-transaction-hash-requires
-transaction-hash-requires c κs = search needs
-
--- src/transaction.rt:40:17
-new-requires : tie.Need-new-requires
-new-requires c κs = search needs
-
--- src/transaction.rt:40:39
-part-requires : tie.Need-part-requires
-part-requires c κs = search needs
-
--- src/transaction.rt:40:9
-update-requires : tie.Need-update-requires
-update-requires c κs = search needs
-
--- src/transaction.rt:41:51
-first-witness-requires : tie.Need-first-witness-requires
-first-witness-requires c κs = search needs
-
--- src/transaction.rt:41:9
-feed-canonical-witness-requires : tie.Need-feed-canonical-witness-requires
-feed-canonical-witness-requires c κs = search needs
-
--- src/transaction.rt:44:23
-enum-known-found : tie.Need-enum-known-found
-enum-known-found c = search needs
-
--- src/transaction.rt:52:17
-enum-told : tie.Need-enum-told
-enum-told c = search needs
-
--- src/transaction.rt:53:24
-feed-others-requires : tie.Need-feed-others-requires
-feed-others-requires c κs = search needs
-
--- src/transaction.rt:53:24
-finish-requires : tie.Need-finish-requires
-finish-requires c κs = search needs
-
--- src/transaction.rt:53:17
-digest-requires : tie.Need-digest-requires
-digest-requires c κs = search needs
-
--- src/transaction.rt:36:1
 returns : tie.Need-returns
 unfolding groupAnswer sighashAnswer sighashFound
 returns c =
@@ -83,7 +28,6 @@ returns c =
     let told = ap (λ (q : CanonicalFed). q .found) (f .feed-canonical-witness .ensures) ∙ fed-found _ _ in
     rw (rw (f .before .first-witness .ensures) at (sym told ∙ c .before .found .given .1))
 
--- src/transaction.rt:36:1
 returns-2 : tie.Need-returns-2
 unfolding groupAnswer sighashAnswer sighashFound sighashOf bytesAt
 returns-2 c =
@@ -103,16 +47,16 @@ pub canonical-group-sighash-spec : {M : Type 1} → statement M
 canonical-group-sighash-spec =
     tie.close
     (tie.spec
-    transaction-hash-requires
-    new-requires
-    part-requires
-    update-requires
-    first-witness-requires
-    feed-canonical-witness-requires
-    enum-known-found
-    enum-told
-    feed-others-requires
-    finish-requires
-    digest-requires
+    (λ c κs. search needs)
+    (λ c κs. search needs)
+    (λ c κs. search needs)
+    (λ c κs. search needs)
+    (λ c κs. search needs)
+    (λ c κs. search needs)
+    (λ c. search needs)
+    (λ c. search needs)
+    (λ c κs. search needs)
+    (λ c κs. search needs)
+    (λ c κs. search needs)
     returns
     returns-2)

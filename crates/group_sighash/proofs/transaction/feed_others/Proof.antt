@@ -1,3 +1,4 @@
+-- `group_sighash::transaction::feed_others` meets its contract. Assumes nothing.
 use mathlib.Core.Path.{_≡_, refl, sym, ap, _∙_}
 use native.Mathlib.Omega.{arith}
 use denote.Ref.{now}
@@ -14,13 +15,6 @@ use Rattle.group_sighash.specs.Hashed.{hashedFrom, witnessAt, isHashed}
 use Rattle.group_sighash.proofs.HashedLaws.{hashed-take, hashed-end, fed-next, fed-end}
 use Rattle.group_sighash.proofs.transaction.feed_others.Statement.{statement}
 use Rattle.group_sighash.proofs.transaction.feed_others.Tie as tie
-use Rattle.group_sighash.proofs.transaction.feed_others.Reads as reads
-use Rattle.group_sighash.proofs.transaction.feed_others.Lts as lts
-use Rattle.authorization.proofs.feed_witness.Reads as feed-witness-reads
-use Rattle.group_sighash.proofs.hashed.first_other.Reads as first-other-reads
-use Rattle.group_sighash.proofs.hashed.next_hashed.Reads as next-hashed-reads
-use Rattle.group_sighash.proofs.hashed.witness_at.Reads as witness-at-reads
-use Rattle.scene_table.proofs.witness_count.Reads as witness-count-reads
 
 abbrev Inv-loop : tie.InvT-loop
 Inv-loop table store count fed₀ i₀ fed i =
@@ -31,19 +25,6 @@ Inv-loop table store count fed₀ i₀ fed i =
 abbrev μ-loop : tie.MeasureT-loop
 μ-loop table store count fed₀ i₀ fed i = count - i
 
--- src/transaction.rt:25:9
-witness-count-requires : tie.Need-witness-count-requires Inv-loop μ-loop
-witness-count-requires c κs = search needs
-
--- src/transaction.rt:27:36
-first-other-requires : tie.Need-first-other-requires Inv-loop μ-loop
-first-other-requires c κs = search needs
-
--- src/transaction.rt:27:9
-next-hashed-requires : tie.Need-next-hashed-requires Inv-loop μ-loop
-next-hashed-requires c κs = search needs
-
--- src/transaction.rt:28:5
 loop-holds : tie.Need-loop-holds Inv-loop μ-loop
 loop-holds c =
     let a = c .before .before .before .before .before .args in (
@@ -52,27 +33,9 @@ loop-holds c =
       ap (λ (ws : List (List ℕ)). fedAll (a .hash) (hashedWitnesses ws)) (c .before .first-other .ensures (now (a .store)) ∙ c .next-hashed .ensures .hashed (now (a .store))),
     )
 
--- src/transaction.rt:29:33
-witness-at-requires : tie.Need-witness-at-requires Inv-loop μ-loop
-witness-at-requires c κs = search needs
-
--- src/transaction.rt:29:9
-feed-witness-requires : tie.Need-feed-witness-requires Inv-loop μ-loop
-feed-witness-requires c κs = search needs
-
--- src/transaction.rt:30:32
-add-next-hashed : tie.Need-add-next-hashed Inv-loop μ-loop
-add-next-hashed c = omega arith
-
--- src/transaction.rt:30:9
-next-hashed-requires-2 : tie.Need-next-hashed-requires-2 Inv-loop μ-loop
-next-hashed-requires-2 c κs = search needs
-
--- src/transaction.rt:28:5
 loop-less : tie.Need-loop-less Inv-loop μ-loop
 loop-less c = omega (arith, c .next-hashed2 .ensures .behind)
 
--- src/transaction.rt:28:5
 loop-again : tie.Need-loop-again Inv-loop μ-loop
 loop-again c =
     let l = c .before .before .before .before .loop in
@@ -90,7 +53,6 @@ loop-again c =
           (fed-next (l .fed) (witnessAt (now (a .table)) (now (a .store)) (l .i)) _),
     )
 
--- src/transaction.rt:22:1
 returns : tie.Need-returns Inv-loop μ-loop
 returns c =
     let l = c .before .loop in
@@ -103,14 +65,14 @@ feed-others-spec =
     (tie.spec
     Inv-loop
     μ-loop
-    witness-count-requires
-    first-other-requires
-    next-hashed-requires
+    (λ c κs. search needs)
+    (λ c κs. search needs)
+    (λ c κs. search needs)
     loop-holds
-    witness-at-requires
-    feed-witness-requires
-    add-next-hashed
-    next-hashed-requires-2
+    (λ c κs. search needs)
+    (λ c κs. search needs)
+    (λ c. omega arith)
+    (λ c κs. search needs)
     loop-less
     loop-again
     returns)

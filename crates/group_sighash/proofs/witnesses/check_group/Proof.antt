@@ -1,3 +1,4 @@
+-- `group_sighash::witnesses::check_group` meets its contract. Assumes nothing.
 use mathlib.Core.Path.{_≡_, refl, sym, ap, _∙_}
 use denote.Ref.{now}
 use Rattle.protocol.specs.Rows.{decide, _▷_, _then_}
@@ -9,40 +10,7 @@ use Rattle.group_sighash.proofs.HashedLaws.{group-count}
 use borrow.Author.Needs.{needs}
 use Rattle.group_sighash.proofs.witnesses.check_group.Statement.{statement}
 use Rattle.group_sighash.proofs.witnesses.check_group.Tie as tie
-use Rattle.group_sighash.proofs.witnesses.check_group.Reads as reads
-use Rattle.group_sighash.proofs.witnesses.check_group.Lts as lts
-use Rattle.group_sighash.proofs.hashed.is_input.Reads as is-input-reads
-use Rattle.group_sighash.proofs.hashed.next_hashed.Reads as next-hashed-reads
-use Rattle.group_sighash.proofs.witnesses.check_witness.Reads as check-witness-reads
-use Rattle.group_sighash.proofs.witnesses.first_witness.Reads as first-witness-reads
-use Rattle.protocol.proofs.check.Check.and.Reads as and-reads
-use Rattle.protocol.proofs.check.Check.require.Reads as require-reads
 
--- src/witnesses.rt:81:33
-next-hashed-requires : tie.Need-next-hashed-requires
-next-hashed-requires c κs = search needs
-
--- src/witnesses.rt:81:9
-is-input-requires : tie.Need-is-input-requires
-is-input-requires c κs = search needs
-
--- src/witnesses.rt:82:5
-require-requires : tie.Need-require-requires
-require-requires c κs = search needs
-
--- src/witnesses.rt:84:28
-first-witness-requires : tie.Need-first-witness-requires
-first-witness-requires c κs = search needs
-
--- src/witnesses.rt:84:14
-check-witness-requires : tie.Need-check-witness-requires
-check-witness-requires c κs = search needs
-
--- src/witnesses.rt:82:5
-and-requires : tie.Need-and-requires
-and-requires c κs = search needs
-
--- src/witnesses.rt:78:1
 returns : tie.Need-returns
 unfolding groupRows decide
 returns c =
@@ -61,10 +29,10 @@ pub check-group-spec : {M : Type 1} → statement M
 check-group-spec =
     tie.close
     (tie.spec
-    next-hashed-requires
-    is-input-requires
-    require-requires
-    first-witness-requires
-    check-witness-requires
-    and-requires
+    (λ c κs. search needs)
+    (λ c κs. search needs)
+    (λ c κs. search needs)
+    (λ c κs. search needs)
+    (λ c κs. search needs)
+    (λ c κs. search needs)
     returns)

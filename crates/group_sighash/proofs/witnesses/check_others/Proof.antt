@@ -1,3 +1,4 @@
+-- `group_sighash::witnesses::check_others` meets its contract. Assumes nothing.
 use mathlib.Core.Path.{_≡_, refl, sym, ap, _∙_}
 use native.Mathlib.Omega.{arith}
 use denote.Ref.{now}
@@ -12,12 +13,6 @@ use Rattle.group_sighash.specs.Hashed.{hashedFrom, witnessAt, isHashed}
 use Rattle.group_sighash.proofs.HashedLaws.{hashed-take, hashed-end, fits-more, fits-not, fits-none, others-pass, others-fail}
 use Rattle.group_sighash.proofs.witnesses.check_others.Statement.{statement}
 use Rattle.group_sighash.proofs.witnesses.check_others.Tie as tie
-use Rattle.group_sighash.proofs.witnesses.check_others.Reads as reads
-use Rattle.group_sighash.proofs.witnesses.check_others.Lts as lts
-use Rattle.group_sighash.proofs.hashed.first_other.Reads as first-other-reads
-use Rattle.group_sighash.proofs.hashed.next_hashed.Reads as next-hashed-reads
-use Rattle.group_sighash.proofs.hashed.witness_at.Reads as witness-at-reads
-use Rattle.scene_table.proofs.witness_count.Reads as witness-count-reads
 
 abbrev Inv-loop : tie.InvT-loop
 Inv-loop table store count i₀ i =
@@ -28,19 +23,6 @@ Inv-loop table store count i₀ i =
 abbrev μ-loop : tie.MeasureT-loop
 μ-loop table store count i₀ i = count - i
 
--- src/witnesses.rt:90:9
-witness-count-requires : tie.Need-witness-count-requires Inv-loop μ-loop
-witness-count-requires c κs = search needs
-
--- src/witnesses.rt:91:36
-first-other-requires : tie.Need-first-other-requires Inv-loop μ-loop
-first-other-requires c κs = search needs
-
--- src/witnesses.rt:91:9
-next-hashed-requires : tie.Need-next-hashed-requires Inv-loop μ-loop
-next-hashed-requires c κs = search needs
-
--- src/witnesses.rt:92:5
 loop-holds : tie.Need-loop-holds Inv-loop μ-loop
 loop-holds c =
     let a = c .before .before .before .before .before .args in (
@@ -49,11 +31,6 @@ loop-holds c =
       ap (every witnessFits) (c .before .first-other .ensures (now (a .store)) ∙ c .next-hashed .ensures .hashed (now (a .store))),
     )
 
--- src/witnesses.rt:93:26
-witness-at-requires : tie.Need-witness-at-requires Inv-loop μ-loop
-witness-at-requires c κs = search needs
-
--- src/witnesses.rt:94:13
 returns : tie.Need-returns Inv-loop μ-loop
 returns c =
     let l = c .before .before .before .loop in
@@ -61,19 +38,9 @@ returns c =
     let more = rw (l .inv .0) at (c .before .before .loop-test .taken) in
     sym (others-fail (lentScene (now (a .table)) (now (a .store))) (l .inv .2 ∙ rw (hashed-take (now (a .table)) (now (a .store)) (l .i) more (l .inv .1 more)) (fits-not (witnessAt (now (a .table)) (now (a .store)) (l .i)) _ (rw (c .before .witness-at .ensures) at (c .if1 .taken)))))
 
--- src/witnesses.rt:96:32
-add-next-hashed : tie.Need-add-next-hashed Inv-loop μ-loop
-add-next-hashed c = omega arith
-
--- src/witnesses.rt:96:9
-next-hashed-requires-2 : tie.Need-next-hashed-requires-2 Inv-loop μ-loop
-next-hashed-requires-2 c κs = search needs
-
--- src/witnesses.rt:92:5
 loop-less : tie.Need-loop-less Inv-loop μ-loop
 loop-less c = omega (arith, c .next-hashed2 .ensures .behind)
 
--- src/witnesses.rt:92:5
 loop-again : tie.Need-loop-again Inv-loop μ-loop
 loop-again c =
     let l = c .before .before .before .before .loop in
@@ -86,7 +53,6 @@ loop-again c =
           ∙ ap (every witnessFits) (c .next-hashed2 .ensures .hashed (now (a .store))),
     )
 
--- src/witnesses.rt:87:1
 returns-2 : tie.Need-returns-2 Inv-loop μ-loop
 returns-2 c =
     let l = c .before .loop in
@@ -99,14 +65,14 @@ check-others-spec =
     (tie.spec
     Inv-loop
     μ-loop
-    witness-count-requires
-    first-other-requires
-    next-hashed-requires
+    (λ c κs. search needs)
+    (λ c κs. search needs)
+    (λ c κs. search needs)
     loop-holds
-    witness-at-requires
+    (λ c κs. search needs)
     returns
-    add-next-hashed
-    next-hashed-requires-2
+    (λ c. omega arith)
+    (λ c κs. search needs)
     loop-less
     loop-again
     returns-2)

@@ -1,3 +1,4 @@
+-- `group_sighash::witnesses::check_witness` meets its contract. Assumes nothing.
 use mathlib.Core.Path.{_≡_, refl, sym, ap, _∙_}
 use denote.Ref.{now}
 use Rattle.protocol.specs.Rows.{decide, _▷_, _then_}
@@ -9,52 +10,7 @@ use Rattle.account_witness.specs.Header.{headerRows}
 use borrow.Author.Needs.{needs}
 use Rattle.group_sighash.proofs.witnesses.check_witness.Statement.{statement}
 use Rattle.group_sighash.proofs.witnesses.check_witness.Tie as tie
-use Rattle.group_sighash.proofs.witnesses.check_witness.Reads as reads
-use Rattle.group_sighash.proofs.witnesses.check_witness.Lts as lts
-use Rattle.group_sighash.proofs.witnesses.check_header.Reads as check-header-reads
-use Rattle.group_sighash.proofs.witnesses.check_lock.Reads as check-lock-reads
-use Rattle.group_sighash.proofs.witnesses.lock_in.Reads as lock-in-reads
-use Rattle.octets.proofs.u8_at.Reads as u8-at-reads
-use Rattle.protocol.proofs.check.Check.and.Reads as and-reads
-use Rattle.protocol.proofs.check.Check.require.Reads as require-reads
 
--- src/witnesses.rt:67:9
-lock-in-requires : tie.Need-lock-in-requires
-lock-in-requires c κs = search needs
-
--- src/witnesses.rt:68:5
-require-requires : tie.Need-require-requires
-require-requires c κs = search needs
-
--- src/witnesses.rt:70:14
-check-lock-requires : tie.Need-check-lock-requires
-check-lock-requires c κs = search needs
-
--- src/witnesses.rt:68:5
-and-requires : tie.Need-and-requires
-and-requires c κs = search needs
-
--- src/witnesses.rt:71:14
-check-header-requires : tie.Need-check-header-requires
-check-header-requires c κs = search needs
-
--- src/witnesses.rt:68:5
-and-requires-2 : tie.Need-and-requires-2
-and-requires-2 c κs = search needs
-
--- src/witnesses.rt:73:13
-u8-at-requires : tie.Need-u8-at-requires
-u8-at-requires c κs = search needs
-
--- src/witnesses.rt:73:13
-cast-require : tie.Need-cast-require
-cast-require c = search needs
-
--- src/witnesses.rt:68:5
-require-requires-2 : tie.Need-require-requires-2
-require-requires-2 c κs = search needs
-
--- src/witnesses.rt:63:1
 returns : tie.Need-returns
 unfolding witnessRows countRows decide
 returns c =
@@ -76,13 +32,13 @@ pub check-witness-spec : {M : Type 1} → statement M
 check-witness-spec =
     tie.close
     (tie.spec
-    lock-in-requires
-    require-requires
-    check-lock-requires
-    and-requires
-    check-header-requires
-    and-requires-2
-    u8-at-requires
-    cast-require
-    require-requires-2
+    (λ c κs. search needs)
+    (λ c κs. search needs)
+    (λ c κs. search needs)
+    (λ c κs. search needs)
+    (λ c κs. search needs)
+    (λ c κs. search needs)
+    (λ c κs. search needs)
+    (λ c. search needs)
+    (λ c κs. search needs)
     returns)

@@ -1,3 +1,4 @@
+-- `state_transition::resolve::state_since` meets its contract. Assumes nothing.
 use mathlib.Core.Path.{_≡_, refl, sym, ap, _∙_}
 use denote.Ref.{now}
 use lib.ListN.{List·getD-eq-default}
@@ -8,20 +9,7 @@ use Rattle.state_transition.specs.Resolve.{noInput}
 use borrow.Author.Needs.{needs}
 use Rattle.state_transition.proofs.resolve.state_since.Statement.{statement}
 use Rattle.state_transition.proofs.resolve.state_since.Tie as tie
-use Rattle.state_transition.proofs.resolve.state_since.Reads as reads
-use Rattle.state_transition.proofs.resolve.state_since.Lts as lts
-use Rattle.scene_table.proofs.input_count.Reads as input-count-reads
-use Rattle.scene_table.proofs.input_since.Reads as input-since-reads
 
--- src/resolve.rt:133:16
-input-count-requires : tie.Need-input-count-requires
-input-count-requires c κs = search needs
-
--- src/resolve.rt:134:9
-input-since-requires : tie.Need-input-since-requires
-input-since-requires c κs = search needs
-
--- src/resolve.rt:130:1
 returns : tie.Need-returns
 unfolding lentInput
 returns c =
@@ -29,7 +17,6 @@ returns c =
     c .input-since .ensures
     ∙ sym (ap (λ (i : Input). i .since) (lent-given (now (a .table)) (now (a .store)) .inputs .nth (a .place) noInput (rw (c .before .before .input-count .ensures) at (c .before .if1 .taken))))
 
--- src/resolve.rt:130:1
 returns-2 : tie.Need-returns-2
 unfolding noInput
 returns-2 c =
@@ -37,4 +24,4 @@ returns-2 c =
     sym (ap (λ (i : Input). i .since) (List·getD-eq-default (lentScene (now (a .table)) (now (a .store)) .inputs) noInput (rw (lent-given (now (a .table)) (now (a .store)) .inputs .long) (rw (c .before .input-count .ensures) at (c .if1 .left)))))
 
 pub state-since-spec : {M : Type 1} → statement M
-state-since-spec = tie.close (tie.spec input-count-requires input-since-requires returns returns-2)
+state-since-spec = tie.close (tie.spec (λ c κs. search needs) (λ c κs. search needs) returns returns-2)

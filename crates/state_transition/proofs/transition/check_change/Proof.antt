@@ -1,3 +1,4 @@
+-- `state_transition::transition::check_change` meets its contract. Assumes nothing.
 use mathlib.Core.Path.{_≡_, refl, sym, ap, _∙_}
 use Rattle.protocol.specs.Rows.{decide, _▷_, _then_}
 use Rattle.protocol.proofs.Hold.{decide-append, decide-then}
@@ -8,30 +9,11 @@ use Rattle.state_transition.specs.Transition.{changeRows, successorRows,
 use borrow.Author.Needs.{needs}
 use Rattle.state_transition.proofs.transition.check_change.Statement.{statement}
 use Rattle.state_transition.proofs.transition.check_change.Tie as tie
-use Rattle.state_transition.proofs.transition.check_change.Reads as reads
-use Rattle.state_transition.proofs.transition.check_change.Lts as lts
-use Rattle.protocol.proofs.check.Check.and.Reads as and-reads
-use Rattle.state_transition.proofs.transition.check_recovery.Reads as check-recovery-reads
-use Rattle.state_transition.proofs.transition.check_successor.Reads as check-successor-reads
 
--- src/transition.rt:88:9
-check-successor-requires : tie.Need-check-successor-requires
-check-successor-requires c κs = search needs
-
--- src/transition.rt:90:19
-check-recovery-requires : tie.Need-check-recovery-requires
-check-recovery-requires c κs = search needs
-
--- src/transition.rt:90:9
-and-requires : tie.Need-and-requires
-and-requires c κs = search needs
-
--- src/transition.rt:85:1
 returns : tie.Need-returns
 unfolding changeRows
 returns c = rw (eq-eqb _ 3 (c .before .before .if1 .taken), c .and .ensures, c .before .check-recovery .ensures, c .before .before .before .check-successor .ensures) (sym (decide-append Passed (successorRows _ _) _ ∙ decide-then _ (recoveryRows _ _)))
 
--- src/transition.rt:85:1
 returns-2 : tie.Need-returns-2
 unfolding changeRows
 returns-2 c = rw (ne-eqb _ 3 (c .if1 .left), append-nil) (c .before .check-successor .ensures)
@@ -39,4 +21,4 @@ returns-2 c = rw (ne-eqb _ 3 (c .if1 .left), append-nil) (c .before .check-succe
 pub check-change-spec : {M : Type 1} → statement M
 check-change-spec =
     tie.close
-    (tie.spec check-successor-requires check-recovery-requires and-requires returns returns-2)
+    (tie.spec (λ c κs. search needs) (λ c κs. search needs) (λ c κs. search needs) returns returns-2)

@@ -1,3 +1,4 @@
+-- `state_transition::transition::check_current` meets its contract. Assumes nothing.
 use mathlib.Core.Path.{_≡_, refl, sym, ap, _∙_}
 use Rattle.protocol.specs.Rows.{decide, _▷_, _then_}
 use Rattle.protocol.proofs.Hold.{decide-append, decide-then}
@@ -7,29 +8,11 @@ use Rattle.state_transition.specs.Transition.{currentRows, sequenceOf}
 use borrow.Author.Needs.{needs}
 use Rattle.state_transition.proofs.transition.check_current.Statement.{statement}
 use Rattle.state_transition.proofs.transition.check_current.Tie as tie
-use Rattle.state_transition.proofs.transition.check_current.Reads as reads
-use Rattle.state_transition.proofs.transition.check_current.Lts as lts
-use Rattle.octets.proofs.u64_at.Reads as u64-at-reads
-use Rattle.protocol.proofs.check.Check.require.Reads as require-reads
-use Rattle.state_transition.proofs.transition.check_state.Reads as check-state-reads
 
--- src/transition.rt:55:5
-check-state-requires : tie.Need-check-state-requires
-check-state-requires c κs = search needs
-
--- src/transition.rt:56:21
-u64-at-requires : tie.Need-u64-at-requires
-u64-at-requires c κs = search needs
-
--- src/transition.rt:55:5
-require-requires : tie.Need-require-requires
-require-requires c κs = search needs
-
--- src/transition.rt:52:1
 returns : tie.Need-returns
 unfolding currentRows sequenceOf decide
 returns c = rw (c .require .ensures, c .before .u64-at .ensures, c .before .before .check-state .ensures) (sym (decide-append Passed (stateRows _) _))
 
 pub check-current-spec : {M : Type 1} → statement M
 check-current-spec =
-    tie.close (tie.spec check-state-requires u64-at-requires require-requires returns)
+    tie.close (tie.spec (λ c κs. search needs) (λ c κs. search needs) (λ c κs. search needs) returns)
