@@ -15,10 +15,11 @@ use Rattle.octets.specs.Table.{Number, numbers}
 use Rattle.octets.proofs.TableLaws.{number-back, storeNumbers, numbers-stored, length-numbers}
 use Rattle.octets.proofs.LeLaws.{length-to, bytes-drop, number-lt}
 use Rattle.octets.proofs.Parts.{join, part-length}
-use Rattle.octets.proofs.Stores.{sets-append}
+use Rattle.octets.proofs.Stores.{sets-append, sets-lent}
+use borrow.Rule.Slice.PartMut.{midOf, putMid}
 use Rattle.account_state.specs.Reading.{EntryReading, EntryTyped, EntriesTyped, entrySize, entryHead, entryLengths, entryBytes, entriesBytes, headNumbers, shareOf, weightOf}
 use Rattle.account_state.proofs.Inverse.{Keys}
-use Rattle.account_state_writer.specs.Writer.{auxOf, entryFrom, fieldNumbers, entriesFrom, neededBytes}
+use Rattle.account_state_writer.specs.Writer.{auxOf, entryFrom, fieldNumbers, lengthNumbers, entryFront, entriesFrom, neededBytes}
 use Rattle.account_state_writer.specs.Checks.{entryChecks, entriesChecks, lentWeight}
 use Rattle.protocol.specs.Rows.{decide}
 use Rattle.protocol.specs.declared.error.ProtocolError.{ProtocolError}
@@ -96,16 +97,35 @@ pub entries-none : (n : ℕ) (fields bytes : List ℕ) → n ≡ 0 → entriesBy
 unfolding entriesFrom entriesBytes
 entries-none n fields bytes e = rw e
 
+length-fields : (fields : List ℕ) → length (numbers (fieldNumbers fields)) ≡ 10
+unfolding fieldNumbers
+length-fields fields = length-numbers (fieldNumbers fields)
+
+-- the 48 bytes before an entry's key
+length-front : (fields verifier : List ℕ) → length verifier ≡ 34 → length (entryFront fields verifier) ≡ 48
+unfolding entryFront lengthNumbers
+length-front fields verifier h =
+    rw (length-append, length-fields fields, length-append, h, length-numbers (lengthNumbers fields))
+
+pub front-stored : (fields verifier l : List ℕ) → length verifier ≡ 34
+    → sets (sets (sets (sets l 0 (numbers (fieldNumbers fields))) 10 verifier) 44 (toLe 2 32)) 46 (toLe 2 (auxOf fields)) ≡ sets l 0 (entryFront fields verifier)
+unfolding entryFront lengthNumbers numbers
+front-stored fields verifier l h =
+    let f = numbers (fieldNumbers fields) in
+    rw (
+      sets-append (sets (sets l 0 f) 10 verifier) 44 (toLe 2 32) (toLe 2 (auxOf fields)) 46 (rw (length-to 2 32)),
+      sets-append (sets l 0 f) 10 verifier (toLe 2 32 ++ toLe 2 (auxOf fields)) 44 (rw h),
+      sets-append l 0 f (verifier ++ (toLe 2 32 ++ toLe 2 (auxOf fields))) 10 (rw (length-fields fields)),
+      append-nil (toLe 2 (auxOf fields)),
+    )
+
 -- the bytes of an entry: its numbers, 34 bytes as they are lent, two lengths, and the key and aux as they are lent
 module _ (fields bytes : List ℕ) (b : Bytes bytes) (h : 66 + auxOf fields ≤ length bytes) where
   abbrev a : ℕ
   a = auxOf fields
 
-  abbrev lengths : List Number
-  lengths = record { width = 2; value = 32 } ∷ record { width = 2; value = a } ∷ []
-
-  pub entry-form : entryBytes (entryFrom fields bytes) ≡ numbers (fieldNumbers fields) ++ (take 34 bytes ++ (numbers lengths ++ take (32 + a) (drop 34 bytes)))
-  unfolding entryBytes entryFrom entryHead entryLengths fieldNumbers numbers
+  pub entry-form : entryBytes (entryFrom fields bytes) ≡ numbers (fieldNumbers fields) ++ (take 34 bytes ++ (numbers (lengthNumbers fields) ++ take (32 + a) (drop 34 bytes)))
+  unfolding entryBytes entryFrom entryHead entryLengths fieldNumbers lengthNumbers numbers
   entry-form =
       rw (
         part-length bytes 34 32 (omega arith),
@@ -118,34 +138,26 @@ module _ (fields bytes : List ℕ) (b : Bytes bytes) (h : 66 + auxOf fields ≤ 
       )
       (simp append-assoc)
 
-  length-fields : length (numbers (fieldNumbers fields)) ≡ 10
-  unfolding fieldNumbers
-  length-fields = length-numbers (fieldNumbers fields)
-
   pub length-entry : length (entryBytes (entryFrom fields bytes)) ≡ 80 + a
+  unfolding lengthNumbers
   length-entry =
       let m : length (take 34 bytes) ≡ 34 = part-length bytes 0 34 (omega arith) in
       let k : length (take (32 + a) (drop 34 bytes)) ≡ 32 + a = part-length bytes 34 (32 + a) (omega arith) in
-      rw (entry-form, length-append, length-fields, length-append, m, length-append, length-numbers lengths, k) (omega arith)
+      rw (entry-form, length-append, length-fields fields, length-append, m, length-append, length-numbers (lengthNumbers fields), k) (omega arith)
 
-  -- stored part by part
-  pub entry-stored : (l : List ℕ) (at : ℕ)
-      → sets (sets (sets (sets (sets l at (numbers (fieldNumbers fields))) (at + 10) (take 34 bytes)) (at + 44) (toLe 2 32)) (at + 46) (toLe 2 a)) (at + 48) (take (32 + a) (drop 34 bytes))
-      ≡ sets l at (entryBytes (entryFrom fields bytes))
-  unfolding numbers
-  entry-stored l at =
-      let n : length (numbers (fieldNumbers fields)) ≡ 10 = length-fields in
-      let m : length (take 34 bytes) ≡ 34 = part-length bytes 0 34 (omega arith) in
-      let f = numbers (fieldNumbers fields) in
-      let d = take (32 + a) (drop 34 bytes) in
-      let e : numbers lengths ≡ toLe 2 32 ++ toLe 2 a = ap (λ (x : List ℕ). toLe 2 32 ++ x) (append-nil (toLe 2 a)) in
+  -- its first 48 bytes stored in a part that was lent for them, and the key and aux behind
+  pub entry-stored : (l ys : List ℕ) (at n m : ℕ) → n ≡ 48 → m ≡ 32 + a → at + 80 + a ≤ length l → ys ≡ sets (midOf at n l) 0 (entryFront fields (take 34 bytes))
+      → sets (putMid at n l ys) (at + 48) (take m (drop 34 bytes)) ≡ sets l at (entryBytes (entryFrom fields bytes))
+  unfolding entryFront
+  entry-stored l ys at n m e k room given =
+      let f = length-front fields (take 34 bytes) (part-length bytes 0 34 (omega arith)) in
       rw (
-        sets-append (sets (sets l at f) (at + 10) (take 34 bytes)) (at + 44) (toLe 2 32) (toLe 2 a) (at + 46) (rw (length-to 2 32) (omega arith)),
-        sets-append (sets (sets l at f) (at + 10) (take 34 bytes)) (at + 44) (toLe 2 32 ++ toLe 2 a) d (at + 48) (rw (length-append, length-to 2 32, length-to 2 a) (omega arith)),
-        sets-append (sets l at f) (at + 10) (take 34 bytes) ((toLe 2 32 ++ toLe 2 a) ++ d) (at + 44) (rw m (omega arith)),
-        sets-append l at f (take 34 bytes ++ ((toLe 2 32 ++ toLe 2 a) ++ d)) (at + 10) (rw n refl),
+        sets-lent l (entryFront fields (take 34 bytes)) ys at n (f ∙ sym e) (omega arith) given,
+        k,
+        sets-append l at (entryFront fields (take 34 bytes)) (take (32 + a) (drop 34 bytes)) (at + 48) (rw f),
+        entry-form,
       )
-      (ap (sets l at) (sym (entry-form ∙ ap (λ (x : List ℕ). f ++ (take 34 bytes ++ (x ++ d))) e)))
+      (simp append-assoc)
 
 -- a turn of the loop that stores the entries
 pub entries-next : (fields bytes : List ℕ) (count i at from : ℕ) (out after whole : List ℕ) → i < count → Bytes bytes

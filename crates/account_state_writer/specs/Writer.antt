@@ -6,7 +6,7 @@ use mathlib.Core.List.{List, [], _∷_, _++_}
 use lib.Dec.{leb, eqb}
 use lib.ListN.{length, take, drop, getD}
 use Rattle.octets.specs.Le.{numberAt}
-use Rattle.octets.specs.Table.{Number}
+use Rattle.octets.specs.Table.{Number, numbers}
 use Rattle.protocol.specs.Rows.{Row, row}
 use Rattle.protocol.specs.Write.{writeFault, writeAnswer, afterWrite}
 use Rattle.protocol.specs.declared.error.ProtocolError.the-variants.{InvalidState, SlicesDisagree}
@@ -41,6 +41,13 @@ fieldNumbers fields =
     ∷ record { width = 2; value = getD fields 2 0 }
     ∷ record { width = 2; value = getD fields 3 0 }
     ∷ []
+
+-- the 48 bytes before an entry's key: these numbers, the bytes of its verifier, and the lengths of key and aux
+unfoldable pub lengthNumbers : List ℕ → List Number
+lengthNumbers fields = record { width = 2; value = 32 } ∷ record { width = 2; value = auxOf fields } ∷ []
+
+unfoldable pub entryFront : List ℕ → List ℕ → List ℕ
+entryFront fields verifier = numbers (fieldNumbers fields) ++ (verifier ++ numbers (lengthNumbers fields))
 
 unfoldable pub entriesFrom : ℕ → List ℕ → List ℕ → List EntryReading
 entriesFrom zero fields bytes = []

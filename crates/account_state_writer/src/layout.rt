@@ -1,5 +1,4 @@
 // The layout of a state, filled from the lent slices.
-use octets::part;
 use octets::rest;
 use octets::store_bytes;
 use octets::store_number;
@@ -10,7 +9,7 @@ ghost use lib.ListN.{length};
 ghost use lib.Seq.{sets};
 ghost use Rattle.octets.specs.Table.{numbers};
 ghost use Rattle.account_state.specs.Reading.{headNumbers, stateBytes, entryBytes, entriesBytes};
-ghost use Rattle.account_state_writer.specs.Writer.{auxOf, fieldNumbers, entryFrom, entriesFrom, neededBytes, entryCount, stateFrom};
+ghost use Rattle.account_state_writer.specs.Writer.{auxOf, fieldNumbers, entryFront, entryFrom, entriesFrom, neededBytes, entryCount, stateFrom};
 
 fn store_head(
     out: &mut [u8],
@@ -38,32 +37,41 @@ fn store_head(
 }
 
 // The first five numbers of an entry, from its five fields.
-fn store_fields(out: &mut [u8], at: usize, fields: &[u16])
-    requires { ⌜ (at ≤ 16384) × (5 ≤ length (now fields)) ⌝ }
-    ensures { λ _. ⌜ now (out .exit) ≡ sets (now (out .entry)) at (numbers (fieldNumbers (now (fields .entry)))) ⌝ }
+fn store_fields(front: &mut [u8], fields: &[u16])
+    requires { ⌜ 5 ≤ length (now fields) ⌝ }
+    ensures { λ _. ⌜ now (front .exit) ≡ sets (now (front .entry)) 0 (numbers (fieldNumbers (now (fields .entry)))) ⌝ }
 {
-    store_number(out, at, 2, 80 + fields[4] as u64);
-    store_number(out, at + 2, 2, fields[0] as u64);
-    store_number(out, at + 4, 2, fields[1] as u64);
-    store_number(out, at + 6, 2, fields[2] as u64);
-    store_number(out, at + 8, 2, fields[3] as u64);
+    store_number(front, 0, 2, 80 + fields[4] as u64);
+    store_number(front, 2, 2, fields[0] as u64);
+    store_number(front, 4, 2, fields[1] as u64);
+    store_number(front, 6, 2, fields[2] as u64);
+    store_number(front, 8, 2, fields[3] as u64);
 }
 
-// The entry at the front of the slices.
+// The 48 bytes before an entry's key; `verifier` has its hash type, ABI and code hash.
+fn store_front(front: &mut [u8], fields: &[u16], verifier: &[u8])
+    requires { ⌜ (5 ≤ length (now fields)) × (length (now verifier) ≡ 34) ⌝ }
+    ensures { λ _. ⌜ now (front .exit) ≡ sets (now (front .entry)) 0 (entryFront (now (fields .entry)) (now (verifier .entry))) ⌝ }
+{
+    store_fields(front, fields);
+    store_bytes(front, 10, verifier);
+    store_number(front, 44, 2, 32);
+    store_number(front, 46, 2, fields[4] as u64);
+}
+
+// The entry at the front of the slices. Its first part is lent just its 48 bytes, so that no store there looks for the end.
 fn store_entry(out: &mut [u8], at: usize, fields: &[u16], bytes: &[u8])
-    requires { ⌜ (at ≤ 16384) × ((5 ≤ length (now fields)) × (66 + auxOf (now fields) ≤ length (now bytes))) ⌝ }
+    requires { ⌜ (at + 80 + auxOf (now fields) ≤ length (now out)) × ((5 ≤ length (now fields)) × (66 + auxOf (now fields) ≤ length (now bytes))) ⌝ }
     ensures { λ _. ⌜ now (out .exit) ≡ sets (now (out .entry)) at (entryBytes (entryFrom (now (fields .entry)) (now (bytes .entry)))) ⌝ }
 {
-    let aux = fields[4] as usize;
-    store_fields(out, at, fields);
-    store_bytes(out, at + 10, part(bytes, 0, 34));
-    store_number(out, at + 44, 2, 32);
-    store_number(out, at + 46, 2, aux as u64);
-    store_bytes(out, at + 48, part(bytes, 34, 32 + aux));
+    let key = at + 48;
+    let end = 66 + fields[4] as usize;
+    store_front(&mut out[at..key], fields, &bytes[0..34]);
+    store_bytes(out, key, &bytes[34..end]);
 }
 
 fn store_entries(out: &mut [u8], fields: &[u16], bytes: &[u8], count: usize)
-    requires { ⌜ (5 * count ≤ length (now fields)) × ((neededBytes count (now fields) ≡ length (now bytes)) × (32 + 14 * count + length (now bytes) ≤ 16384)) ⌝ }
+    requires { ⌜ (5 * count ≤ length (now fields)) × ((neededBytes count (now fields) ≡ length (now bytes)) × (32 + 14 * count + length (now bytes) ≤ length (now out))) ⌝ }
     ensures { λ _. ⌜ now (out .exit) ≡ sets (now (out .entry)) 32 (entriesBytes (entriesFrom count (now (fields .entry)) (now (bytes .entry)))) ⌝ }
 {
     let mut i: usize = 0;
@@ -91,7 +99,7 @@ pub(crate) fn store_state(
     bytes: &[u8],
     out: &mut [u8],
 )
-    requires { ⌜ (entryCount (now fields) ≤ 255) × ((neededBytes (entryCount (now fields)) (now fields) ≡ length (now bytes)) × (32 + 14 * entryCount (now fields) + length (now bytes) ≤ 16384)) ⌝ }
+    requires { ⌜ (entryCount (now fields) ≤ 255) × ((neededBytes (entryCount (now fields)) (now fields) ≡ length (now bytes)) × (32 + 14 * entryCount (now fields) + length (now bytes) ≤ length (now out))) ⌝ }
     ensures { λ _. ⌜ now (out .exit) ≡ sets (now (out .entry)) 0 (stateBytes (stateFrom flags sequence spend rotate recovery since (now (fields .entry)) (now (bytes .entry)))) ⌝ }
 {
     let count = fields.len() / 5;

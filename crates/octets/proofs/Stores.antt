@@ -1,12 +1,14 @@
 -- Runs of stores into a list: one behind another, past the end, and from the front.
 -- Assumes nothing.
 use mathlib.Core.Path.{_≡_, refl, sym, ap, _∙_}
-use mathlib.Core.List.{List, [], _∷_, _++_, append-nil}
+use mathlib.Core.List.{List, [], _∷_, _++_, append-nil, append-assoc}
 use Prim.Native.Nat.{ℕ, zero, suc, _+_, _-_, _≤_, _<_}
 use native.Mathlib.Nat.{zero-add, add-zero, sub-zero}
 use native.Mathlib.Omega.{arith}
 use lib.ListN.{length, take, drop, set, length-set, length-take, drop-of-length-le}
-use lib.Seq.{sets, sets-eq, set-out, take-at, take-nil, length-take-le}
+use lib.Seq.{sets, sets-eq, set-out, take-at, take-nil, take-all, drop-drop, length-take-le}
+use borrow.Rule.Slice.PartMut.{midOf, putMid}
+use Rattle.octets.proofs.Parts.{part-length}
 
 -- a store, and the rest of a run from the next place: the run from this place
 pub sets-cons : (out : List ℕ) (at : ℕ) (b : ℕ) (bs : List ℕ) (next : ℕ) (run : List ℕ) → next ≡ suc at → run ≡ b ∷ bs → sets (set out at b) next bs ≡ sets out at run
@@ -45,3 +47,10 @@ sets-over l bs h =
 -- what was stored from the front of a list is what its first part holds
 pub front-back : (l m bs : List ℕ) → length bs ≤ length l → m ≡ sets l 0 bs → take (length bs) m ≡ bs
 front-back l m bs h e = rw (e, sets-front l bs h, take-at bs (drop (length bs) l) (length bs) refl)
+
+-- a part of a list was lent, and a run that fills it was stored there
+pub sets-lent : (l bs ys : List ℕ) (at n : ℕ) → length bs ≡ n → at + n ≤ length l → ys ≡ sets (midOf at n l) 0 bs → putMid at n l ys ≡ sets l at bs
+sets-lent l bs ys at n e h k =
+    let m : length (take n (drop at l)) ≡ n = part-length l at n h in
+    let stored : sets (take n (drop at l)) 0 bs ≡ bs = sets-over (take n (drop at l)) bs (omega arith) ∙ take-all (length (take n (drop at l))) bs (omega arith) in
+    rw (k, stored, sets-eq bs l at (omega arith), e, drop-drop n at l, append-assoc)

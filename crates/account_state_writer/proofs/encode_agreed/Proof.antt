@@ -8,7 +8,7 @@ use Rattle.protocol.specs.Rows.{row, _▷_, decide}
 use Rattle.protocol.specs.Write.{writeFault}
 use Rattle.protocol.specs.declared.error.ProtocolError.the-variants.{BufferTooShort}
 use Rattle.protocol.specs.declared.check.Check.the-variants.{Passed}
-use Rattle.protocol.proofs.Outcome.{write-refused, write-done}
+use Rattle.protocol.proofs.Outcome.{write-refused, write-fits, write-done}
 use Rattle.account_state.specs.Reading.{stateBytes}
 use Rattle.account_state.specs.State.{stateRows}
 use Rattle.account_state_writer.specs.Writer.{entriesFrom, entryCount, stateTotal, stateFrom, validWritten, validStored}
@@ -24,11 +24,6 @@ add-total-2 c = let h = agreed _ _ (c .before .before .before .pre) in omega (ar
 
 check-state-requires : tie.Need-check-state-requires
 check-state-requires c κs = agreed _ _ (c .before .before .before .pre) .needed
-
-store-state-requires : tie.Need-store-state-requires
-store-state-requires c κs =
-    let h = agreed _ _ (c .before .before .before .before .before .before .before .before .pre) in
-    (h .count, (h .needed, h .total))
 
 -- what the checks find is what the state's rows find
 found : (c : tie.After-require)
@@ -49,6 +44,16 @@ found c =
       state-found (a .flags) (a .sequence) (a .spend) (a .rotate) (a .recovery) (a .since) (a .fields .now) (a .bytes .now) (x .flags .fits) (x .sequence .fits) (x .spend .fits) (x .rotate .fits) (x .recovery .fits) (x .since .fits)
           (λ i. k .shared-slice-known .given i .fits) b g (length (a .out .now)),
     )
+
+store-state-requires : tie.Need-store-state-requires
+unfolding entryCount stateTotal
+store-state-requires c κs =
+    let k = c .before .before .before in
+    let s = k .before .before .before .before .before in
+    let a = s .args in
+    let h = agreed _ _ (s .pre) in
+    let z = found k in
+    (h .count, (h .needed, write-fits (stateRows (stateBytes (stateFrom (a .flags) (a .sequence) (a .spend) (a .rotate) (a .recovery) (a .since) (a .fields .now) (a .bytes .now)))) (stateTotal (a .fields .now) (a .bytes .now)) (a .out .now) _ (k .require .ensures ∙ rw (k .before .check-state .ensures) (z .1)) (c .before .enum-told .given .1)))
 
 returns : tie.Need-returns
 unfolding validWritten validStored entryCount stateTotal

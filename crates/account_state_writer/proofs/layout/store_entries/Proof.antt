@@ -20,7 +20,7 @@ Inv-loop out₀ fields bytes count i₀ at₀ from₀ out i at from =
     (i ≤ count)
     × (length out ≡ length out₀)
     × (from + neededBytes (count - i) (drop (5 * i) fields) ≡ length bytes)
-    × (at + 14 * (count - i) + (length bytes - from) ≤ 16384)
+    × (at + 14 * (count - i) + (length bytes - from) ≤ length out₀)
     × (sets out at (entriesBytes (entriesFrom (count - i) (drop (5 * i) fields) (drop from bytes))) ≡ sets out₀ 32 (entriesBytes (entriesFrom count fields bytes)))
 
 abbrev μ-loop : tie.MeasureT-loop
@@ -59,8 +59,8 @@ store-entry-requires c κs =
     let n : length (drop (5 * l .i) f) ≡ length f - 5 * l .i = length-drop (5 * l .i) f in
     let m : length (drop (l .from) b) ≡ length b - l .from = length-drop (l .from) b in
     let r = room c3 in
-    let k : l .at ≤ 16384 = omega arith in
-    rw (e, c .rest .ensures) (k, (omega arith, omega arith))
+    let k = needed-turn f (a .count) (l .i) (c3 .before .loop-test .taken) in
+    rw (e, c .rest .ensures) (omega arith, (omega arith, omega arith))
 
 loop-again : tie.Need-loop-again Inv-loop μ-loop
 loop-again c =

@@ -3,6 +3,7 @@ use mathlib.Core.List.{List}
 use Prim.Native.Nat.{ℕ, _/_}
 use native.Mathlib.Omega.{arith}
 use lib.ListN.{length}
+use lib.Seq.{length-sets}
 use Rattle.octets.specs.Table.{numbers}
 use Rattle.octets.proofs.Stores.{sets-append}
 use Rattle.account_state.specs.Reading.{headNumbers, stateHead, stateBytes}
@@ -20,7 +21,7 @@ store-entries-requires : tie.Need-store-entries-requires
 unfolding entryCount
 store-entries-requires c κs =
     let s = c .before .before .before .before .before .before .before .before in
-    (omega arith, (s .pre .1 .0, s .pre .1 .1))
+    (omega arith, (s .pre .1 .0, rw (c .before .before .before .store-head .ensures, length-sets) (s .pre .1 .1)))
 
 returns : tie.Need-returns
 unfolding stateBytes stateHead stateFrom entryCount
