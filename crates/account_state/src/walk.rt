@@ -34,11 +34,7 @@ pub fn share(bit: u16, capabilities: u16, weight: u16) -> u32
     if bit == 0 {
         return 0;
     }
-    if capabilities / bit % 2 == 1 {
-        weight as u32
-    } else {
-        0
-    }
+    (capabilities / bit % 2) as u32 * weight as u32
 }
 
 fn with_entry(summary: StateSummary, capabilities: u16, weight: u16) -> StateSummary
