@@ -3,7 +3,8 @@
  * A slice is a pointer and the number of its elements. The pointer is never NULL, not even where the number is 0. A slice
  * that is not `const` is written, and shares no memory with another slice of the same call.
  *
- * A function that returns a number returns that of docs/NUMBERS.md: 0 accepted. docs/LAYOUTS.md has the layouts of slices.
+ * `len` is never NULL either. A function returns the number of docs/NUMBERS.md, 0 accepted, unless its comment says
+ * otherwise. docs/LAYOUTS.md has the layouts of slices.
  * Numbers go to `out` as 64-bit little-endian words from its front, as far as there is room, and places are offsets into
  * the input. A refusal leaves `out` and `len` as they were, except in the functions of libexports_lock.a. */
 #ifndef FOWLCREDENZA_H
@@ -48,7 +49,7 @@ uint32_t fowlcredenza_validate_state(const uint8_t *state, size_t state_len, uin
                                      size_t out_len);
 
 /* Slot, algorithm, capabilities, weight, hash type, ABI, place of the code hash, place and length of key and of aux,
- * offset and least slot of the next entry. */
+ * offset and least slot of the next entry. The first entry has offset 32 and least slot 0. */
 uint32_t fowlcredenza_next_entry(const uint8_t *state, size_t state_len, size_t offset,
                                  uint32_t least, uint8_t *out, size_t out_len);
 
@@ -60,7 +61,8 @@ uint32_t fowlcredenza_parse_witness_header(const uint8_t *witness, size_t witnes
 uint32_t fowlcredenza_validate_witness(const uint8_t *witness, size_t witness_len, uint8_t *out,
                                        size_t out_len);
 
-/* Slot, place and length of the proof, offset and least slot of the next one. */
+/* Slot, place and length of the proof, offset and least slot of the next one. The first proof has offset 16 and least
+ * slot 0. */
 uint32_t fowlcredenza_next_proof(const uint8_t *witness, size_t witness_len, size_t offset,
                                  uint32_t least, uint8_t *out, size_t out_len);
 

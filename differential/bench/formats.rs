@@ -1,6 +1,7 @@
 //! The speed of readers and writers: the original and the port, on the same input in one process.
 
 use crate::exports::{self, LentRequest, LentState};
+use crate::lent_state::slices;
 use ckb_account_host::{encode_state, encode_verifier_request, AccountState, Authenticator};
 use ckb_account_protocol::{validate_state, ALG_MLDSA44, OP_SPEND, VERIFIER_ABI_V1};
 use std::hint::black_box;
@@ -73,20 +74,6 @@ fn validate(name: &str, state: &AccountState) {
             black_box(exports::validate_state(black_box(&bytes), &mut out));
         },
     );
-}
-
-/// The numbers and the bytes of the entries, as the port's writer is lent them.
-fn slices(state: &AccountState) -> (Vec<u16>, Vec<u8>) {
-    let (mut fields, mut bytes) = (Vec::new(), Vec::new());
-    for auth in &state.authenticators {
-        fields.extend([auth.slot, auth.algorithm_id, auth.capabilities, auth.weight]);
-        fields.push(auth.aux.len() as u16);
-        bytes.extend([auth.verifier_hash_type, auth.verifier_abi]);
-        bytes.extend(auth.verifier_code_hash);
-        bytes.extend(auth.key_id);
-        bytes.extend(&auth.aux);
-    }
-    (fields, bytes)
 }
 
 fn write_state(name: &str, state: &AccountState) {

@@ -15,6 +15,9 @@ mod hash;
 #[path = "../host/lent.rs"]
 mod lent;
 #[cfg(originals)]
+#[path = "../host/lent_state.rs"]
+mod lent_state;
+#[cfg(originals)]
 mod lock;
 #[allow(dead_code)]
 #[path = "../host/prng.rs"]

@@ -21,6 +21,8 @@ mod hash;
 mod hex;
 mod lent;
 #[cfg(originals)]
+mod lent_state;
+#[cfg(originals)]
 mod locks;
 #[cfg(originals)]
 mod original;
@@ -107,6 +109,11 @@ fn main() -> ExitCode {
         ["--samples", folder] => written(locks::sample_files::write(folder)),
         #[cfg(originals)]
         ["--fuzz", ref limits @ ..] => only_fuzz(limits),
+        #[cfg(not(originals))]
+        ["--record" | "--samples" | "--fuzz", ..] => {
+            eprintln!("host: --record, --samples and --fuzz need the original files (ORIGINAL names their folder)");
+            ExitCode::FAILURE
+        }
         _ => {
             eprintln!("host: takes nothing, --long, --record FILE, --samples FOLDER or --fuzz");
             ExitCode::FAILURE

@@ -10,6 +10,13 @@ fn scene_buffer() -> [u8; 65537]
     [0; 65537]
 }
 
+// As long as the longest scene: the reader never gives 6 with it.
+fn store_buffer() -> [u8; 65536]
+    ensures { λ r. ⌜ 65536 ≡ length r ⌝ }
+{
+    [0; 65536]
+}
+
 // Room for the requests of any scene.
 fn answer_buffer() -> [u8; 148992]
     ensures { λ r. ⌜ 148992 ≡ length r ⌝ }
@@ -32,7 +39,7 @@ fn line_buffer() -> [u8; 135]
 fn main() {
     let mut scene = scene_buffer();
     let n = io::read_full(0, &mut scene);
-    let mut store = io::large_buffer();
+    let mut store = store_buffer();
     let mut table = table_buffer();
     let mut answer = answer_buffer();
     let mut line = line_buffer();

@@ -9,7 +9,7 @@ use protocol::VERIFIER_ABI_V1;
 use protocol::is_supported_algorithm;
 ghost use mathlib.Core.Path.{_≡_};
 ghost use Prim.Native.Nat.{_+_, _≤_};
-ghost use lib.ListN.{length, drop};
+ghost use lib.ListN.{length};
 ghost use Rattle.protocol.specs.Rows.{decide};
 ghost use Rattle.protocol.specs.declared.check.Check.the-variants.{Passed};
 ghost use Rattle.account_state.specs.State.{layoutRows, fieldRows, entryRows, entryAt, firstEntry, cursorBehind, entryStep};

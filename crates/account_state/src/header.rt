@@ -7,6 +7,7 @@ use protocol::ACCOUNT_STATE_HEADER_LEN;
 use protocol::ACCOUNT_STATE_MAGIC;
 use protocol::ACCOUNT_STATE_MAX_LEN;
 use protocol::ACCOUNT_STATE_VERSION;
+use protocol::AUTHENTICATOR_MAX_COUNT;
 use protocol::Check;
 use protocol::ProtocolError;
 use protocol::STATE_FLAGS_KNOWN_MASK;
@@ -49,10 +50,10 @@ pub(crate) fn check_head(state: &[u8]) -> Check
             ProtocolError::UnsupportedVersion,
         )
         .require(u8_at(state, 5) <= STATE_FLAGS_KNOWN_MASK, invalid)
-        .require(u16_at(state, 6) == 32, invalid)
+        .require(u16_at(state, 6) as usize == ACCOUNT_STATE_HEADER_LEN, invalid)
         .require(u8_at(state, 23) == 0, invalid)
         .require(1 <= count, invalid)
-        .require(count <= 16, invalid)
+        .require(count as usize <= AUTHENTICATOR_MAX_COUNT, invalid)
 }
 
 // The fields of a header that is present.
@@ -73,6 +74,7 @@ pub(crate) fn header_at(state: &[u8]) -> StateHeader
 }
 
 impl StateHeader {
+    // The header, or 21 or 32.
     pub fn parse(state: &[u8]) -> StateHeaderAnswer
         ensures { λ r. ⌜ r ≡ readHeader (now (state .entry)) ⌝ }
     {

@@ -81,6 +81,7 @@ fn state_end(state: &[u8], walk: Walk) -> StateAnswer
     }
 }
 
+// The whole state: its header, and the weights of the holders of each capability; or the number of the first check that fails.
 pub fn validate_state(state: &[u8]) -> StateAnswer
     ensures { λ r. ⌜ r ≡ readState (now (state .entry)) ⌝ }
 {

@@ -3,6 +3,9 @@ use crate::entry::EntryCursor;
 use crate::entry::check_entry;
 use crate::entry::cursor_behind;
 use octets::u16_at;
+use protocol::CAP_RECOVERY;
+use protocol::CAP_ROTATE;
+use protocol::CAP_SPEND;
 use protocol::Check;
 use protocol::ProtocolError;
 ghost use mathlib.Core.Path.{_≡_};
@@ -42,9 +45,9 @@ fn with_entry(summary: StateSummary, capabilities: u16, weight: u16) -> StateSum
     ensures { λ r. ⌜ r ≡ withEntry summary capabilities weight ⌝ }
 {
     StateSummary {
-        spend_weight: summary.spend_weight + share(1, capabilities, weight),
-        rotate_weight: summary.rotate_weight + share(2, capabilities, weight),
-        recovery_weight: summary.recovery_weight + share(4, capabilities, weight),
+        spend_weight: summary.spend_weight + share(CAP_SPEND, capabilities, weight),
+        rotate_weight: summary.rotate_weight + share(CAP_ROTATE, capabilities, weight),
+        recovery_weight: summary.recovery_weight + share(CAP_RECOVERY, capabilities, weight),
     }
 }
 

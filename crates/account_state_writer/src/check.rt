@@ -1,5 +1,6 @@
 // The checks of the state that the slices say, before a byte of it is written.
 use account_state::share;
+use protocol::AUTHENTICATOR_MAX_COUNT;
 use protocol::CAP_KNOWN_MASK;
 use protocol::CAP_RECOVERY;
 use protocol::CAP_ROTATE;
@@ -24,7 +25,7 @@ fn check_head(flags: u8, count: usize) -> Check
     Check::Passed
         .require(flags <= STATE_FLAGS_KNOWN_MASK, invalid)
         .require(1 <= count, invalid)
-        .require(count <= 16, invalid)
+        .require(count <= AUTHENTICATOR_MAX_COUNT, invalid)
 }
 
 // The entry at the front of the slices.

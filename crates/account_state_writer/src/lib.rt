@@ -6,14 +6,14 @@ mod layout; // layout.rt
 use self::check::check_state;
 use self::layout::store_state;
 use self::slices::check_slices;
+use protocol::ACCOUNT_STATE_HEADER_LEN;
 use protocol::Check;
 use protocol::ProtocolError;
 use protocol::WriteAnswer;
 ghost use mathlib.Core.Path.{_≡_};
-ghost use lib.ListN.{length};
 ghost use Rattle.protocol.specs.Rows.{Hold};
 ghost use Rattle.account_state.specs.Reading.{stateBytes};
-ghost use Rattle.account_state_writer.specs.Writer.{stateFrom, sliceRows, stateTotal, validWritten, validStored, stateWritten, stateStored};
+ghost use Rattle.account_state_writer.specs.Writer.{stateFrom, sliceRows, validWritten, validStored, stateWritten, stateStored};
 
 // The state that the slices say, where they agree and it is not too long.
 fn encode_agreed(
@@ -31,7 +31,7 @@ fn encode_agreed(
     ensures { λ r. ⌜ r ≡ validWritten (stateBytes (stateFrom flags sequence spend rotate recovery since (now (fields .entry)) (now (bytes .entry)))) (now (out .entry)) ⌝ }
     ensures { λ _. ⌜ now (out .exit) ≡ validStored (stateBytes (stateFrom flags sequence spend rotate recovery since (now (fields .entry)) (now (bytes .entry)))) (now (out .entry)) ⌝ }
 {
-    let total = 32 + 14 * (fields.len() / 5) + bytes.len();
+    let total = ACCOUNT_STATE_HEADER_LEN + 14 * (fields.len() / 5) + bytes.len();
     let check = check_state(flags, spend, rotate, recovery, since, fields, bytes).require(
         total <= out.len(),
         ProtocolError::BufferTooShort,

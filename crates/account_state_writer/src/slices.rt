@@ -1,5 +1,6 @@
 // The checks of the lent slices: that they agree with each other, and that their state is not too long.
 use octets::fits;
+use protocol::ACCOUNT_STATE_HEADER_LEN;
 use protocol::ACCOUNT_STATE_MAX_LEN;
 use protocol::Check;
 use protocol::ProtocolError;
@@ -39,7 +40,7 @@ pub(crate) fn check_slices(fields: &[u16], bytes: &[u8]) -> Check
         )
         .require(count <= 255, ProtocolError::InvalidState)
         .require(
-            fits(ACCOUNT_STATE_MAX_LEN, 32 + 14 * count, bytes.len()),
+            fits(ACCOUNT_STATE_MAX_LEN, ACCOUNT_STATE_HEADER_LEN + 14 * count, bytes.len()),
             ProtocolError::InvalidState,
         )
 }

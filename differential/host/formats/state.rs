@@ -4,6 +4,7 @@ use super::calls::{numbered, Calls, Words, DISAGREE};
 use super::{state_walk, states};
 use crate::changes;
 use crate::exports::{self, LentState};
+use crate::lent_state::slices;
 use crate::prng::Prng;
 use ckb_account_host::{encode_state, AccountState};
 use ckb_account_protocol::{validate_state, StateHeader};
@@ -44,20 +45,6 @@ fn read(calls: &mut Calls, state: &[u8]) {
     let whole = state_words(state);
     calls.read("validate_state", state, whole, exports::validate_state);
     state_walk::walk(calls, state);
-}
-
-/// The numbers and the bytes of the entries, as the writer is lent them.
-fn slices(state: &AccountState) -> (Vec<u16>, Vec<u8>) {
-    let (mut fields, mut bytes) = (Vec::new(), Vec::new());
-    for auth in &state.authenticators {
-        fields.extend([auth.slot, auth.algorithm_id, auth.capabilities, auth.weight]);
-        fields.push(auth.aux.len() as u16);
-        bytes.extend([auth.verifier_hash_type, auth.verifier_abi]);
-        bytes.extend(auth.verifier_code_hash);
-        bytes.extend(auth.key_id);
-        bytes.extend(&auth.aux);
-    }
-    (fields, bytes)
 }
 
 fn write_slices(
