@@ -50,7 +50,10 @@ pub(crate) fn check_head(state: &[u8]) -> Check
             ProtocolError::UnsupportedVersion,
         )
         .require(u8_at(state, 5) <= STATE_FLAGS_KNOWN_MASK, invalid)
-        .require(u16_at(state, 6) as usize == ACCOUNT_STATE_HEADER_LEN, invalid)
+        .require(
+            u16_at(state, 6) as usize == ACCOUNT_STATE_HEADER_LEN,
+            invalid,
+        )
         .require(u8_at(state, 23) == 0, invalid)
         .require(1 <= count, invalid)
         .require(count as usize <= AUTHENTICATOR_MAX_COUNT, invalid)

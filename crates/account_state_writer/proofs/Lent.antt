@@ -9,7 +9,7 @@ use native.Mathlib.Omega.{arith}
 use borrow.Author.Tests.{eq-eqb, ne-eqb, eqb-true, eqb-false}
 use lib.Dec.{eqb}
 use lib.ListN.{length, take, drop, getD, length-append, length-drop}
-use lib.Seq.{drop-drop, getD-drop, sets}
+use lib.Seq.{drop-drop, getD-drop, sets, take-all}
 use Rattle.octets.specs.Le.{numberAt, toLe, Bytes}
 use Rattle.octets.specs.Table.{Number, numbers}
 use Rattle.octets.proofs.TableLaws.{number-back, storeNumbers, numbers-stored, length-numbers}
@@ -100,6 +100,28 @@ entries-none n fields bytes e = rw e
 length-fields : (fields : List ℕ) → length (numbers (fieldNumbers fields)) ≡ 10
 unfolding fieldNumbers
 length-fields fields = length-numbers (fieldNumbers fields)
+
+-- a verifier's 34 bytes, stored as numbers
+pub verifier-stored : (v l : List ℕ) → Bytes v → length v ≡ 34
+    → sets (sets (sets (sets (sets l 10 (toLe 8 (numberAt v 0 8))) 18 (toLe 8 (numberAt v 8 8))) 26 (toLe 8 (numberAt v 16 8))) 34 (toLe 8 (numberAt v 24 8))) 42 (toLe 2 (numberAt v 32 2)) ≡ sets l 10 v
+verifier-stored v l b h =
+    let part : (at : ℕ) → at + 8 ≤ 34 → length (take 8 (drop at v)) ≡ 8 = λ at k. part-length v at 8 (omega arith) in
+    rw (
+      number-back v 0 8 b (omega arith),
+      number-back v 8 8 b (omega arith),
+      number-back v 16 8 b (omega arith),
+      number-back v 24 8 b (omega arith),
+      number-back v 32 2 b (omega arith),
+      sets-append (sets (sets (sets l 10 (take 8 v)) 18 (take 8 (drop 8 v))) 26 (take 8 (drop 16 v))) 34 (take 8 (drop 24 v)) (take 2 (drop 32 v)) 42 (rw (part 24 (omega arith))),
+      join v 24 8 2 32 refl,
+      sets-append (sets (sets l 10 (take 8 v)) 18 (take 8 (drop 8 v))) 26 (take 8 (drop 16 v)) (take 10 (drop 24 v)) 34 (rw (part 16 (omega arith))),
+      join v 16 8 10 24 refl,
+      sets-append (sets l 10 (take 8 v)) 18 (take 8 (drop 8 v)) (take 18 (drop 16 v)) 26 (rw (part 8 (omega arith))),
+      join v 8 8 18 16 refl,
+      sets-append l 10 (take 8 v) (take 26 (drop 8 v)) 18 (rw (part 0 (omega arith))),
+      join v 0 8 26 8 refl,
+      take-all 34 v (omega arith),
+    )
 
 -- the 48 bytes before an entry's key
 length-front : (fields verifier : List ℕ) → length verifier ≡ 34 → length (entryFront fields verifier) ≡ 48

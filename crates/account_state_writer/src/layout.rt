@@ -2,6 +2,8 @@
 use octets::rest;
 use octets::store_bytes;
 use octets::store_number;
+use octets::u16_at;
+use octets::u64_at;
 use protocol::ACCOUNT_STATE_MAGIC;
 ghost use mathlib.Core.Path.{_≡_};
 ghost use Prim.Native.Nat.{_+_, _*_, _≤_};
@@ -48,13 +50,25 @@ fn store_fields(front: &mut [u8], fields: &[u16])
     store_number(front, 8, 2, fields[3] as u64);
 }
 
+// The 34 bytes of an entry's verifier, as numbers, so that eight bytes are stored at a time.
+fn store_verifier(front: &mut [u8], verifier: &[u8])
+    requires { ⌜ length (now verifier) ≡ 34 ⌝ }
+    ensures { λ _. ⌜ now (front .exit) ≡ sets (now (front .entry)) 10 (now (verifier .entry)) ⌝ }
+{
+    store_number(front, 10, 8, u64_at(verifier, 0));
+    store_number(front, 18, 8, u64_at(verifier, 8));
+    store_number(front, 26, 8, u64_at(verifier, 16));
+    store_number(front, 34, 8, u64_at(verifier, 24));
+    store_number(front, 42, 2, u16_at(verifier, 32) as u64);
+}
+
 // The 48 bytes before an entry's key; `verifier` has its hash type, ABI and code hash.
 fn store_front(front: &mut [u8], fields: &[u16], verifier: &[u8])
     requires { ⌜ (5 ≤ length (now fields)) × (length (now verifier) ≡ 34) ⌝ }
     ensures { λ _. ⌜ now (front .exit) ≡ sets (now (front .entry)) 0 (entryFront (now (fields .entry)) (now (verifier .entry))) ⌝ }
 {
     store_fields(front, fields);
-    store_bytes(front, 10, verifier);
+    store_verifier(front, verifier);
     store_number(front, 44, 2, 32);
     store_number(front, 46, 2, fields[4] as u64);
 }

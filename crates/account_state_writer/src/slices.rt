@@ -40,7 +40,11 @@ pub(crate) fn check_slices(fields: &[u16], bytes: &[u8]) -> Check
         )
         .require(count <= 255, ProtocolError::InvalidState)
         .require(
-            fits(ACCOUNT_STATE_MAX_LEN, ACCOUNT_STATE_HEADER_LEN + 14 * count, bytes.len()),
+            fits(
+                ACCOUNT_STATE_MAX_LEN,
+                ACCOUNT_STATE_HEADER_LEN + 14 * count,
+                bytes.len(),
+            ),
             ProtocolError::InvalidState,
         )
 }

@@ -1,3 +1,4 @@
+-- `account_state_writer::layout::store_entry` meets its contract: its first part, and the key and aux behind. Assumes nothing.
 use Prim.Native.Nat.{_+_, _-_}
 use lib.ListN.{getD}
 use native.Mathlib.Omega.{arith}
@@ -5,76 +6,7 @@ use Rattle.account_state_writer.proofs.Lent.{entry-stored}
 use borrow.Author.Needs.{needs}
 use Rattle.account_state_writer.proofs.layout.store_entry.Statement.{statement}
 use Rattle.account_state_writer.proofs.layout.store_entry.Tie as tie
-use Rattle.account_state_writer.proofs.layout.store_entry.Reads as reads
-use Rattle.account_state_writer.proofs.layout.store_entry.Lts as lts
-use Rattle.account_state_writer.proofs.layout.store_front.Reads as store-front-reads
-use Rattle.octets.proofs.store_bytes.Reads as store-bytes-reads
 
--- src/layout.rt:67:15
-add-key : tie.Need-add-key
-add-key c = search needs
-
--- src/layout.rt:68:20
-shared-slice-read-end : tie.Need-shared-slice-read-end
-shared-slice-read-end c = search needs
-
--- src/layout.rt:68:20
-cast-end : tie.Need-cast-end
-cast-end c = search needs
-
--- src/layout.rt:68:15
-add-end : tie.Need-add-end
-add-end c = search needs
-
--- src/layout.rt:69:17
-sub-store-front : tie.Need-sub-store-front
-sub-store-front c = search needs
-
--- src/layout.rt:69:17
-part-store-front-start : tie.Need-part-store-front-start
-part-store-front-start c = search needs
-
--- src/layout.rt:69:17
-part-store-front-end : tie.Need-part-store-front-end
-part-store-front-end c = search needs
-
--- src/layout.rt:69:44
-sub-store-front-2 : tie.Need-sub-store-front-2
-sub-store-front-2 c = search needs
-
--- src/layout.rt:69:44
-part-store-front-start-2 : tie.Need-part-store-front-start-2
-part-store-front-start-2 c = search needs
-
--- src/layout.rt:69:44
-part-store-front-end-2 : tie.Need-part-store-front-end-2
-part-store-front-end-2 c = search needs
-
--- src/layout.rt:69:5
-store-front-requires : tie.Need-store-front-requires
-store-front-requires c κs = search needs
-
--- src/layout.rt:70:27
-sub-store-bytes : tie.Need-sub-store-bytes
-sub-store-bytes c = search needs
-
--- src/layout.rt:70:27
-part-store-bytes-start : tie.Need-part-store-bytes-start
-part-store-bytes-start c = search needs
-
--- src/layout.rt:70:27
-part-store-bytes-end : tie.Need-part-store-bytes-end
-part-store-bytes-end c = search needs
-
--- src/layout.rt:70:5
-store-bytes-requires : tie.Need-store-bytes-requires
-store-bytes-requires c κs = search needs
-
--- src/layout.rt:63:1
-same-length : tie.Need-same-length
-same-length c = search needs
-
--- src/layout.rt:63:1
 returns : tie.Need-returns
 returns c =
     let c7 = c .before .before .before .before .before .before .before in
@@ -86,20 +18,20 @@ pub store-entry-spec : {M : Type 1} → statement M
 store-entry-spec =
     tie.close
     (tie.spec
-    add-key
-    shared-slice-read-end
-    cast-end
-    add-end
-    sub-store-front
-    part-store-front-start
-    part-store-front-end
-    sub-store-front-2
-    part-store-front-start-2
-    part-store-front-end-2
-    store-front-requires
-    sub-store-bytes
-    part-store-bytes-start
-    part-store-bytes-end
-    store-bytes-requires
-    same-length
+    (λ c. search needs)
+    (λ c. search needs)
+    (λ c. search needs)
+    (λ c. search needs)
+    (λ c. search needs)
+    (λ c. search needs)
+    (λ c. search needs)
+    (λ c. search needs)
+    (λ c. search needs)
+    (λ c. search needs)
+    (λ c κs. search needs)
+    (λ c. search needs)
+    (λ c. search needs)
+    (λ c. search needs)
+    (λ c κs. search needs)
+    (λ c. search needs)
     returns)
