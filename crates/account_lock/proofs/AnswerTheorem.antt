@@ -29,18 +29,17 @@ use Rattle.cell_search.specs.declared.cells.Source.{Source}
 use Rattle.cell_search.specs.Search.{cellsOf, cellAt, noCell}
 use Rattle.cell_search.specs.Cells.{cellCount, cellPlaces}
 use Rattle.cell_search.proofs.CellLaws.{cell-there, cell-missing}
-use Rattle.account_state.specs.State.{stateRows}
 use Rattle.group_sighash.specs.Witnesses.{firstWitness, otherWitnesses, groupRows, otherRows}
 use Rattle.state_transition.specs.Resolve.{resolveRows, stateCell, statePlace, stateSource, currentState}
-use Rattle.state_transition.specs.Transition.{sequenceOf, currentRows, transitionRows}
+use Rattle.state_transition.specs.Transition.{sequenceOf}
 use Rattle.decision.specs.Proofs.{requestsOf}
 use Rattle.decision.specs.Walk.{answered}
 use Rattle.decision.specs.Decision.{proofsOf}
 use Rattle.decision.proofs.DecisionTheorem.{lock-answers}
 use Rattle.decision.proofs.RequestsRead.{RequestsRead, SettingFits, state-fits, lock-requests-read}
-use Rattle.account_lock.specs.Lock.{account, operation, witnessLock, witnessSequence, current, lateRows, stateRowsOf, digest, settingOf, Result, orWalked, walked, walkResult, lockScene, lockOf}
+use Rattle.account_lock.specs.Lock.{account, operation, witnessLock, current, lateRows, stateRowsOf, digest, settingOf, Result, orWalked, walked, walkResult, lockScene, lockOf}
 use Rattle.account_lock.specs.Decides.{EarlierPass}
-use Rattle.account_lock.proofs.LockTheorem.{late, transition, lock-valid}
+use Rattle.account_lock.proofs.LockTheorem.{late, state-passes, lock-valid}
 use Rattle.account_lock.proofs.DigestTheorem.{length-hash, digest-hash}
 
 -- ---- what a lent scene is made of
@@ -97,15 +96,9 @@ module _ (table store before : List ℕ) (b : Bytes store) (pass : EarlierPass t
   unfolding lockScene orWalked
   walk-given = lock-valid table store (length before) (pass .valid) ∙ rw (hold-passed _ (pass .early))
 
-  state-passes : Hold (stateRows (current (lentScene table store)))
-  unfolding transitionRows currentRows
-  state-passes =
-      let s = lentScene table store in
-      hold-split (stateRows (current s)) _ (hold-split (currentRows (witnessSequence s) (current s)) _ (transition s (pass .early)) .0) .0
-
   setting-fits : SettingFits (settingOf (lentScene table store) (length before))
   unfolding settingOf digest digestOf
-  setting-fits = state-fits (current (lentScene table store)) _ _ _ _ _ (current-bytes table store b) state-passes (length-hash _)
+  setting-fits = state-fits (current (lentScene table store)) _ _ _ _ _ (current-bytes table store b) (state-passes (lentScene table store) (pass .early)) (length-hash _)
 
   others-pass : Hold (otherRows (lentScene table store))
   unfolding lateRows

@@ -106,6 +106,15 @@ module _ (s : Scene) (h : Hold (groupRows s)) where
   unfolding operation witnessLock headerRows
   group-operation = hold-split (headerRows (lockIn (firstWitness s))) (countRows (lockIn (firstWitness s))) (lock-rows .1) .0 .1 .1 .1 .1 .0
 
+  -- and its witness lock has at most 131,072 bytes and at most 16 proofs
+  pub group-length : length (witnessLock s) ≤ 131072
+  unfolding witnessLock headerRows
+  group-length = leb-true _ _ (hold-split (headerRows (lockIn (firstWitness s))) (countRows (lockIn (firstWitness s))) (lock-rows .1) .0 .1 .0)
+
+  pub group-count : numberAt (witnessLock s) 6 1 ≤ 16
+  unfolding witnessLock countRows
+  group-count = leb-true _ _ (hold-split (headerRows (lockIn (firstWitness s))) (countRows (lockIn (firstWitness s))) (lock-rows .1) .1 .0)
+
 pub named-authorized : (id bytes : List ℕ) (s : Scene) → Named id bytes s → Authorized (numberAt bytes 5 1) id s
 unfolding operation account
 named-authorized id bytes s n =

@@ -61,9 +61,13 @@ module _ (s : Scene) (h : Hold (earlyRows s)) where
       let l = hold-split (resolveRows (operation s) (account s) s) _ (late .1) .1 in
       hold-split (dataRows (current s) (successor s)) _ (hold-split (stateRowsOf s) (otherRows s) l .0) .1
 
-  thresholds : Thresholds (current s)
+  -- the rows of the current state pass
+  pub state-passes : Hold (state.stateRows (current s))
   unfolding transitionRows currentRows
-  thresholds = state-thresholds (current s) (hold-split (state.stateRows (current s)) _ (hold-split (currentRows (witnessSequence s) (current s)) _ transition .0) .0)
+  state-passes = hold-split (state.stateRows (current s)) _ (hold-split (currentRows (witnessSequence s) (current s)) _ transition .0) .0
+
+  thresholds : Thresholds (current s)
+  thresholds = state-thresholds (current s) state-passes
 
   -- only a recovery asks for recovery, and it is on then
   recovery-on : eqb (operation s) 1 ≡ false → eqb (operation s) 3 ≡ true → eqb (numberAt (current s) 5 1 % 2) 1 ≡ true

@@ -3,3 +3,4 @@ pub mod Quorum
 pub mod Listed
 pub mod DecisionTheorem
 pub mod RequestsRead
+pub mod RoomEnough

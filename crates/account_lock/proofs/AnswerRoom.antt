@@ -1,0 +1,56 @@
+-- 01: "an answer buffer of 148,992 bytes (enough for any)": with that many bytes the lock never gives 5, whatever table and store it
+-- is lent, given that the early rows have numbers of error.rs.
+-- Assumes nothing.
+use mathlib.Core.Path.{_≡_, refl}
+use mathlib.Core.Logic.{_≢_}
+use mathlib.Core.Bool.{Bool, true, false, cond}
+use mathlib.Core.List.{List}
+use Prim.Native.Nat.{ℕ, _≤_}
+use native.Mathlib.Omega.{arith}
+use lib.ListN.{length}
+use Rattle.protocol.specs.Errors.{errorNumber}
+use Rattle.protocol.specs.Rows.{decide, Hold, checkNumber}
+use Rattle.protocol.specs.declared.error.ProtocolError.{ProtocolError}
+use Rattle.protocol.specs.declared.error.ProtocolError.the-variants.{SlicesDisagree}
+use Rattle.protocol.specs.declared.check.Check.{Check}
+use Rattle.protocol.specs.declared.check.Check.the-variants.{Passed, Failed}
+use Rattle.protocol.proofs.Hold.{passed-hold}
+use Rattle.authorization.specs.Digest.{digestOf}
+use Rattle.scene_table.specs.Scene.{Scene}
+use Rattle.scene_table.specs.Lent.{lentScene}
+use Rattle.scene_table.specs.Valid.{validTable}
+use Rattle.decision.specs.Proofs.{settingFor}
+use Rattle.decision.proofs.RoomEnough.{state-aux, lock-room}
+use Rattle.account_lock.specs.Lock.{witnessLock, current, digest, earlyRows, settingOf, refused, walked, orWalked, walkResult, lockScene, lockOf}
+use Rattle.account_lock.proofs.LockLaws.{group-length, group-count}
+use Rattle.account_lock.proofs.LockTheorem.{late, state-passes}
+use Rattle.account_lock.proofs.DigestTheorem.{length-hash}
+
+-- where the early rows pass, the walk has room for every request
+early-room : (s : Scene) (room : ℕ) → 148992 ≤ room → Hold (earlyRows s) → checkNumber (walkResult s room .found) ≢ 5
+unfolding walkResult walked settingOf settingFor digest digestOf
+early-room s room r h =
+    let group = late s h .0 in
+    lock-room (settingOf s room) (witnessLock s) (length-hash _) (state-aux (current s) (state-passes s h)) (group-length s group) (group-count s group) r
+
+-- every refusal of the early rows has a number of error.rs
+abbrev pub EarlyNumbers : Type 0
+EarlyNumbers = (s : Scene) (e : ProtocolError) → decide Passed (earlyRows s) ≡ Failed e → 20 ≤ errorNumber e
+
+-- a scene with 148,992 bytes for the answer is never refused with 5
+scene-never-five : EarlyNumbers → (s : Scene) (room : ℕ) → 148992 ≤ room → checkNumber (lockScene s room .found) ≢ 5
+unfolding lockScene orWalked refused
+scene-never-five early s room r = go (decide Passed (earlyRows s)) refl
+  where
+    go : (k : Check) → decide Passed (earlyRows s) ≡ k → checkNumber (orWalked k (walkResult s room) .found) ≢ 5
+    go Passed h = early-room s room r (passed-hold (earlyRows s) h)
+    go (Failed e) h = λ z. let n = early s e h in omega arith
+
+-- nor is any table and store: an invalid table is 7
+pub never-five-from : EarlyNumbers → (table store : List ℕ) (room : ℕ) → 148992 ≤ room → checkNumber (lockOf table store room .found) ≢ 5
+unfolding lockOf refused
+never-five-from early table store room r = go (validTable table (length store))
+  where
+    go : (b : Bool) → checkNumber (cond b (lockScene (lentScene table store) room) (refused (Failed SlicesDisagree)) .found) ≢ 5
+    go true = scene-never-five early (lentScene table store) room r
+    go false = λ z. omega arith

@@ -1,0 +1,240 @@
+-- 01: "an answer buffer of 148,992 bytes (enough for any)": with that many bytes the walk over the proofs of a witness lock, of at
+-- most 131,072 bytes and 16 proofs, never gives 5. A request has 96 bytes, the proof, which stands in the witness lock, and the aux
+-- of an entry of the current state; the proofs' slots rise, so no entry's aux comes twice.
+-- Assumes nothing.
+use mathlib.Core.Path.{_≡_, refl}
+use mathlib.Core.Logic.{_≢_, inl, inr}
+use mathlib.Core.Bool.{Bool, true, false, cond}
+use mathlib.Core.List.{List, [], _∷_, _++_}
+use Prim.Native.Nat.{ℕ, zero, suc, _+_, _*_, _-_, _≤_}
+use native.Mathlib.Omega.{arith}
+use lib.Dec.{eqb, leb, ltb}
+use lib.ListN.{length, drop, replicate, length-append, length-take, length-drop}
+use lib.Seq.{length-sets}
+use borrow.Author.Tests.{leb-true, leb-false, eqb-true, le-leb, lt-leb}
+use Rattle.octets.specs.Le.{numberAt}
+use Rattle.protocol.specs.Errors.{errorNumber}
+use Rattle.protocol.specs.Rows.{Row, decide, Hold, First, checkNumber}
+use Rattle.protocol.specs.declared.error.ProtocolError.{ProtocolError}
+use Rattle.protocol.specs.declared.error.ProtocolError.the-variants.{BufferTooShort, VerifierFailure, ThresholdUnsatisfied}
+use Rattle.protocol.specs.declared.check.Check.{Check}
+use Rattle.protocol.specs.declared.check.Check.the-variants.{Passed, Failed}
+use Rattle.protocol.proofs.Hold.{passed-hold, hold-split, failed-first}
+use Rattle.account_state.specs.Reading.{EntryReading, entryOf, entriesOf, lengthOf, keyLengthOf, auxLengthOf}
+use Rattle.account_state.specs.State as state
+use Rattle.account_witness.specs.Reading.{ProofReading, proofReading}
+use Rattle.account_witness.specs.Walk as witness
+use Rattle.account_witness.proofs.WalkLaws.{proof-holds}
+use Rattle.verifier_request.specs.Writer.{requestTotal}
+use Rattle.verifier_request.proofs.Form.{length-request}
+use Rattle.decision.specs.Proofs.{Setting, noEntry, entryFor, requestSize, limitRows, entryRows, proofRows, keyField, requestReading, requestOf, requestsOf}
+use Rattle.decision.specs.Walk.{Outcome, outcome, verdict, earned, weighed, ended, orElse, walk, proofsFrom, walkList, walkLock}
+use Rattle.decision.specs.Decision.{Rising, slots}
+use Rattle.decision.proofs.Listed.{listed-stops, listed-goes, listed-rising, Behind}
+
+-- ---- what the requests of a list of proofs need
+
+-- the bytes of the proofs
+abbrev pub proofsLength : List ProofReading → ℕ
+proofsLength [] = 0
+proofsLength (p ∷ ps) = length (p .bytes) + proofsLength ps
+
+-- the aux of the entries whose slots are at least `least`
+abbrev pub auxFrom : ℕ → List EntryReading → ℕ
+auxFrom least [] = 0
+auxFrom least (e ∷ es) = cond (leb least (e .slot)) (length (e .aux)) 0 + auxFrom least es
+
+-- an entry counts from a lower slot on where it counts from a higher one on
+counted-less : (k l slot aux : ℕ) → k ≤ l → cond (leb l slot) aux 0 ≤ cond (leb k slot) aux 0
+counted-less k l slot aux h = go (leb l slot) refl
+  where
+    go : (b : Bool) → leb l slot ≡ b → cond b aux 0 ≤ cond (leb k slot) aux 0
+    go true q = let z = leb-true l slot q in rw (le-leb k slot (omega arith)) (omega arith)
+    go false q = omega arith
+
+-- no more aux from a higher slot on
+aux-less : (k l : ℕ) (es : List EntryReading) → k ≤ l → auxFrom l es ≤ auxFrom k es
+aux-less k l [] h = omega arith
+aux-less k l (e ∷ es) h =
+    let a = counted-less k l (e .slot) (length (e .aux)) h in
+    let b = aux-less k l es h in
+    omega arith
+
+-- the entry of a slot, and those of higher slots, are among the entries from that slot on
+aux-named : (s : ℕ) (es : List EntryReading) → length (entryFor s es .aux) + auxFrom (s + 1) es ≤ auxFrom s es
+unfolding entryFor noEntry
+aux-named s [] = omega arith
+aux-named s (e ∷ es) = go (eqb (e .slot) s) refl (aux-named s es)
+  where
+    go : (b : Bool) → eqb (e .slot) s ≡ b → length (entryFor s es .aux) + auxFrom (s + 1) es ≤ auxFrom s es
+        → length (cond b e (entryFor s es) .aux) + auxFrom (s + 1) (e ∷ es) ≤ auxFrom s (e ∷ es)
+    go true q later =
+        let z = eqb-true (e .slot) s q in
+        let here : leb s (e .slot) ≡ true = le-leb s (e .slot) (omega arith) in
+        let above : leb (s + 1) (e .slot) ≡ false = lt-leb (s + 1) (e .slot) (omega arith) in
+        let m = aux-less s (s + 1) es (omega arith) in
+        rw (here, above) (omega arith)
+    go false q later =
+        let a = counted-less s (s + 1) (e .slot) (length (e .aux)) (omega arith) in
+        omega arith
+
+module _ (c : Setting) (d : length (c .digest) ≡ 32) where
+  -- a request is 96 bytes, then aux and proof
+  request-length : (p : ProofReading) → length (requestOf c p) ≡ requestSize (length (entryFor (p .slot) (c .entries) .aux)) (length (p .bytes))
+  unfolding requestOf requestReading requestTotal requestSize keyField
+  request-length p =
+      length-request (requestReading (c .operation) (c .digest) (entryFor (p .slot) (c .entries)) p)
+      (record { digest = d; key = length-sets (replicate 32 0) 0 (entryFor (p .slot) (c .entries) .key) })
+
+  -- the requests of proofs whose slots rise: 96 bytes each, their proofs, and the aux of distinct entries
+  pub requests-length : (ps : List ProofReading) (least : ℕ) → Rising least (slots ps)
+      → length (requestsOf c ps) ≤ 96 * length ps + auxFrom least (c .entries) + proofsLength ps
+  unfolding requestsOf requestSize
+  requests-length [] least r = omega arith
+  requests-length (p ∷ ps) least r =
+      let n = length-append (requestOf c p) (requestsOf c ps) in
+      let k = request-length p in
+      let rest = requests-length ps (p .slot + 1) (r .1) in
+      let a = aux-named (p .slot) (c .entries) in
+      let b = aux-less least (p .slot) (c .entries) (r .0) in
+      omega arith
+
+-- ---- a buffer with room for all requests is not too short
+
+-- no row that fails has the number n
+abbrev Without : ℕ → List Row → Type 0
+Without n [] = Unit {0}
+Without n (r ∷ rs) = (r .test ≡ false → errorNumber (r .error) ≢ n) × Without n rs
+
+-- nor has the first that fails,
+without-first : (n : ℕ) (rs : List Row) (e : ProtocolError) → Without n rs → First rs e → errorNumber e ≢ n
+without-first n [] e w f = absurd f
+without-first n (r ∷ rs) e w (inl f) = rw (f .1) at (w .0 (f .0))
+without-first n (r ∷ rs) e w (inr f) = without-first n rs e (w .1) (f .1)
+
+-- nor has what is found
+without-found : (n : ℕ) (rs : List Row) → 0 ≢ n → Without n rs → checkNumber (decide Passed rs) ≢ n
+without-found n rs z w = go (decide Passed rs) refl
+  where
+    go : (k : Check) → decide Passed rs ≡ k → checkNumber k ≢ n
+    go Passed h = z
+    go (Failed e) h = without-first n rs e w (failed-first rs e h)
+
+-- a request that has room is not refused with 5
+room-kept : (size left : ℕ) → size ≤ left → leb size left ≡ false → errorNumber BufferTooShort ≢ 5
+room-kept size left h q = absurd (let z = leb-false size left q in omega arith)
+
+-- so its proof's rows find another number, or nothing
+rows-room : (c : Setting) (used : ℕ) (p : ProofReading)
+    → requestSize (length (entryFor (p .slot) (c .entries) .aux)) (length (p .bytes)) ≤ c .room - used
+    → checkNumber (decide Passed (proofRows c used p)) ≢ 5
+unfolding proofRows entryRows limitRows
+rows-room c used p h =
+    let size = requestSize (length (entryFor (p .slot) (c .entries) .aux)) (length (p .bytes)) in
+    without-found 5 (proofRows c used p) (λ z. omega arith)
+    (λ _ z. omega arith, (λ _ z. omega arith, (λ _ z. omega arith, (λ _ z. omega arith, (λ _ z. omega arith, (λ _ z. omega arith, (room-kept size (c .room - used) h, tt)))))))
+
+-- nor does a turn, where neither its rows nor what comes after them do
+turn-room : (k : Check) (i : ℕ) (made : List ℕ) (onward : Outcome) → checkNumber k ≢ 5 → checkNumber (onward .found) ≢ 5
+    → checkNumber (orElse k i made onward .found) ≢ 5
+unfolding orElse
+turn-room Passed i made onward k o = o
+turn-room (Failed e) i made onward k o = k
+
+-- what follows the proofs is 22, 28 or nothing
+ended-room : (clean : Bool) (weight threshold : ℕ) → checkNumber (ended clean weight threshold) ≢ 5
+unfolding ended weighed
+ended-room false weight threshold = λ z. omega arith
+ended-room true weight threshold = go (ltb weight threshold)
+  where
+    go : (b : Bool) → checkNumber (cond b (Failed ThresholdUnsatisfied) Passed) ≢ 5
+    go true = λ z. omega arith
+    go false = λ z. omega arith
+
+-- a walk whose buffer has room for the requests of all proofs that are left never gives 5
+pub walk-room : (c : Setting) → length (c .digest) ≡ 32 → (clean : Bool) (i weight : ℕ) (made : List ℕ) (ps : List ProofReading)
+    → length made + length (requestsOf c ps) ≤ c .room → checkNumber (walk c clean i weight made ps .found) ≢ 5
+unfolding walk requestsOf
+walk-room c d clean i weight made [] h = ended-room clean weight (c .threshold)
+walk-room c d clean i weight made (p ∷ ps) h =
+    let n = length-append (requestOf c p) (requestsOf c ps) in
+    let m = length-append made (requestOf c p) in
+    let k = request-length c d p in
+    turn-room (decide Passed (proofRows c (length made) p)) i made _
+    (rows-room c (length made) p (omega arith))
+    (go (eqb (verdict c i) 2) _ (walk-room c d clean (i + 1) (weight + earned c i p) (made ++ requestOf c p) ps (omega arith)))
+  where
+    go : (b : Bool) (o : Outcome) → checkNumber (o .found) ≢ 5
+        → checkNumber (cond b (outcome (Failed VerifierFailure) (i + 1) (made ++ requestOf c p)) o .found) ≢ 5
+    go true o h = λ z. omega arith
+    go false o h = h
+
+-- ---- what the proofs of a witness lock and the entries of a state hold
+
+module _ (lock : List ℕ) where
+  -- no more proofs are listed than the lock counts
+  pub listed-few : (n at least : ℕ) → length (proofsFrom lock n at least .proofs) ≤ n
+  unfolding proofsFrom
+  listed-few zero at least = omega arith
+  listed-few (suc n) at least = go (decide Passed (witness.proofRows lock at least)) refl (listed-few n _ _)
+    where
+      go : (k : Check) → decide Passed (witness.proofRows lock at least) ≡ k → length (Behind lock n at least .proofs) ≤ n
+          → length (proofsFrom lock (suc n) at least .proofs) ≤ suc n
+      go Passed h rest = rw (listed-goes lock n at least h) (omega arith)
+      go (Failed e) h rest = rw (listed-stops lock n at least e h) (omega arith)
+
+  -- their bytes stand in the lock behind the place where they begin
+  pub listed-length : (n at least : ℕ) → proofsLength (proofsFrom lock n at least .proofs) ≤ length lock - at
+  unfolding proofsFrom proofReading witness.proofAt
+  listed-length zero at least = omega arith
+  listed-length (suc n) at least = go (decide Passed (witness.proofRows lock at least)) refl (listed-length n _ _)
+    where
+      go : (k : Check) → decide Passed (witness.proofRows lock at least) ≡ k
+          → proofsLength (Behind lock n at least .proofs) ≤ length lock - (at + 8 + numberAt lock (at + 4) 4)
+          → proofsLength (proofsFrom lock (suc n) at least .proofs) ≤ length lock - at
+      go Passed h rest =
+          let z = proof-holds lock at least (passed-hold (witness.proofRows lock at least) h) .inside in
+          let t = length-take (numberAt lock (at + 4) 4) (drop (at + 8) lock) in
+          rw (listed-goes lock n at least h) (omega arith)
+      go (Failed e) h rest = rw (listed-stops lock n at least e h) (omega arith)
+
+-- the aux of entries whose rows pass stands in their bytes
+entries-aux : (n : ℕ) (e : List ℕ) (least : ℕ) → Hold (state.entriesRows n e least) → auxFrom 0 (entriesOf n e) ≤ length e
+unfolding entriesOf entryOf state.entriesRows state.entryRows state.layoutRows
+entries-aux zero e least h = omega arith
+entries-aux (suc n) e least h =
+    let z = hold-split (state.entryRows e least) _ h in
+    let sum = eqb-true (lengthOf e) _ (z .0 .1 .0) in
+    let inside = leb-true (lengthOf e) (length e) (z .0 .1 .1 .0) in
+    let rest = entries-aux n (drop (lengthOf e) e) _ (z .1) in
+    let d = length-drop (lengthOf e) e in
+    let t = length-take (auxLengthOf e) (drop (48 + keyLengthOf e) e) in
+    rw (le-leb 0 (numberAt e 2 2) (omega arith)) (omega arith)
+
+-- the rows of a state: its header's, and those of its entries
+state-rows : (s : List ℕ) → Hold (state.stateRows s) → Hold (state.headRows s) × Hold (state.entriesRows (numberAt s 22 1) (drop 32 s) 0)
+unfolding state.stateRows
+state-rows s h =
+    let z = hold-split (state.headRows s) _ h in
+    (z .0, hold-split (state.entriesRows (numberAt s 22 1) (drop 32 s) 0) _ (z .1) .0)
+
+-- a state whose rows pass has at most 16,384 bytes, and so has the aux of its entries
+pub state-aux : (s : List ℕ) → Hold (state.stateRows s) → auxFrom 0 (entriesOf (numberAt s 22 1) (drop 32 s)) ≤ 16384
+unfolding state.headRows
+state-aux s h =
+    let z = state-rows s h in
+    let short = leb-true (length s) 16384 (z .0 .1 .0) in
+    let a = entries-aux (numberAt s 22 1) (drop 32 s) 0 (z .1) in
+    let d = length-drop 32 s in
+    omega arith
+
+-- 96 · 16 + 16,384 + 131,072 = 148,992
+pub lock-room : (c : Setting) (lock : List ℕ) → length (c .digest) ≡ 32 → auxFrom 0 (c .entries) ≤ 16384
+    → length lock ≤ 131072 → numberAt lock 6 1 ≤ 16 → 148992 ≤ c .room → checkNumber (walkLock c lock .found) ≢ 5
+unfolding walkLock walkList
+lock-room c lock d a l n r =
+    let ps = proofsFrom lock (numberAt lock 6 1) 16 0 .proofs in
+    let requests = requests-length c d ps 0 (listed-rising lock (numberAt lock 6 1) 16 0) in
+    let few = listed-few lock (numberAt lock 6 1) 16 0 in
+    let bytes = listed-length lock (numberAt lock 6 1) 16 0 in
+    walk-room c d (proofsFrom lock (numberAt lock 6 1) 16 0 .clean) 0 0 [] ps (omega arith)
