@@ -5,3 +5,4 @@ pub mod LockLaws
 pub mod LockTheorem
 pub mod DigestTheorem
 pub mod AnswerTheorem
+pub mod Numbers
