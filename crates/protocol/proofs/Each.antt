@@ -40,5 +40,6 @@ module _ (P : ProtocolError → Type 0) where
       go true k = k
       go false k = rw (decide-failed rs (r .error)) (h .0)
 
+  -- so has the refusal that they give
   pub each-failed : (rs : List Row) (e : ProtocolError) → Each P rs → decide Passed rs ≡ Failed e → P e
   each-failed rs e h f = subst (Refuses P) f (each-refuses rs h)
