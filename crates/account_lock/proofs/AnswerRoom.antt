@@ -1,5 +1,5 @@
 -- 01: "an answer buffer of 148,992 bytes (enough for any)": with that many bytes the lock never gives 5, whatever table and store it
--- is lent, given that the early rows have numbers of error.rs.
+-- is lent.
 -- Assumes nothing.
 use mathlib.Core.Path.{_≡_, refl}
 use mathlib.Core.Logic.{_≢_}
@@ -8,9 +8,7 @@ use mathlib.Core.List.{List}
 use Prim.Native.Nat.{ℕ, _≤_}
 use native.Mathlib.Omega.{arith}
 use lib.ListN.{length}
-use Rattle.protocol.specs.Errors.{errorNumber}
 use Rattle.protocol.specs.Rows.{decide, Hold, checkNumber}
-use Rattle.protocol.specs.declared.error.ProtocolError.{ProtocolError}
 use Rattle.protocol.specs.declared.error.ProtocolError.the-variants.{SlicesDisagree}
 use Rattle.protocol.specs.declared.check.Check.{Check}
 use Rattle.protocol.specs.declared.check.Check.the-variants.{Passed, Failed}
@@ -25,6 +23,7 @@ use Rattle.account_lock.specs.Lock.{witnessLock, current, digest, earlyR
 use Rattle.account_lock.proofs.LockLaws.{group-length, group-count}
 use Rattle.account_lock.proofs.LockTheorem.{late, state-passes}
 use Rattle.account_lock.proofs.DigestTheorem.{length-hash}
+use Rattle.account_lock.proofs.Numbers.{early-number}
 
 -- where the early rows pass, the walk has room for every request
 early-room : (s : Scene) (room : ℕ) → 148992 ≤ room → Hold (earlyRows s) → checkNumber (walkResult s room .found) ≢ 5
@@ -33,24 +32,20 @@ early-room s room r h =
     let group = late s h .0 in
     lock-room (settingOf s room) (witnessLock s) (length-hash _) (state-aux (current s) (state-passes s h)) (group-length s group) (group-count s group) r
 
--- every refusal of the early rows has a number of error.rs
-abbrev pub EarlyNumbers : Type 0
-EarlyNumbers = (s : Scene) (e : ProtocolError) → decide Passed (earlyRows s) ≡ Failed e → 20 ≤ errorNumber e
-
 -- a scene with 148,992 bytes for the answer is never refused with 5
-scene-never-five : EarlyNumbers → (s : Scene) (room : ℕ) → 148992 ≤ room → checkNumber (lockScene s room .found) ≢ 5
+scene-never-five : (s : Scene) (room : ℕ) → 148992 ≤ room → checkNumber (lockScene s room .found) ≢ 5
 unfolding lockScene orWalked refused
-scene-never-five early s room r = go (decide Passed (earlyRows s)) refl
+scene-never-five s room r = go (decide Passed (earlyRows s)) refl
   where
     go : (k : Check) → decide Passed (earlyRows s) ≡ k → checkNumber (orWalked k (walkResult s room) .found) ≢ 5
     go Passed h = early-room s room r (passed-hold (earlyRows s) h)
-    go (Failed e) h = λ z. let n = early s e h in omega arith
+    go (Failed e) h = λ z. let n = early-number s e h in omega arith
 
 -- nor is any table and store: an invalid table is 7
-pub never-five-from : EarlyNumbers → (table store : List ℕ) (room : ℕ) → 148992 ≤ room → checkNumber (lockOf table store room .found) ≢ 5
+pub lock-never-five : (table store : List ℕ) (room : ℕ) → 148992 ≤ room → checkNumber (lockOf table store room .found) ≢ 5
 unfolding lockOf refused
-never-five-from early table store room r = go (validTable table (length store))
+lock-never-five table store room r = go (validTable table (length store))
   where
     go : (b : Bool) → checkNumber (cond b (lockScene (lentScene table store) room) (refused (Failed SlicesDisagree)) .found) ≢ 5
-    go true = scene-never-five early (lentScene table store) room r
+    go true = scene-never-five (lentScene table store) room r
     go false = λ z. omega arith

@@ -5,4 +5,5 @@ pub mod LockLaws
 pub mod LockTheorem
 pub mod DigestTheorem
 pub mod AnswerTheorem
+pub mod Numbers
 pub mod AnswerRoom

@@ -1,3 +1,4 @@
 pub mod Outcomes
 pub mod StoreEnough
 pub mod EmptyInput
+pub mod Numbers

@@ -1,0 +1,229 @@
+-- The numbers that the lock gives, for every table, store and answer buffer: 0, its own 5 and 7, and the original's 20 to 39.
+-- So it never gives 6.
+-- Assumes nothing.
+use mathlib.Core.Path.{_≡_, refl}
+use mathlib.Core.Logic.{_≢_, _⊎_, inl, inr}
+use mathlib.Core.Bool.{Bool, true, false, cond}
+use mathlib.Core.List.{List, [], _∷_, _++_}
+use Prim.Native.Nat.{ℕ, zero, suc, _+_, _%_, _≤_}
+use native.Mathlib.Omega.{arith}
+use lib.Dec.{eqb, ltb}
+use lib.ListN.{length, drop}
+use Rattle.octets.specs.Le.{numberAt}
+use Rattle.protocol.specs.Args.{argsRows}
+use Rattle.protocol.specs.Errors.{errorNumber}
+use Rattle.protocol.specs.Rows.{decide, checkNumber}
+use Rattle.protocol.specs.declared.error.ProtocolError.{ProtocolError}
+use Rattle.protocol.specs.declared.error.ProtocolError.the-variants.{BufferTooShort, SlicesDisagree, InvalidWitness, ThresholdUnsatisfied, InvalidCapability, InvalidVerifierRef, VerifierFailure, InvalidRequest, LengthOverflow}
+use Rattle.protocol.specs.declared.check.Check.{Check}
+use Rattle.protocol.specs.declared.check.Check.the-variants.{Passed, Failed}
+use Rattle.protocol.proofs.Each.{Each, Refuses, each-append, each-cond, each-refuses, each-failed}
+use Rattle.molecule.specs.Table3.{tableRows}
+use Rattle.molecule.specs.Bytes as molecule
+use Rattle.account_state.specs.Reading.{lengthOf, slotOf}
+use Rattle.account_state.specs.State as state
+use Rattle.account_witness.specs.Header.{headerRows}
+use Rattle.account_witness.specs.Reading.{ProofReading}
+use Rattle.scene_table.specs.Scene.{Scene}
+use Rattle.scene_table.specs.Lent.{lentScene}
+use Rattle.scene_table.specs.Valid.{validTable}
+use Rattle.group_sighash.specs.Witnesses.{countRows, witnessRows, groupRows, otherRows}
+use Rattle.state_transition.specs.Resolve as resolve
+use Rattle.state_transition.specs.Transition as transition
+use Rattle.decision.specs.Proofs.{Setting, limitRows, entryRows, proofRows, requestOf}
+use Rattle.decision.specs.Walk.{Outcome, outcome, verdict, earned, weighed, ended, orElse, walk, walkList, walkLock}
+use Rattle.account_lock.specs.Lock as lock
+
+-- 01: "Error numbers are 20 to 39": a refusal of the original
+abbrev pub Original : ProtocolError → Type 0
+Original e = (20 ≤ errorNumber e) × (errorNumber e ≤ 39)
+
+-- ---- the rows before the proofs: each refusal is one of the original's
+
+-- a state's header
+head-original : (s : List ℕ) → Each Original (state.headRows s)
+unfolding state.headRows
+head-original s = search arith depth 20
+
+-- one of its entries
+entry-original : (e : List ℕ) (least : ℕ) → Each Original (state.entryRows e least)
+unfolding state.entryRows state.layoutRows state.fieldRows
+entry-original e least = search arith depth 20
+
+-- its entries
+entries-original : (n : ℕ) (e : List ℕ) (least : ℕ) → Each Original (state.entriesRows n e least)
+unfolding state.entriesRows
+entries-original zero e least = tt
+entries-original (suc n) e least =
+    each-append Original (state.entryRows e least) _ (entry-original e least) (entries-original n (drop (lengthOf e) e) (slotOf e + 1))
+
+-- its recovery
+recovery-original : (s : List ℕ) (weight : ℕ) → Each Original (state.recoveryRows s weight)
+unfolding state.recoveryRows
+recovery-original s weight = each-cond Original (eqb (numberAt s 5 1 % 2) 1) _ _ (search arith) (search arith)
+
+-- what follows its entries
+tail-original : (s : List ℕ) (n : ℕ) (e : List ℕ) → Each Original (state.tailRows s n e)
+unfolding state.tailRows state.endRows
+tail-original s n e = search (arith, recovery-original) depth 12
+
+-- the whole state
+state-original : (s : List ℕ) → Each Original (state.stateRows s)
+unfolding state.stateRows
+state-original s =
+    each-append Original (state.headRows s) _ (head-original s)
+    (each-append Original (state.entriesRows (numberAt s 22 1) (drop 32 s) 0) _ (entries-original _ _ 0) (tail-original s _ _))
+
+-- the script
+script-original : (script : List ℕ) → Each Original (lock.scriptRows script)
+unfolding lock.scriptRows molecule.argsRows tableRows molecule.bytesRows argsRows
+script-original script = search arith depth 20
+
+-- the first witness of the group
+group-original : (s : Scene) → Each Original (groupRows s)
+unfolding groupRows witnessRows molecule.lockRows tableRows molecule.bytesRows headerRows countRows
+group-original s = search arith depth 30
+
+-- the other hashed witnesses
+other-original : (s : Scene) → Each Original (otherRows s)
+unfolding otherRows
+other-original s = search arith
+
+-- the cells of the state
+resolve-original : (operation : ℕ) (id : List ℕ) (s : Scene) → Each Original (resolve.resolveRows operation id s)
+unfolding resolve.resolveRows resolve.spendRows resolve.changeRows resolve.typeRows
+resolve-original operation id s =
+    each-cond Original (eqb operation 1) (resolve.spendRows id s) (resolve.changeRows id s) (search arith depth 12) (search arith depth 12)
+
+-- the data of the current state and of its successor
+data-original : (current successor : List ℕ) → Each Original (transition.dataRows current successor)
+unfolding transition.dataRows
+data-original current successor = search arith
+
+-- the current state and the witness sequence
+current-original : (sequence : ℕ) (current : List ℕ) → Each Original (transition.currentRows sequence current)
+unfolding transition.currentRows
+current-original sequence current = each-append Original (state.stateRows current) _ (state-original current) (search arith)
+
+-- the successor and the recovery
+change-original : (operation since : ℕ) (current successor : List ℕ) → Each Original (transition.changeRows operation since current successor)
+unfolding transition.changeRows transition.successorRows transition.recoveryRows
+change-original operation since current successor =
+    each-append Original (transition.successorRows current successor) _
+    (each-append Original (state.stateRows successor) _ (state-original successor) (search arith))
+    (each-cond Original (eqb operation 3) (transition.recoveryRows since current) [] (search arith) tt)
+
+-- both states
+transition-original : (operation sequence since : ℕ) (current successor : List ℕ)
+    → Each Original (transition.transitionRows operation sequence since current successor)
+unfolding transition.transitionRows
+transition-original operation sequence since current successor =
+    each-append Original (transition.currentRows sequence current) _ (current-original sequence current)
+    (each-cond Original (eqb operation 1) [] (transition.changeRows operation since current successor) tt (change-original operation since current successor))
+
+-- every row before the proofs
+early-original : (s : Scene) → Each Original (lock.earlyRows s)
+unfolding lock.earlyRows lock.lateRows lock.stateRowsOf
+early-original s =
+    each-append Original (lock.scriptRows (s .script)) _ (script-original (s .script))
+    (each-append Original (groupRows s) _ (group-original s)
+    (each-append Original (resolve.resolveRows (lock.operation s) (lock.account s) s) _ (resolve-original _ _ s)
+    (each-append Original (lock.stateRowsOf s) _
+    (each-append Original (transition.dataRows (lock.current s) (lock.successor s)) _ (data-original _ _) (transition-original _ _ _ _ _))
+    (other-original s))))
+
+-- a refusal before the proofs is one of the original's
+pub early-number : (s : Scene) (e : ProtocolError) → decide Passed (lock.earlyRows s) ≡ Failed e → 20 ≤ errorNumber e
+early-number s e f = each-failed Original (lock.earlyRows s) e (early-original s) f .0
+
+-- ---- the proofs
+
+-- the numbers that the lock gives; 01, "Where each refusal is raised": its own are "answer buffer too short for this request", 5,
+-- and "a table that the reader, scene length aside, leaves for no accepted scene with a store this long", 7
+abbrev pub LockNumber : ℕ → Type 0
+LockNumber n = (n ≡ 0) ⊎ (n ≡ 5) ⊎ (n ≡ 7) ⊎ ((20 ≤ n) × (n ≤ 39))
+
+-- a refusal with such a number
+abbrev LockRefusal : ProtocolError → Type 0
+LockRefusal e = LockNumber (errorNumber e)
+
+-- the refusals of the original are such
+original-refusal : (e : ProtocolError) → Original e → LockRefusal e
+original-refusal e h = inr (inr (inr h))
+
+-- one proof's rows
+proof-refusal : (c : Setting) (used : ℕ) (p : ProofReading) → Each LockRefusal (proofRows c used p)
+unfolding proofRows entryRows limitRows
+proof-refusal c used p =
+    let witness = original-refusal InvalidWitness (search arith) in
+    let capability = original-refusal InvalidCapability (search arith) in
+    let verifier = original-refusal InvalidVerifierRef (search arith) in
+    let request = original-refusal InvalidRequest (search arith) in
+    let overflow = original-refusal LengthOverflow (search arith) in
+    let room : LockRefusal BufferTooShort = inr (inl refl) in
+    search depth 12
+
+-- behind the last proof
+ended-refusal : (clean : Bool) (weight threshold : ℕ) → Refuses LockRefusal (ended clean weight threshold)
+unfolding ended weighed
+ended-refusal false weight threshold = original-refusal InvalidWitness (search arith)
+ended-refusal true weight threshold = go (ltb weight threshold)
+  where
+    go : (b : Bool) → Refuses LockRefusal (cond b (Failed ThresholdUnsatisfied) Passed)
+    go true = original-refusal ThresholdUnsatisfied (search arith)
+    go false = tt
+
+-- one proof, and those behind it
+walk-refusal : (c : Setting) (clean : Bool) (i weight : ℕ) (made : List ℕ) (ps : List ProofReading)
+    → Refuses LockRefusal (walk c clean i weight made ps .found)
+unfolding walk orElse
+walk-refusal c clean i weight made [] = ended-refusal clean weight (c .threshold)
+walk-refusal c clean i weight made (p ∷ ps) =
+    go (decide Passed (proofRows c (length made) p)) (each-refuses LockRefusal _ (proof-refusal c (length made) p)) (eqb (verdict c i) 2)
+    (walk c clean (i + 1) (weight + earned c i p) (made ++ requestOf c p) ps) (walk-refusal c clean (i + 1) _ _ ps)
+  where
+    go : (k : Check) → Refuses LockRefusal k → (b : Bool) (onward : Outcome) → Refuses LockRefusal (onward .found)
+        → Refuses LockRefusal (orElse k i made (cond b (outcome (Failed VerifierFailure) (i + 1) (made ++ requestOf c p)) onward) .found)
+    go (Failed e) h b onward f = h
+    go Passed h true onward f = original-refusal VerifierFailure (search arith)
+    go Passed h false onward f = f
+
+-- ---- the lock
+
+-- over a scene
+scene-refusal : (s : Scene) (room : ℕ) → Refuses LockRefusal (lock.lockScene s room .found)
+unfolding lock.lockScene lock.orWalked lock.refused lock.walkResult lock.walked walkLock walkList
+scene-refusal s room = go (decide Passed (lock.earlyRows s)) (each-refuses Original _ (early-original s))
+  where
+    go : (k : Check) → Refuses Original k → Refuses LockRefusal (lock.orWalked k (lock.walkResult s room) .found)
+    go Passed h = walk-refusal _ _ 0 0 [] _
+    go (Failed e) h = original-refusal e h
+
+-- over any table and store
+lock-refusal : (table store : List ℕ) (room : ℕ) → Refuses LockRefusal (lock.lockOf table store room .found)
+unfolding lock.lockOf lock.refused
+lock-refusal table store room = go (validTable table (length store))
+  where
+    go : (b : Bool) → Refuses LockRefusal (cond b (lock.lockScene (lentScene table store) room) (lock.refused (Failed SlicesDisagree)) .found)
+    go true = scene-refusal (lentScene table store) room
+    go false = inr (inr (inl refl))
+
+-- the number of what the checks found
+check-number : (k : Check) → Refuses LockRefusal k → LockNumber (checkNumber k)
+check-number Passed h = inl refl
+check-number (Failed e) h = h
+
+-- every number that the lock gives is 0, 5, 7, or 20 to 39
+pub lock-numbers : (table store : List ℕ) (room : ℕ) → LockNumber (checkNumber (lock.lockOf table store room .found))
+lock-numbers table store room = check-number (lock.lockOf table store room .found) (lock-refusal table store room)
+
+-- 6 is not among them
+not-six : (n : ℕ) → LockNumber n → n ≢ 6
+not-six n (inl h) q = absurd (omega arith)
+not-six n (inr (inl h)) q = absurd (omega arith)
+not-six n (inr (inr (inl h))) q = absurd (omega arith)
+not-six n (inr (inr (inr h))) q = absurd (omega (arith, h .0))
+
+-- the lock never gives 6
+pub lock-never-six : (table store : List ℕ) (room : ℕ) → checkNumber (lock.lockOf table store room .found) ≢ 6
+lock-never-six table store room = not-six (checkNumber (lock.lockOf table store room .found)) (lock-numbers table store room)

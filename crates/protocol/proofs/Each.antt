@@ -1,0 +1,45 @@
+-- Where the refusal of every row has a property, so has the refusal that the rows find.
+-- Assumes nothing.
+use mathlib.Core.Path.{_≡_, subst}
+use mathlib.Core.Bool.{Bool, true, false, cond}
+use mathlib.Core.List.{List, [], _∷_, _++_}
+use Rattle.protocol.specs.Rows.{Row, _▷_, decide}
+use Rattle.protocol.specs.declared.error.ProtocolError.{ProtocolError}
+use Rattle.protocol.specs.declared.check.Check.{Check}
+use Rattle.protocol.specs.declared.check.Check.the-variants.{Passed, Failed}
+use Rattle.protocol.proofs.Hold.{decide-failed}
+
+-- the refusal of every row has the property P
+abbrev pub Each : (ProtocolError → Type 0) → List Row → Type 0
+Each P [] = Unit {0}
+Each P (r ∷ rs) = P (r .error) × Each P rs
+
+-- what the checks found has the property P, where it is a refusal
+abbrev pub Refuses : (ProtocolError → Type 0) → Check → Type 0
+Refuses P Passed = Unit {0}
+Refuses P (Failed e) = P e
+
+module _ (P : ProtocolError → Type 0) where
+  -- one list of rows after another
+  pub each-append : (ps qs : List Row) → Each P ps → Each P qs → Each P (ps ++ qs)
+  each-append [] qs h k = k
+  each-append (p ∷ ps) qs h k = (h .0, each-append ps qs (h .1) k)
+
+  -- one of two lists of rows
+  pub each-cond : (b : Bool) (ps qs : List Row) → Each P ps → Each P qs → Each P (cond b ps qs)
+  each-cond true ps qs h k = h
+  each-cond false ps qs h k = k
+
+  -- what the rows find has the property
+  pub each-refuses : (rs : List Row) → Each P rs → Refuses P (decide Passed rs)
+  unfolding decide _▷_
+  each-refuses [] h = tt
+  each-refuses (r ∷ rs) h = go (r .test) (each-refuses rs (h .1))
+    where
+      go : (b : Bool) → Refuses P (decide Passed rs) → Refuses P (decide (cond b Passed (Failed (r .error))) rs)
+      go true k = k
+      go false k = rw (decide-failed rs (r .error)) (h .0)
+
+  -- so has the refusal that they give
+  pub each-failed : (rs : List Row) (e : ProtocolError) → Each P rs → decide Passed rs ≡ Failed e → P e
+  each-failed rs e h f = subst (Refuses P) f (each-refuses rs h)
