@@ -1,5 +1,5 @@
 -- The program's buffers are long enough: with a store of 65,536 bytes and a table of 2,048 entries it never gives 6, and with an
--- answer buffer with which the lock never gives 5 it never gives 5.
+-- answer buffer of 148,992 bytes it never gives 5.
 -- Assumes nothing.
 use Prim.Native.Nat.{ℕ, _+_, _≤_}
 use mathlib.Core.Path.{_≡_, refl}

@@ -16,6 +16,15 @@ const SCENES: usize = 2_000;
 const SHORT: usize = 1_400;
 /// Numbers that need a long aux or a long proof, and how many scenes with them there are.
 const NEED_LONG: [(i8, usize); 2] = [(35, 12), (39, 2)];
+/// Document 01's marked rows that a program runs.
+const MARKED: [&str; 6] = [
+    "a slot twice",
+    "aux 4,096",
+    "aux 4,097",
+    "proof 65,536",
+    "proof 65,537",
+    "aux 5,000, proof 65,536",
+];
 
 /// The line that the program prints.
 pub fn answer_line(outcome: &Outcome) -> String {
@@ -37,6 +46,17 @@ pub struct Record {
     line: String,
 }
 
+impl Record {
+    fn new(scene: &Scene) -> Record {
+        let outcome = original::lock(scene);
+        Record {
+            text: text(scene),
+            number: outcome.number,
+            line: answer_line(&outcome),
+        }
+    }
+}
+
 struct Recorder {
     prng: Prng,
     /// How many scenes of each number are still wanted.
@@ -51,17 +71,12 @@ impl Recorder {
 
     /// Takes the scene where one with its number is wanted.
     fn offer(&mut self, scene: &Scene, longest: usize) {
-        let text = text(scene);
-        let outcome = original::lock(scene);
-        if text.len() > longest || !self.wants(outcome.number) {
+        let record = Record::new(scene);
+        if record.text.len() > longest || !self.wants(record.number) {
             return;
         }
-        *self.wanted.get_mut(&outcome.number).expect("wanted") -= 1;
-        self.records.push(Record {
-            text,
-            number: outcome.number,
-            line: answer_line(&outcome),
-        });
+        *self.wanted.get_mut(&record.number).expect("wanted") -= 1;
+        self.records.push(record);
     }
 
     /// A scene with just these faults.
@@ -144,13 +159,29 @@ pub fn records() -> Vec<Record> {
     recorder.records
 }
 
+fn marked() -> Vec<Record> {
+    let (rows, mut prng) = (rows(), Prng::new(6));
+    let row = |name: &&str| rows.iter().find(|row| row.name == **name).expect("a row");
+    let mut scene = |row: &Row| {
+        let plan = Plan::full(&mut prng, row.operations[0], 2);
+        build(&mut prng, plan, &row.faults)
+    };
+    MARKED
+        .iter()
+        .map(row)
+        .map(|row| Record::new(&scene(row)))
+        .collect()
+}
+
 pub fn record(file: &str) -> io::Result<()> {
     let mut out = Vec::new();
-    for record in records() {
+    let records: Vec<Record> = records().into_iter().chain(marked()).collect();
+    let scenes = records.len();
+    for record in records {
         out.extend(format!("{}\n", record.text.len()).bytes());
         out.extend(record.text);
         out.extend(record.line.bytes());
     }
-    println!("{SCENES} scenes, {} bytes", out.len());
+    println!("{scenes} scenes, {} bytes", out.len());
     std::fs::write(file, out)
 }
