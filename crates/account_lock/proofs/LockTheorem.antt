@@ -22,7 +22,7 @@ use Rattle.scene_table.specs.Lent.{lentScene}
 use Rattle.scene_table.specs.Valid.{validTable}
 use Rattle.group_sighash.specs.Witnesses.{groupRows, otherRows}
 use Rattle.state_transition.specs.Resolve.{resolveRows, stateSince}
-use Rattle.state_transition.specs.Transition.{dataRows, currentRows, successorRows, recoveryRows, changeRows, transitionRows}
+use Rattle.state_transition.specs.Transition.{dataRows, currentRows, successorRows, recoveryRows, successionRows, transitionRows}
 use Rattle.decision.specs.Proofs.{thresholdOf, settingFor}
 use Rattle.decision.specs.Walk.{walkLock, answered}
 use Rattle.decision.specs.Decision.{ProofsPass, Quorum, proofsOf}
@@ -71,9 +71,9 @@ module _ (s : Scene) (h : Hold (earlyRows s)) where
 
   -- only a recovery asks for recovery, and it is on then
   recovery-on : eqb (operation s) 1 ≡ false → eqb (operation s) 3 ≡ true → eqb (numberAt (current s) 5 1 % 2) 1 ≡ true
-  unfolding transitionRows changeRows recoveryRows
+  unfolding transitionRows successionRows recoveryRows
   recovery-on p q =
-      let c : Hold (changeRows (operation s) (stateSince (operation s) (account s) s) (current s) (successor s)) =
+      let c : Hold (successionRows (operation s) (stateSince (operation s) (account s) s) (current s) (successor s)) =
       rw p at (hold-split (currentRows (witnessSequence s) (current s)) _ transition .1) in
       let r = hold-split (successorRows (current s) (successor s)) _ c .1 in
       (rw q at r) .0

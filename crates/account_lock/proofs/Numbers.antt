@@ -106,8 +106,8 @@ unfolding transition.currentRows
 current-original sequence current = each-append Original (state.stateRows current) _ (state-original current) (search arith)
 
 -- the successor and the recovery
-change-original : (operation since : ℕ) (current successor : List ℕ) → Each Original (transition.changeRows operation since current successor)
-unfolding transition.changeRows transition.successorRows transition.recoveryRows
+change-original : (operation since : ℕ) (current successor : List ℕ) → Each Original (transition.successionRows operation since current successor)
+unfolding transition.successionRows transition.successorRows transition.recoveryRows
 change-original operation since current successor =
     each-append Original (transition.successorRows current successor) _
     (each-append Original (state.stateRows successor) _ (state-original successor) (search arith))
@@ -119,7 +119,7 @@ transition-original : (operation sequence since : ℕ) (current successor : List
 unfolding transition.transitionRows
 transition-original operation sequence since current successor =
     each-append Original (transition.currentRows sequence current) _ (current-original sequence current)
-    (each-cond Original (eqb operation 1) [] (transition.changeRows operation since current successor) tt (change-original operation since current successor))
+    (each-cond Original (eqb operation 1) [] (transition.successionRows operation since current successor) tt (change-original operation since current successor))
 
 -- every row before the proofs
 early-original : (s : Scene) → Each Original (lock.earlyRows s)

@@ -14,9 +14,13 @@ use Rattle.account_witness.specs.declared.witness.WitnessAnswer.the-vari
 use Rattle.account_witness.specs.Header.{headerRows, headerAt}
 use Rattle.account_witness.specs.Walk.{proofsRows}
 
--- 01: "Counts 17 to 255 pass `parse_witness_header`; `run` refuses them with 22 before it looks for the state." Then the proofs.
+-- 01: "Counts 17 to 255 pass `parse_witness_header`; `run` refuses them with 22 before it looks for the state."
+abbrev pub countRow : List ℕ → Row
+countRow s = row (leb (numberAt s 6 1) 16) InvalidWitness
+
+-- then the proofs
 unfoldable pub witnessRows : List ℕ → List Row
-witnessRows s = headerRows s ++ (row (leb (numberAt s 6 1) 16) InvalidWitness ∷ proofsRows s (numberAt s 6 1) 16 0)
+witnessRows s = headerRows s ++ (countRow s ∷ proofsRows s (numberAt s 6 1) 16 0)
 
 unfoldable pub witnessFault : List ℕ → Check
 witnessFault s = decide Passed (witnessRows s)

@@ -56,7 +56,7 @@ lock-answers c lock h =
     let e = listed-of lock (h .layout) in
     rw (← e) (answers c (listed lock .clean) (listed lock .proofs) (rw e (h .each)))
 
--- and where one does not: the requests of the proofs before the refusal
+-- and always: the requests of as many proofs as were counted, a failed verdict's too
 pub lock-answers-always : (c : Setting) (lock : List ℕ)
     → walkLock c lock .made ≡ requestsOf c (take (walkLock c lock .count) (listed lock .proofs))
 unfolding walkLock walkList

@@ -267,7 +267,7 @@ answers c clean ps pass =
     let z : 0 + length ps ≡ length ps = omega arith in
     (ap (λ (o : Outcome). o .count) e ∙ z, ap (λ (o : Outcome). o .made) e)
 
--- And where they do not, the requests of the proofs before the refusal.
+-- And always, the requests of as many proofs as were counted.
 pub answers-always : (c : Setting) (clean : Bool) (ps : List ProofReading)
     → walk c clean 0 0 [] ps .made ≡ requestsOf c (take (walk c clean 0 0 [] ps .count) ps)
 answers-always c clean ps =

@@ -51,7 +51,7 @@ abbrev pub weightOf : Setting → List ℕ → ℕ
 weightOf c [] = 0
 weightOf c (s ∷ ss) = entryFor s (c .entries) .weight + weightOf c ss
 
--- a set of such slots that together weigh the threshold, which is above zero
+-- a set of such slots that together weigh at least the threshold, which is above zero
 pub record Quorum (c : Setting) (ps : List ProofReading) : Type 0 where
   pub set : List ℕ
   pub isSet : Rising 0 set

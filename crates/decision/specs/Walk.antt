@@ -1,8 +1,8 @@
 -- 01, main.rs: "Proofs are walked one by one. A fault in the third comes after two requests were made."
 use Prim.Native.Nat.{ℕ, zero, suc, _+_}
-use mathlib.Core.Bool.{Bool, true, false, cond}
+use mathlib.Core.Bool.{Bool, false, cond}
 use mathlib.Core.List.{List, [], _∷_, _++_}
-use lib.ListN.{length, getD, drop}
+use lib.ListN.{length, drop}
 use lib.Dec.{eqb, ltb}
 use Rattle.octets.specs.Le.{numberAt}
 use Rattle.protocol.specs.Rows.{decide}
@@ -11,11 +11,12 @@ use Rattle.protocol.specs.declared.check.Check.{Check}
 use Rattle.protocol.specs.declared.check.Check.the-variants.{Passed, Failed}
 use Rattle.account_witness.specs.Reading.{ProofReading, proofReading}
 use Rattle.account_witness.specs.Walk as witness
+use Rattle.scene_table.specs.Places.{verdictAt}
 use Rattle.decision.specs.Proofs.{Setting, entryFor, proofRows, requestOf}
 
--- 01, The scene: "a proof without a digit counts as 2"
+-- the verdict of proof i
 unfoldable pub verdict : Setting → ℕ → ℕ
-verdict c i = getD (c .digits) i 2
+verdict c i = verdictAt (c .digits) i
 
 -- what the checks found, how many requests were made, and their bytes end to end
 pub record Outcome : Type 0 where

@@ -2,9 +2,9 @@
 use Prim.Native.Nat.{ℕ}
 use mathlib.Core.Bool.{Bool, cond}
 use mathlib.Core.List.{List, [], _∷_, _++_}
-use lib.ListN.{length, take, drop}
+use lib.ListN.{length, drop}
 use lib.Dec.{eqb, leb}
-use Rattle.octets.specs.Le.{numberAt}
+use Rattle.account_witness.specs.Witness.{countRow}
 use Rattle.protocol.specs.Rows.{Row, row}
 use Rattle.protocol.specs.declared.error.ProtocolError.the-variants.{InvalidWitness}
 use Rattle.molecule.specs.Bytes.{lockRows, readLock, bytesIn}
@@ -39,7 +39,7 @@ lockIn witness = bytesIn witness (readLock witness)
 
 -- 01, "Where each refusal is raised": "first group witness missing, above 132,096, table, empty lock, header, count: 22"
 unfoldable pub countRows : List ℕ → List Row
-countRows lock = row (leb (numberAt lock 6 1) 16) InvalidWitness ∷ []
+countRows lock = countRow lock ∷ []
 
 unfoldable pub witnessRows : List ℕ → List Row
 witnessRows witness =

@@ -2,7 +2,7 @@
 use Prim.Native.Nat.{ℕ}
 use mathlib.Core.Path.{_≡_, refl}
 use mathlib.Core.List.{List, [], _∷_, _++_}
-use lib.ListN.{replicate}
+use lib.ListN.{length, replicate}
 use Rattle.octets.specs.Le.{toLe, fromLe, numberAt}
 use Rattle.octets.specs.Lists.{joined}
 use Rattle.octets.specs.Table.{numbers}
@@ -19,9 +19,8 @@ use Rattle.account_state.specs.State.{headRows, layoutRows, fieldRows, entryRow
 use Rattle.account_witness.specs.Header.{headerRows, headerAt}
 use Rattle.account_witness.specs.Walk.{proofRows, proofsRows}
 use Rattle.account_witness.specs.Witness.{witnessRows, witnessFault, witnessAnswer, readWitness, witnessNumber}
-use Rattle.public_key_proof.specs.Reader.{proofRows as keyProofRows, proofFault, placesAt, proofAnswer, readProof}
-use Rattle.public_key_proof.specs.declared.reader.PublicKeyProofAnswer.the-variants.{Proof, Refused}
-use Rattle.protocol.specs.declared.error.ProtocolError.the-variants.{InvalidProof}
+use Rattle.public_key_proof.specs.Reader.{proofRows as keyProofRows, proofFault, placesAt, proofAnswer, readProof, proofNumber}
+use Rattle.public_key_proof.specs.declared.reader.PublicKeyProofAnswer.the-variants.{Proof}
 
 -- the smallest state, of 113 bytes: thresholds spend, 1, 0, and one entry of weight 1 and capabilities 3 whose aux is one byte
 unfoldable pub smallestState : ℕ → ℕ → ℕ → ℕ → List ℕ
@@ -56,6 +55,8 @@ pub record MarkedRows : Type 0 where
   pub state-of-31 : stateNumber (readState (replicate 31 0)) ≡ 21
   -- "smallest state with thresholds 1, 1, 0 and weight 1, capabilities 3, accepted"
   pub smallest : stateNumber (readState (smallestState 1 0 1 0)) ≡ 0
+  -- "The smallest state has 113 bytes."
+  pub smallest-length : length (smallestState 1 0 1 0) ≡ 113
   -- "spend threshold 2 there 38; version 2 32; recovery_since 1 there 21; flags 4 there 21"
   pub spend-2 : stateNumber (readState (smallestState 1 0 2 0)) ≡ 38
   pub version-2 : stateNumber (readState (smallestState 2 0 1 0)) ≡ 32
@@ -63,7 +64,7 @@ pub record MarkedRows : Type 0 where
   pub flags-4 : stateNumber (readState (smallestState 1 4 1 0)) ≡ 21
   -- "proof `01 01 00 01 00 aa bb` read, without `bb` 36"
   pub proof-read : readProof (0x01 ∷ 0x01 ∷ 0x00 ∷ 0x01 ∷ 0x00 ∷ 0xaa ∷ 0xbb ∷ []) ≡ Proof (record { «public_key» = 5; «public_key_len» = 1; signature = 6; «signature_len» = 1 })
-  pub proof-short : readProof (0x01 ∷ 0x01 ∷ 0x00 ∷ 0x01 ∷ 0x00 ∷ 0xaa ∷ []) ≡ Refused InvalidProof
+  pub proof-short : proofNumber (readProof (0x01 ∷ 0x01 ∷ 0x00 ∷ 0x01 ∷ 0x00 ∷ 0xaa ∷ [])) ≡ 36
   -- "16-byte witness lock with count 0 read, operation 4 22"
   pub witness-empty : witnessNumber (readWitness (emptyWitness 1)) ≡ 0
   pub witness-operation : witnessNumber (readWitness (emptyWitness 4)) ≡ 22
@@ -80,6 +81,7 @@ marked-rows =
       args-version = refl;
       state-of-31 = refl;
       smallest = refl;
+      smallest-length = refl;
       spend-2 = refl;
       version-2 = refl;
       since-1 = refl;

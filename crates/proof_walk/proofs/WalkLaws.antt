@@ -55,11 +55,11 @@ module _ (table store state : List ℕ) (operation : ℕ) (digest : List ℕ) wh
   request-alike a b p = refl
 
   verdict-alike : (a b i : ℕ) → verdict (S a) i ≡ verdict (S b) i
-  unfolding verdict walkSetting settingFor
+  unfolding verdict verdictAt walkSetting settingFor
   verdict-alike a b i = refl
 
   earned-alike : (a b i : ℕ) (p : ProofReading) → earned (S a) i p ≡ earned (S b) i p
-  unfolding earned verdict walkSetting settingFor
+  unfolding earned verdict verdictAt walkSetting settingFor
   earned-alike a b i p = refl
 
 -- ---- the head of the loop

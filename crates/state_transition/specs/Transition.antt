@@ -34,11 +34,11 @@ recoveryRows since current =
     row (eqb (numberAt current 5 1 % 2) 1) InvalidCapability ∷ row (leb (numberAt current 24 8) since) RecoveryLocked ∷ []
 
 -- only a recovery (3) has the rows on recovery
-unfoldable pub changeRows : ℕ → ℕ → List ℕ → List ℕ → List Row
-changeRows operation since current successor =
+unfoldable pub successionRows : ℕ → ℕ → List ℕ → List ℕ → List Row
+successionRows operation since current successor =
     successorRows current successor ++ cond (eqb operation 3) (recoveryRows since current) []
 
 -- a spend (1) has no successor
 unfoldable pub transitionRows : ℕ → ℕ → ℕ → List ℕ → List ℕ → List Row
 transitionRows operation sequence since current successor =
-    currentRows sequence current ++ cond (eqb operation 1) [] (changeRows operation since current successor)
+    currentRows sequence current ++ cond (eqb operation 1) [] (successionRows operation since current successor)

@@ -13,7 +13,7 @@ ghost use lib.Dec.{eqb};
 ghost use Prim.Native.Nat.{_+_};
 ghost use Rattle.protocol.specs.Rows.{decide};
 ghost use Rattle.account_state.specs.State.{stateRows};
-ghost use Rattle.state_transition.specs.Transition.{dataRows, currentRows, successorRows, recoveryRows, changeRows, transitionRows};
+ghost use Rattle.state_transition.specs.Transition.{dataRows, currentRows, successorRows, recoveryRows, successionRows, transitionRows};
 
 pub fn check_data(current: &[u8], successor: &[u8]) -> Check
     ensures { λ r. ⌜ r ≡ decide Check.Passed (dataRows (now (current .entry)) (now (successor .entry))) ⌝ }
@@ -77,7 +77,7 @@ fn check_recovery(since: u64, current: &[u8]) -> Check
 
 // The rows of an operation that changes the state.
 fn check_change(operation: u8, since: u64, current: &[u8], successor: &[u8]) -> Check
-    ensures { λ r. ⌜ r ≡ decide Check.Passed (changeRows operation since (now (current .entry)) (now (successor .entry))) ⌝ }
+    ensures { λ r. ⌜ r ≡ decide Check.Passed (successionRows operation since (now (current .entry)) (now (successor .entry))) ⌝ }
 {
     let check = check_successor(current, successor);
     if operation == OP_RECOVERY {
