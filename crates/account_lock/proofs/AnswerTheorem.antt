@@ -3,7 +3,7 @@
 -- Assumes nothing.
 use mathlib.Core.Path.{_≡_, refl, ap, _∙_}
 use mathlib.Core.Bool.{Bool, true, false}
-use mathlib.Core.List.{List, _++_}
+use mathlib.Core.List.{List}
 use Prim.Native.Nat.{ℕ}
 use native.Mathlib.Omega.{arith}
 use lib.Dec.{ltb}
@@ -12,25 +12,20 @@ use borrow.Author.Tests.{ltb-true, ltb-false}
 use Rattle.octets.specs.Le.{Bytes}
 use Rattle.octets.proofs.LeLaws.{bytes-drop, bytes-take}
 use Rattle.molecule.specs.Bytes as molecule
-use Rattle.molecule.specs.Canonical.{canonicalOf}
-use Rattle.authorization.specs.Digest.{ckbHash, digestOf, digestInput}
-use Rattle.authorization.specs.Sighash.{sighashInput}
+use Rattle.authorization.specs.Digest.{digestOf}
 use Rattle.scene_table.specs.Lent.{bytesAt, lentScene}
 use Rattle.scene_table.specs.Places as places
 use Rattle.cell_search.specs.declared.cells.Source.{Source}
 use Rattle.cell_search.specs.Search.{cellsOf, cellAt, noCell}
 use Rattle.cell_search.specs.Cells.{cellCount, cellPlaces}
 use Rattle.cell_search.proofs.CellLaws.{cell-there, cell-missing}
-use Rattle.group_sighash.specs.Witnesses.{firstWitness, otherWitnesses}
 use Rattle.state_transition.specs.Resolve.{stateCell, currentState}
-use Rattle.state_transition.specs.Transition.{sequenceOf}
-use Rattle.decision.specs.Proofs.{requestsOf}
 use Rattle.decision.specs.Walk.{answered}
-use Rattle.decision.specs.Decision.{proofsOf}
+use Rattle.decision.specs.Requests.{SettingFits}
 use Rattle.decision.proofs.DecisionTheorem.{lock-answers}
-use Rattle.decision.proofs.RequestsRead.{RequestsRead, SettingFits, state-fits, lock-requests-read}
-use Rattle.account_lock.specs.Lock.{account, operation, witnessLock, current, digest, settingOf, Result, walked, walkResult, lockOf}
-use Rattle.account_lock.specs.Decides.{EarlierPass}
+use Rattle.decision.proofs.RequestsRead.{state-fits, lock-requests-read}
+use Rattle.account_lock.specs.Lock.{witnessLock, current, digest, settingOf, Result, walked, walkResult, lockOf}
+use Rattle.account_lock.specs.Decides.{EarlierPass, Answers}
 use Rattle.account_lock.proofs.LockTheorem.{state-passes}
 use Rattle.account_lock.proofs.DigestTheorem.{length-hash, early-walked, lock-digest}
 
@@ -54,21 +49,6 @@ unfolding current currentState stateCell
 current-bytes table store b = content-bytes _ table store _ b
 
 -- ---- the answer
-
--- what stands in the answer where every earlier row passes
-pub record Answers (table store before : List ℕ) : Type 0 where
-  -- one request for each proof, in order, and the old bytes behind them
-  pub count : lockOf table store (length before) .count ≡ length (proofsOf (witnessLock (lentScene table store)))
-  pub buffer : answered before (lockOf table store (length before) .made)
-      ≡ requestsOf (settingOf (lentScene table store) (length before)) (proofsOf (witnessLock (lentScene table store)))
-      ++ drop (length (requestsOf (settingOf (lentScene table store) (length before)) (proofsOf (witnessLock (lentScene table store))))) before
-  -- the request reader reads each as what it was made from
-  pub read : RequestsRead (settingOf (lentScene table store) (length before)) (proofsOf (witnessLock (lentScene table store)))
-  -- the digest is reached, and is CKB's hash of document 01's input
-  pub reached : lockOf table store (length before) .reached ≡ true
-  pub digest : lockOf table store (length before) .digest
-      ≡ ckbHash (digestInput (operation (lentScene table store)) (account (lentScene table store)) (sequenceOf (current (lentScene table store))) (current (lentScene table store))
-      (ckbHash (sighashInput (lentScene table store .transaction) (canonicalOf (firstWitness (lentScene table store))) (otherWitnesses (lentScene table store)))))
 
 module _ (table store before : List ℕ) (b : Bytes store) (pass : EarlierPass table store (length before)) where
   walk-given : lockOf table store (length before) ≡ walkResult (lentScene table store) (length before)

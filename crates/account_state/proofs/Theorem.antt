@@ -2,12 +2,12 @@
 -- one.
 -- Assumes nothing.
 use mathlib.Core.Path.{_≡_, refl, sym, ap, _∙_}
-use mathlib.Core.List.{List, [], _∷_}
+use mathlib.Core.List.{List}
 use mathlib.Core.Logic.{_↔_}
 use Prim.Native.Nat.{ℕ, zero, suc, _+_}
 use native.Mathlib.Nat.{add-assoc}
 use native.Mathlib.Omega.{arith}
-use lib.ListN.{length, take, drop}
+use lib.ListN.{drop}
 use lib.Seq.{drop-drop}
 use Rattle.octets.specs.Le.{numberAt, Bytes}
 use Rattle.protocol.specs.Rows.{decide, Hold, First}
@@ -16,14 +16,10 @@ use Rattle.protocol.specs.declared.error.ProtocolError.{ProtocolError}
 use Rattle.protocol.specs.declared.check.Check.{Check}
 use Rattle.protocol.specs.declared.check.Check.the-variants.{Passed, Failed}
 use Rattle.protocol.proofs.Hold.{passed-hold, hold-passed, failed-first, first-failed, hold-split}
-use Rattle.account_state.specs.Reading.{EntryReading, StateReading, stateBytes, lengthOf, slotOf, keyLengthOf, entryOf, entriesOf, stateReading, StateTyped}
-use Rattle.account_state.specs.State.{stateRows, stateFault, headerOf, summaryOf, stateAnswer, readState, entryRows, entriesRows, entryAt, firstEntry, cursorBehind, stepAnswer, entryStep}
+use Rattle.account_state.specs.Reading.{stateBytes, lengthOf, slotOf, keyLengthOf, entryOf, entriesOf, stateReading, StateTyped}
+use Rattle.account_state.specs.State.{stateRows, stateFault, headerOf, summaryOf, stateAnswer, readState, entryRows, entriesRows, entryAt, firstEntry, cursorBehind, stepAnswer, entryStep, entryGiven, Steps}
 use Rattle.account_state.specs.declared.header.StateHeader.{StateHeader}
-use Rattle.account_state.specs.declared.entry.AuthenticatorEntry.{AuthenticatorEntry}
-use Rattle.account_state.specs.declared.entry.EntryCursor.{EntryCursor}
-use Rattle.account_state.specs.declared.entry.EntryStep.the-variants as step
 use Rattle.account_state.specs.declared.walk.StateSummary.{StateSummary}
-use Rattle.account_state.specs.declared.StateAnswer.{StateAnswer}
 use Rattle.account_state.specs.declared.StateAnswer.the-variants.{Valid, Refused}
 use Rattle.account_state.proofs.Inverse.{state-back, state-typed, parts}
 use Rattle.account_state.proofs.Unique.{state-read}
@@ -55,32 +51,12 @@ pub state-one : (s : List ℕ) → Bytes s → Hold (stateRows s) → OneReading
 state-one s b h =
     record { typed = state-typed s b h; written = state-back s b h; unique = λ r y e. sym (state-read r y) ∙ ap stateReading e }
 
--- the reading of an entry that a step hands out: its numbers, and the bytes at its places
-unfoldable pub entryGiven : List ℕ → AuthenticatorEntry → EntryReading
-entryGiven s e =
-    record {
-      slot = e .slot;
-      algorithm = e .«algorithm_id»;
-      capabilities = e .capabilities;
-      weight = e .weight;
-      hashType = e .«verifier_hash_type»;
-      abi = e .«verifier_abi»;
-      codeHash = take 32 (drop (e .«verifier_code_hash») s);
-      key = take (e .«key_len») (drop (e .«key_id») s);
-      aux = take (e .«aux_len») (drop (e .aux) s);
-    }
-
--- the steps from a cursor on hand out these entries, one by one
-pub Steps : List ℕ → ℕ → EntryCursor → List EntryReading → Type 0
-Steps s zero c es = es ≡ []
-Steps s (suc n) c [] = ⊥
-Steps s (suc n) c (r ∷ rs) =
-    (e : AuthenticatorEntry) × ((d : EntryCursor) × ((entryStep s c ≡ step.Entry e d) × ((entryGiven s e ≡ r) × Steps s n d rs)))
-
+-- the entry at a place reads as the one at the front of the bytes there
 given : (s : List ℕ) (at : ℕ) → entryGiven s (entryAt s at) ≡ entryOf (drop at s)
 unfolding entryOf entryGiven entryAt
 given s at = rw (drop-drop 12 at s, drop-drop 48 at s, drop-drop (48 + keyLengthOf (drop at s)) at s, add-assoc at 48 (keyLengthOf (drop at s)))
 
+-- where the rows of n entries pass, the steps hand them out
 steps-from : (s : List ℕ) (n at least : ℕ) → Hold (entriesRows n (drop at s) least)
     → Steps s n (record { offset = at; least = least }) (entriesOf n (drop at s))
 unfolding Steps entriesRows entriesOf entryStep stepAnswer cursorBehind
