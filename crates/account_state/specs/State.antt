@@ -1,7 +1,7 @@
 -- The checks of an account state, in document 01's order, and what its readers give.
 use mathlib.Core.Path.{_≡_}
 use Prim.Native.Nat.{ℕ, zero, suc, _+_, _%_}
-use mathlib.Core.Bool.{Bool, cond}
+use mathlib.Core.Bool.{cond}
 use mathlib.Core.List.{List, [], _∷_, _++_}
 use lib.ListN.{length, take, drop}
 use lib.Dec.{leb, eqb}
@@ -12,7 +12,7 @@ use Rattle.protocol.specs.Rows.{Row, row, decide}
 use Rattle.protocol.specs.declared.error.ProtocolError.the-variants.{InvalidState, InvalidVerifierRef, UnsupportedVersion, UnsupportedAlgorithm, UnsatisfiableThreshold}
 use Rattle.protocol.specs.declared.check.Check.{Check}
 use Rattle.protocol.specs.declared.check.Check.the-variants.{Passed, Failed}
-use Rattle.account_state.specs.Reading.{EntryReading, stateMagic, lengthOf, slotOf, keyLengthOf, auxLengthOf, entriesOf, weightOf}
+use Rattle.account_state.specs.Reading.{EntryReading, stateMagic, lengthOf, slotOf, keyLengthOf, auxLengthOf, entriesOf, stateReading, weightOf}
 use Rattle.account_state.specs.declared.header.StateHeader.{StateHeader}
 use Rattle.account_state.specs.declared.header.StateHeaderAnswer.{StateHeaderAnswer}
 use Rattle.account_state.specs.declared.header.StateHeaderAnswer.the-variants as header
@@ -121,6 +121,16 @@ headerAnswer (Failed e) h = header.Refused e
 
 unfoldable pub readHeader : List ℕ → StateHeaderAnswer
 readHeader s = headerAnswer (decide Passed (headRows s)) (headerOf s)
+
+-- the header that the reader gives has the reading's fields and the count of its entries
+pub record HeaderGives (s : List ℕ) (h : StateHeader) : Type 0 where
+  pub flags : h .flags ≡ stateReading s .flags
+  pub sequence : h .sequence ≡ stateReading s .sequence
+  pub spend : h .«spend_threshold» ≡ stateReading s .spend
+  pub rotate : h .«rotate_threshold» ≡ stateReading s .rotate
+  pub recovery : h .«recovery_threshold» ≡ stateReading s .recovery
+  pub since : h .«recovery_since» ≡ stateReading s .since
+  pub count : h .«authenticator_count» ≡ length (stateReading s .entries)
 
 -- what a step gives: the entry at a place of the state, its parts by their places, and the cursor behind it
 unfoldable pub entryAt : List ℕ → ℕ → AuthenticatorEntry
