@@ -1,13 +1,14 @@
 -- The digest is document 01's: CKB's hash of the domain, the operation, the account id, the sequence, the hash of the state and
--- the sighash, itself CKB's hash of the transaction hash and the hashed witnesses.
+-- the sighash, itself CKB's hash of the transaction hash and the hashed witnesses; so wherever the lock reaches it, with any table
+-- and store, also where a later row refuses.
 -- Assumes nothing.
 use mathlib.Core.Path.{_≡_, refl, sym, ap, _∙_}
 use mathlib.Core.Bool.{Bool, true, false, cond, _&&_, true≢false}
-use mathlib.Core.List.{List, [], _∷_, _++_, map}
-use Prim.Native.Nat.{ℕ, zero, suc, _+_, _*_, _-_, _^_, _≤_, _<_}
+use mathlib.Core.List.{List, [], _∷_, _++_}
+use Prim.Native.Nat.{ℕ, suc, _+_, _*_, _≤_}
 use native.Mathlib.Omega.{arith}
 use lib.Dec.{eqb, leb}
-use lib.ListN.{length, take, drop, length-append, length-drop, length-take}
+use lib.ListN.{length, drop, length-append, length-drop, length-take}
 use lib.Seq.{length-take-le}
 use borrow.Author.Tests.{leb-true}
 use Rattle.octets.specs.Le.{toLe, numberAt}
@@ -17,24 +18,32 @@ use Rattle.octets.proofs.Filled.{length-tabulate}
 use Rattle.blake2b.specs.Rfc7693.{bytesOf, halves, F, hashWords, hashOf}
 use Rattle.blake2b.specs.State.{ckbParameters}
 use Rattle.blake2b.proofs.Bytes.{length-bytes}
-use Rattle.protocol.specs.Rows.{Row, Hold}
-use Rattle.protocol.proofs.Hold.{hold-split}
-use Rattle.protocol.specs.declared.error.ProtocolError.the-variants.{InvalidWitness}
-use Rattle.molecule.specs.Table3.{tableRows}
+use Rattle.protocol.specs.Rows.{Hold, decide}
+use Rattle.protocol.proofs.Hold.{hold-split, passed-hold, hold-passed}
+use Rattle.protocol.specs.declared.error.ProtocolError.the-variants.{InvalidWitness, SlicesDisagree}
+use Rattle.protocol.specs.declared.check.Check.{Check}
+use Rattle.protocol.specs.declared.check.Check.the-variants.{Passed, Failed}
 use Rattle.molecule.specs.Canonical.{canonicalOf}
 use Rattle.molecule.proofs.Form.{passes}
 use Rattle.molecule.proofs.CanonicalForm.{length-canonical}
 use Rattle.authorization.specs.Digest.{ckbHash, digestOf, digestInput}
 use Rattle.authorization.specs.Hashed.{hashedWitness}
-use Rattle.authorization.specs.Sighash.{hashedWitnesses, sighashInput, sighashOf}
+use Rattle.authorization.specs.Sighash.{hashedWitnesses, sighashInput}
 use Rattle.authorization.proofs.SighashTheorem.{sighash-theorem}
 use Rattle.scene_table.specs.Scene.{Input, Scene}
-use Rattle.scene_table.specs.Valid.{every}
+use Rattle.scene_table.specs.Lent.{entryAt, sceneFrom, bytesAt, lentScene, blankScene}
+use Rattle.scene_table.specs.Valid.{every, validTable}
+use Rattle.scene_table.proofs.Truth.{and-both}
+use Rattle.scene_table.proofs.Rows.{length-rows}
+use Rattle.scene_table.proofs.SceneBack.{sayable}
+use Rattle.scene_table.proofs.PlaceLaws.{lent-given}
 use Rattle.group_sighash.specs.Witnesses.{groupWitnesses, groupOf, firstWitness, otherWitnesses, witnessRows, witnessFits, groupRows, otherRows}
 use Rattle.group_sighash.specs.GroupSighash.{groupSighash}
+use Rattle.state_transition.specs.Resolve.{resolveRows}
 use Rattle.state_transition.specs.Transition.{sequenceOf}
-use Rattle.account_lock.specs.Lock.{account, operation, current, digest}
+use Rattle.account_lock.specs.Lock.{account, operation, current, stateRowsOf, lateRows, earlyRows, digest, Result, refused, walked, orWalked, walkResult, lockScene, lockOf}
 use Rattle.account_lock.proofs.LockLaws.{group-table}
+use Rattle.account_lock.proofs.LockTheorem.{late, lock-valid}
 
 -- CKB's hash has 32 bytes
 pub length-hash : (xs : List ℕ) → length (ckbHash xs) ≡ 32
@@ -111,3 +120,65 @@ module _ (s : Scene) where
       → digest s ≡ ckbHash (digestInput (operation s) (account s) (sequenceOf (current s)) (current s) (ckbHash (sighashInput (s .transaction) (canonicalOf (firstWitness s)) (otherWitnesses s))))
   unfolding digest digestOf
   digest-hash t few g o = rw (sighash-hash t few g o)
+
+-- ---- the lock's digest
+
+-- a valid table has at most 64 witnesses
+few-witnesses : (table store : List ℕ) (n : ℕ) → validTable table n ≡ true → length (lentScene table store .witnesses) ≤ 64
+unfolding validTable blankScene sceneFrom
+few-witnesses table store n v =
+    let ok : length (blankScene table .witnesses) ≤ 64 =
+    sayable (blankScene table) (and-both _ _ (and-both (leb 2048 (length table)) _ v .1) .0) .fewWitnesses in
+    let m : length (blankScene table .witnesses) ≡ entryAt table 6 = length-rows _ 2 (entryAt table 6) _ in
+    let k : length (lentScene table store .witnesses) ≡ entryAt table 6 = lent-given table store .witnesses .long in
+    omega arith
+
+-- the transaction hash has at most 32 bytes
+short-transaction : (table store : List ℕ) → length (lentScene table store .transaction) ≤ 32
+unfolding lentScene sceneFrom bytesAt
+short-transaction table store = let n = length-take 32 (drop (entryAt table 10) store) in omega arith
+
+-- every row before the proofs' passes, so all other hashed witnesses fit
+others-pass : (s : Scene) → Hold (earlyRows s) → Hold (otherRows s)
+unfolding lateRows
+others-pass s h =
+    hold-split (stateRowsOf s) (otherRows s) (hold-split (resolveRows (operation s) (account s) s) _ (late s h .1) .1) .1
+
+-- only a walk reaches the digest
+from-walk : (k : Check) (w : Result) → orWalked k w .reached ≡ true → k ≡ Passed
+unfolding orWalked refused
+from-walk Passed w e = refl
+from-walk (Failed x) w e = absurd (true≢false (sym e))
+
+module _ (table store : List ℕ) (room : ℕ) where
+  -- where the table is valid and every row before the proofs' passes, the lock's result is the walk's
+  pub early-walked : validTable table (length store) ≡ true → Hold (earlyRows (lentScene table store))
+      → lockOf table store room ≡ walkResult (lentScene table store) room
+  unfolding lockScene orWalked
+  early-walked v h = lock-valid table store room v ∙ rw (hold-passed _ h)
+
+  -- and only there the digest is reached
+  pub reached-early : lockOf table store room .reached ≡ true
+      → (validTable table (length store) ≡ true) × Hold (earlyRows (lentScene table store))
+  unfolding lockOf lockScene refused
+  reached-early = go (validTable table (length store)) refl
+    where
+      go : (b : Bool) → validTable table (length store) ≡ b
+          → cond b (lockScene (lentScene table store) room) (refused (Failed SlicesDisagree)) .reached ≡ true
+          → (validTable table (length store) ≡ true) × Hold (earlyRows (lentScene table store))
+      go true v e =
+          let s = lentScene table store in
+          (v, passed-hold (earlyRows s) (from-walk (decide Passed (earlyRows s)) (walkResult s room) e))
+      go false v e = absurd (true≢false (sym e))
+
+  -- where the lock reached its digest, whatever it answers, the digest is CKB's hash of document 01's input
+  pub lock-digest : lockOf table store room .reached ≡ true
+      → lockOf table store room .digest
+      ≡ ckbHash (digestInput (operation (lentScene table store)) (account (lentScene table store)) (sequenceOf (current (lentScene table store))) (current (lentScene table store))
+      (ckbHash (sighashInput (lentScene table store .transaction) (canonicalOf (firstWitness (lentScene table store))) (otherWitnesses (lentScene table store)))))
+  unfolding walkResult walked
+  lock-digest e =
+      let s = lentScene table store in
+      let h = reached-early e in
+      ap (λ (r : Result). r .digest) (early-walked (h .0) (h .1))
+      ∙ digest-hash s (short-transaction table store) (few-witnesses table store (length store) (h .0)) (late s (h .1) .0) (others-pass s (h .1))

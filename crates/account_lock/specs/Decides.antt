@@ -1,15 +1,22 @@
--- Demand 3 for the lock: what an acceptance follows from.
+-- Demand 3 for the lock: what an acceptance follows from, and what its answer then holds.
 use Prim.Native.Nat.{ℕ}
 use mathlib.Core.Path.{_≡_}
 use mathlib.Core.Bool.{true}
-use mathlib.Core.List.{List}
-use lib.ListN.{length}
+use mathlib.Core.List.{List, _++_}
+use lib.ListN.{length, drop}
 use Rattle.protocol.specs.Rows.{Hold}
-use Rattle.scene_table.specs.Scene.{Scene}
+use Rattle.molecule.specs.Canonical.{canonicalOf}
+use Rattle.authorization.specs.Digest.{ckbHash, digestInput}
+use Rattle.authorization.specs.Sighash.{sighashInput}
 use Rattle.scene_table.specs.Lent.{lentScene}
 use Rattle.scene_table.specs.Valid.{validTable}
+use Rattle.group_sighash.specs.Witnesses.{firstWitness, otherWitnesses}
+use Rattle.state_transition.specs.Transition.{sequenceOf}
+use Rattle.decision.specs.Proofs.{requestsOf}
+use Rattle.decision.specs.Walk.{answered}
+use Rattle.decision.specs.Requests.{RequestsRead}
 use Rattle.decision.specs.Decision.{ProofsPass, Quorum, proofsOf}
-use Rattle.account_lock.specs.Lock.{earlyRows, settingOf, witnessLock}
+use Rattle.account_lock.specs.Lock.{account, operation, witnessLock, current, earlyRows, settingOf, lockOf}
 
 -- 01: "Earlier checks are its rows before the one for 28."
 pub record EarlierPass (table store : List ℕ) (room : ℕ) : Type 0 where
@@ -21,3 +28,19 @@ pub record EarlierPass (table store : List ℕ) (room : ℕ) : Type 0 where
 abbrev pub LockQuorum : List ℕ → List ℕ → ℕ → Type 0
 LockQuorum table store room =
     Quorum (settingOf (lentScene table store) room) (proofsOf (witnessLock (lentScene table store)))
+
+-- what stands in the answer where every earlier row passes; 01: "Each request is written into the rest of the answer buffer, behind
+-- the last one. Bytes after that total are unchanged."
+pub record Answers (table store before : List ℕ) : Type 0 where
+  -- one request for each proof, in order, and the old bytes behind them
+  pub count : lockOf table store (length before) .count ≡ length (proofsOf (witnessLock (lentScene table store)))
+  pub buffer : answered before (lockOf table store (length before) .made)
+      ≡ requestsOf (settingOf (lentScene table store) (length before)) (proofsOf (witnessLock (lentScene table store)))
+      ++ drop (length (requestsOf (settingOf (lentScene table store) (length before)) (proofsOf (witnessLock (lentScene table store))))) before
+  -- the request reader reads each as what it was made from
+  pub read : RequestsRead (settingOf (lentScene table store) (length before)) (proofsOf (witnessLock (lentScene table store)))
+  -- the digest is reached, and is CKB's hash of document 01's input
+  pub reached : lockOf table store (length before) .reached ≡ true
+  pub digest : lockOf table store (length before) .digest
+      ≡ ckbHash (digestInput (operation (lentScene table store)) (account (lentScene table store)) (sequenceOf (current (lentScene table store))) (current (lentScene table store))
+      (ckbHash (sighashInput (lentScene table store .transaction) (canonicalOf (firstWitness (lentScene table store))) (otherWitnesses (lentScene table store)))))

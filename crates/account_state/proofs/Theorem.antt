@@ -1,31 +1,30 @@
--- A state is accepted exactly where every check passes; then it has exactly one reading, and the reader and its steps give that
--- one.
+-- A state is accepted exactly where every check passes; then it has exactly one reading, the reader and its steps give that one,
+-- and the slots of its entries rise strictly.
 -- Assumes nothing.
 use mathlib.Core.Path.{_≡_, refl, sym, ap, _∙_}
-use mathlib.Core.List.{List, [], _∷_}
+use mathlib.Core.List.{List}
 use mathlib.Core.Logic.{_↔_}
 use Prim.Native.Nat.{ℕ, zero, suc, _+_}
 use native.Mathlib.Nat.{add-assoc}
 use native.Mathlib.Omega.{arith}
-use lib.ListN.{length, take, drop}
+use lib.ListN.{drop}
 use lib.Seq.{drop-drop}
+use borrow.Author.Tests.{leb-true}
 use Rattle.octets.specs.Le.{numberAt, Bytes}
+use Rattle.octets.specs.Lists.{Rising}
 use Rattle.protocol.specs.Rows.{decide, Hold, First}
 use Rattle.protocol.specs.Reading.{OneReading}
 use Rattle.protocol.specs.declared.error.ProtocolError.{ProtocolError}
 use Rattle.protocol.specs.declared.check.Check.{Check}
 use Rattle.protocol.specs.declared.check.Check.the-variants.{Passed, Failed}
 use Rattle.protocol.proofs.Hold.{passed-hold, hold-passed, failed-first, first-failed, hold-split}
-use Rattle.account_state.specs.Reading.{EntryReading, StateReading, stateBytes, lengthOf, slotOf, keyLengthOf, entryOf, entriesOf, stateReading, StateTyped}
-use Rattle.account_state.specs.State.{stateRows, stateFault, headerOf, summaryOf, stateAnswer, readState, entryRows, entriesRows, entryAt, firstEntry, cursorBehind, stepAnswer, entryStep}
+use Rattle.account_state.specs.Reading.{stateBytes, lengthOf, slotOf, keyLengthOf, entryOf, entriesOf, stateReading, slotsOf, StateTyped}
+use Rattle.account_state.specs.State.{stateRows, stateFault, headerOf, summaryOf, stateAnswer, readState, entryRows, entriesRows, entryAt, firstEntry, cursorBehind, stepAnswer, entryStep, entryGiven, Steps, headRows, tailRows, layoutRows, headerAnswer, readHeader, HeaderGives}
 use Rattle.account_state.specs.declared.header.StateHeader.{StateHeader}
-use Rattle.account_state.specs.declared.entry.AuthenticatorEntry.{AuthenticatorEntry}
-use Rattle.account_state.specs.declared.entry.EntryCursor.{EntryCursor}
-use Rattle.account_state.specs.declared.entry.EntryStep.the-variants as step
+use Rattle.account_state.specs.declared.header.StateHeaderAnswer.the-variants.{Header}
 use Rattle.account_state.specs.declared.walk.StateSummary.{StateSummary}
-use Rattle.account_state.specs.declared.StateAnswer.{StateAnswer}
 use Rattle.account_state.specs.declared.StateAnswer.the-variants.{Valid, Refused}
-use Rattle.account_state.proofs.Inverse.{state-back, state-typed, parts}
+use Rattle.account_state.proofs.Inverse.{state-back, state-typed, length-entries, parts}
 use Rattle.account_state.proofs.Unique.{state-read}
 
 valid-passed : (k : Check) (h g : StateHeader) (t u : StateSummary) → stateAnswer k h t ≡ Valid g u → k ≡ Passed
@@ -55,32 +54,67 @@ pub state-one : (s : List ℕ) → Bytes s → Hold (stateRows s) → OneReading
 state-one s b h =
     record { typed = state-typed s b h; written = state-back s b h; unique = λ r y e. sym (state-read r y) ∙ ap stateReading e }
 
--- the reading of an entry that a step hands out: its numbers, and the bytes at its places
-unfoldable pub entryGiven : List ℕ → AuthenticatorEntry → EntryReading
-entryGiven s e =
+-- the fields at the front of the bytes are the reading's
+header-of : (s : List ℕ) → HeaderGives s (headerOf s)
+unfolding headerOf stateReading
+header-of s =
     record {
-      slot = e .slot;
-      algorithm = e .«algorithm_id»;
-      capabilities = e .capabilities;
-      weight = e .weight;
-      hashType = e .«verifier_hash_type»;
-      abi = e .«verifier_abi»;
-      codeHash = take 32 (drop (e .«verifier_code_hash») s);
-      key = take (e .«key_len») (drop (e .«key_id») s);
-      aux = take (e .«aux_len») (drop (e .aux) s);
+      flags = refl;
+      sequence = refl;
+      spend = refl;
+      rotate = refl;
+      recovery = refl;
+      since = refl;
+      count = sym (length-entries (numberAt s 22 1) (drop 32 s));
     }
 
--- the steps from a cursor on hand out these entries, one by one
-pub Steps : List ℕ → ℕ → EntryCursor → List EntryReading → Type 0
-Steps s zero c es = es ≡ []
-Steps s (suc n) c [] = ⊥
-Steps s (suc n) c (r ∷ rs) =
-    (e : AuthenticatorEntry) × ((d : EntryCursor) × ((entryStep s c ≡ step.Entry e d) × ((entryGiven s e ≡ r) × Steps s n d rs)))
+-- an answer that gives a header gives the one it was made from
+header-same : (k : Check) (g h : StateHeader) → headerAnswer k g ≡ Header h → g ≡ h
+unfolding headerAnswer
+header-same Passed g h e = cc
+header-same (Failed x) g h e = absurd (let z : _≡_ {A = ℕ} 0 1 = cc in omega arith)
 
+-- and so does an answer that gives a valid state
+valid-same : (k : Check) (g h : StateHeader) (t u : StateSummary) → stateAnswer k g t ≡ Valid h u → (g ≡ h) × (t ≡ u)
+unfolding stateAnswer
+valid-same Passed g h t u e = (cc, cc)
+valid-same (Failed x) g h t u e = absurd (let z : _≡_ {A = ℕ} 0 1 = cc in omega arith)
+
+-- the header that the header's reader hands out has the reading's fields
+pub header-gives : (s : List ℕ) (h : StateHeader) → readHeader s ≡ Header h → HeaderGives s h
+unfolding readHeader
+header-gives s h e = rw (sym (header-same _ (headerOf s) h e)) (header-of s)
+
+-- so has the one of a valid state, with the weights of its entries
+pub valid-gives : (s : List ℕ) (h : StateHeader) (t : StateSummary) → readState s ≡ Valid h t
+    → HeaderGives s h × (summaryOf (stateReading s .entries) ≡ t)
+unfolding readState stateReading
+valid-gives s h t e =
+    let z = valid-same _ (headerOf s) h _ t e in
+    (rw (sym (z .0)) (header-of s), z .1)
+
+-- the slots of entries whose rows pass rise strictly
+entries-rising : (n : ℕ) (e : List ℕ) (least : ℕ) → Hold (entriesRows n e least) → Rising least (slotsOf (entriesOf n e))
+unfolding entriesOf entriesRows entryOf entryRows layoutRows
+entries-rising zero e least h = tt
+entries-rising (suc n) e least h =
+    let p = hold-split (entryRows e least) (entriesRows n (drop (lengthOf e) e) (slotOf e + 1)) h in
+    (leb-true _ _ (p .0 .1 .1 .1 .0), entries-rising n (drop (lengthOf e) e) (slotOf e + 1) (p .1))
+
+-- the slots of an accepted state rise strictly; 01, host/src/lib.rs: "The account in a state has one entry per slot."
+pub state-slots : (s : List ℕ) → Hold (stateRows s) → Rising 0 (slotsOf (stateReading s .entries))
+unfolding stateRows stateReading
+state-slots s h =
+    let n = numberAt s 22 1 in
+    entries-rising n (drop 32 s) 0
+    (hold-split (entriesRows n (drop 32 s) 0) (tailRows s n (drop 32 s)) (hold-split (headRows s) _ h .1) .0)
+
+-- the entry at a place reads as the one at the front of the bytes there
 given : (s : List ℕ) (at : ℕ) → entryGiven s (entryAt s at) ≡ entryOf (drop at s)
 unfolding entryOf entryGiven entryAt
 given s at = rw (drop-drop 12 at s, drop-drop 48 at s, drop-drop (48 + keyLengthOf (drop at s)) at s, add-assoc at 48 (keyLengthOf (drop at s)))
 
+-- where the rows of n entries pass, the steps hand them out
 steps-from : (s : List ℕ) (n at least : ℕ) → Hold (entriesRows n (drop at s) least)
     → Steps s n (record { offset = at; least = least }) (entriesOf n (drop at s))
 unfolding Steps entriesRows entriesOf entryStep stepAnswer cursorBehind

@@ -125,6 +125,11 @@ stateReading s =
       entries = entriesOf (numberAt s 22 1) (drop 32 s);
     }
 
+-- the slots of the entries
+abbrev pub slotsOf : List EntryReading → List ℕ
+slotsOf [] = []
+slotsOf (e ∷ es) = e .slot ∷ slotsOf es
+
 -- the weight of the entries that have a capability
 unfoldable pub shareOf : ℕ → ℕ → ℕ → ℕ
 shareOf bit capabilities weight = cond (hasCapability capabilities bit) weight 0

@@ -1,8 +1,9 @@
 -- The checks of an account state, in document 01's order, and what its readers give.
+use mathlib.Core.Path.{_≡_}
 use Prim.Native.Nat.{ℕ, zero, suc, _+_, _%_}
-use mathlib.Core.Bool.{Bool, cond}
+use mathlib.Core.Bool.{cond}
 use mathlib.Core.List.{List, [], _∷_, _++_}
-use lib.ListN.{length, drop}
+use lib.ListN.{length, take, drop}
 use lib.Dec.{leb, eqb}
 use Rattle.octets.specs.Le.{numberAt}
 use Rattle.protocol.specs.Errors.{errorNumber}
@@ -11,7 +12,7 @@ use Rattle.protocol.specs.Rows.{Row, row, decide}
 use Rattle.protocol.specs.declared.error.ProtocolError.the-variants.{InvalidState, InvalidVerifierRef, UnsupportedVersion, UnsupportedAlgorithm, UnsatisfiableThreshold}
 use Rattle.protocol.specs.declared.check.Check.{Check}
 use Rattle.protocol.specs.declared.check.Check.the-variants.{Passed, Failed}
-use Rattle.account_state.specs.Reading.{EntryReading, stateMagic, lengthOf, slotOf, keyLengthOf, auxLengthOf, entriesOf, weightOf}
+use Rattle.account_state.specs.Reading.{EntryReading, stateMagic, lengthOf, slotOf, keyLengthOf, auxLengthOf, entriesOf, stateReading, weightOf}
 use Rattle.account_state.specs.declared.header.StateHeader.{StateHeader}
 use Rattle.account_state.specs.declared.header.StateHeaderAnswer.{StateHeaderAnswer}
 use Rattle.account_state.specs.declared.header.StateHeaderAnswer.the-variants as header
@@ -121,6 +122,16 @@ headerAnswer (Failed e) h = header.Refused e
 unfoldable pub readHeader : List ℕ → StateHeaderAnswer
 readHeader s = headerAnswer (decide Passed (headRows s)) (headerOf s)
 
+-- the header that the reader gives has the reading's fields and the count of its entries
+pub record HeaderGives (s : List ℕ) (h : StateHeader) : Type 0 where
+  pub flags : h .flags ≡ stateReading s .flags
+  pub sequence : h .sequence ≡ stateReading s .sequence
+  pub spend : h .«spend_threshold» ≡ stateReading s .spend
+  pub rotate : h .«rotate_threshold» ≡ stateReading s .rotate
+  pub recovery : h .«recovery_threshold» ≡ stateReading s .recovery
+  pub since : h .«recovery_since» ≡ stateReading s .since
+  pub count : h .«authenticator_count» ≡ length (stateReading s .entries)
+
 -- what a step gives: the entry at a place of the state, its parts by their places, and the cursor behind it
 unfoldable pub entryAt : List ℕ → ℕ → AuthenticatorEntry
 entryAt s at =
@@ -152,6 +163,30 @@ stepAnswer (Failed x) e c = step.Refused x
 unfoldable pub entryStep : List ℕ → EntryCursor → EntryStep
 entryStep s c =
     stepAnswer (decide Passed (entryRows (drop (c .offset) s) (c .least))) (entryAt s (c .offset)) (cursorBehind s (c .offset))
+
+-- the reading of an entry that a step hands out: its numbers, and the bytes at its places; 01: "a place in the input counting as the
+-- bytes there"
+unfoldable pub entryGiven : List ℕ → AuthenticatorEntry → EntryReading
+entryGiven s e =
+    record {
+      slot = e .slot;
+      algorithm = e .«algorithm_id»;
+      capabilities = e .capabilities;
+      weight = e .weight;
+      hashType = e .«verifier_hash_type»;
+      abi = e .«verifier_abi»;
+      codeHash = take 32 (drop (e .«verifier_code_hash») s);
+      key = take (e .«key_len») (drop (e .«key_id») s);
+      aux = take (e .«aux_len») (drop (e .aux) s);
+    }
+
+-- the steps from a cursor on hand out these entries, one by one; 01: "Closures of `parse_authenticators` and `parse_proofs`: a step
+-- per entry."
+unfoldable pub Steps : List ℕ → ℕ → EntryCursor → List EntryReading → Type 0
+Steps s zero c es = es ≡ []
+Steps s (suc n) c [] = ⊥
+Steps s (suc n) c (r ∷ rs) =
+    (e : AuthenticatorEntry) × ((d : EntryCursor) × ((entryStep s c ≡ step.Entry e d) × ((entryGiven s e ≡ r) × Steps s n d rs)))
 
 -- what the state's reader gives
 unfoldable pub summaryOf : List EntryReading → StateSummary

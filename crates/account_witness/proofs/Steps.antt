@@ -14,7 +14,7 @@ use Rattle.account_witness.specs.declared.walk.ProofCursor.{ProofCursor}
 use Rattle.account_witness.specs.declared.walk.ProofStep.the-variants.{Next}
 use Rattle.account_witness.specs.Walk.{proofRows, proofAt, cursorBehind, proofStep, cursorAt, proofsRows}
 use Rattle.account_witness.specs.Witness.{witnessRows}
-use Rattle.account_witness.specs.Reading.{ProofReading, proofReading, proofReadings, witnessReading}
+use Rattle.account_witness.specs.Reading.{ProofReading, proofReading, proofReadings, witnessReading, HandsOut}
 use Rattle.account_witness.proofs.Accepted.{step-accepted}
 use Rattle.account_witness.proofs.WalkLaws.{step-next}
 use Rattle.account_witness.proofs.Inverse.{witness-holds, proofs-end}
@@ -71,11 +71,7 @@ pub step-on : (s : List ℕ) (i : ℕ) (p : Proof) (d : ProofCursor) → proofSt
 unfolding cursorAt
 step-on s i p d h = let z = step-next s (cursorAt s i) p d h in (z .1, z .2)
 
--- the i-th step of an accepted witness lock goes on, with the i-th proof of the reading
-pub record HandsOut (s : List ℕ) (i : ℕ) : Type 0 where
-  pub step : proofStep s (cursorAt s i) ≡ Next (proofAt s (cursorAt s i .offset)) (cursorAt s (suc i))
-  pub reading : (d : ProofReading) → getD (witnessReading s .proofs) i d ≡ proofReading s (proofAt s (cursorAt s i .offset))
-
+-- in an accepted witness lock each step goes on, with its proof of the reading
 pub steps : (s : List ℕ) → Hold (witnessRows s) → (i : ℕ) → i < numberAt s 6 1 → HandsOut s i
 unfolding cursorAt
 steps s h i l =

@@ -1,16 +1,15 @@
 -- Witness locks of at most 16 proofs: each that is accepted has exactly one reading, whose fields the reader gives. Where one is
 -- accepted, and that a refusal is 22, is in Accepted; that the steps hand out the reading's proofs in order, in Steps.
 -- Assumes nothing.
-use mathlib.Core.Path.{_≡_, refl, sym, ap, _∙_}
+use mathlib.Core.Path.{refl, sym, ap, _∙_}
 use mathlib.Core.List.{List}
 use Prim.Native.Nat.{ℕ}
-use lib.ListN.{length}
 use Rattle.octets.specs.Le.{Bytes}
 use Rattle.protocol.specs.Rows.{Hold}
 use Rattle.protocol.specs.Reading.{OneReading}
 use Rattle.account_witness.specs.Header.{headerAt}
 use Rattle.account_witness.specs.Witness.{witnessRows}
-use Rattle.account_witness.specs.Reading.{witnessBytes, witnessReading, WitnessTyped}
+use Rattle.account_witness.specs.Reading.{witnessBytes, witnessReading, WitnessTyped, HeaderGives}
 use Rattle.account_witness.proofs.Inverse.{witness-back, witness-typed, length-readings}
 use Rattle.account_witness.proofs.Unique.{witness-read}
 
@@ -23,12 +22,7 @@ witness-one s b h =
       unique = λ q t e. sym (witness-read q t) ∙ ap witnessReading e;
     }
 
--- the header that the reader gives has its fields
-pub record HeaderGives (s : List ℕ) : Type 0 where
-  pub operation : headerAt s .operation ≡ witnessReading s .operation
-  pub sequence : headerAt s .«state_sequence» ≡ witnessReading s .sequence
-  pub count : headerAt s .«proof_count» ≡ length (witnessReading s .proofs)
-
+-- the header that the reader gives has the reading's fields
 pub header-gives : (s : List ℕ) → HeaderGives s
 unfolding headerAt witnessReading
 header-gives s = record { operation = refl; sequence = refl; count = sym (length-readings s _ 16) }

@@ -1,13 +1,16 @@
--- The reading of a witness lock, every field but fixed bytes, lengths and counts, and its written form.
+-- The reading of a witness lock, every field but fixed bytes, lengths and counts, its written form, and what the readers hand out
+-- of it.
+use mathlib.Core.Path.{_≡_}
 use Prim.Native.Nat.{ℕ, zero, suc, _+_, _^_, _<_}
 use mathlib.Core.List.{List, [], _∷_, _++_, map}
-use lib.ListN.{length, take, drop}
+use lib.ListN.{length, take, drop, getD}
 use Rattle.octets.specs.Le.{numberAt}
 use Rattle.octets.specs.Lists.{joined}
 use Rattle.octets.specs.Table.{Number, numbers}
 use Rattle.account_witness.specs.declared.walk.Proof.{Proof}
-use Rattle.account_witness.specs.Header.{headerTable}
-use Rattle.account_witness.specs.Walk.{proofAt}
+use Rattle.account_witness.specs.declared.walk.ProofStep.the-variants.{Next}
+use Rattle.account_witness.specs.Header.{headerTable, headerAt}
+use Rattle.account_witness.specs.Walk.{proofAt, proofStep, cursorAt}
 
 pub record ProofReading : Type 0 where
   pub slot : ℕ
@@ -58,3 +61,15 @@ pub record WitnessTyped (r : WitnessReading) : Type 0 where
   pub sequence : r .sequence < 256 ^ 8
   pub count : length (r .proofs) < 256 ^ 1
   pub proofs : ProofsTyped (r .proofs)
+
+-- the header that the reader gives has the reading's fields and the count of its proofs
+pub record HeaderGives (s : List ℕ) : Type 0 where
+  pub operation : headerAt s .operation ≡ witnessReading s .operation
+  pub sequence : headerAt s .«state_sequence» ≡ witnessReading s .sequence
+  pub count : headerAt s .«proof_count» ≡ length (witnessReading s .proofs)
+
+-- the i-th step of an accepted witness lock goes on, with the i-th proof of the reading; 01: "Closures of `parse_authenticators` and
+-- `parse_proofs`: a step per entry."
+pub record HandsOut (s : List ℕ) (i : ℕ) : Type 0 where
+  pub step : proofStep s (cursorAt s i) ≡ Next (proofAt s (cursorAt s i .offset)) (cursorAt s (suc i))
+  pub reading : (d : ProofReading) → getD (witnessReading s .proofs) i d ≡ proofReading s (proofAt s (cursorAt s i .offset))

@@ -7,6 +7,7 @@ use mathlib.Core.List.{List, [], _∷_}
 use Prim.Native.Nat.{ℕ, zero, suc, _+_}
 use native.Mathlib.Omega.{arith}
 use Rattle.octets.specs.Le.{numberAt}
+use Rattle.octets.specs.Lists.{Rising}
 use Rattle.protocol.specs.Rows.{decide, Hold}
 use Rattle.protocol.specs.declared.error.ProtocolError.{ProtocolError}
 use Rattle.protocol.specs.declared.check.Check.{Check}
@@ -16,7 +17,7 @@ use Rattle.account_witness.specs.Walk.{proofRows, proofAt, proofsRows}
 use Rattle.account_witness.specs.Reading.{ProofReading, proofReading, proofReadings}
 use Rattle.account_witness.proofs.WalkLaws.{proof-holds}
 use Rattle.decision.specs.Walk.{ProofList, orFault, proofsFrom}
-use Rattle.decision.specs.Decision.{Rising, slots}
+use Rattle.decision.specs.Decision.{slots}
 
 -- The two ways on from a place of the lock where a proof is due.
 module _ (lock : List ℕ) (n at least : ℕ) where

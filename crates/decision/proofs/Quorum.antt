@@ -11,6 +11,7 @@ use native.Mathlib.Decide.{ℕ-discrete}
 use lib.ListN.{length, getD, take, length-append}
 use lib.Dec.{ltb, eqb}
 use borrow.Author.Tests.{eq-eqb, ne-eqb, eqb-true, eqb-false, ltb-false, le-ltb}
+use Rattle.octets.specs.Lists.{Rising}
 use Rattle.protocol.specs.Rows.{decide}
 use Rattle.protocol.specs.declared.error.ProtocolError.{ProtocolError}
 use Rattle.protocol.specs.declared.error.ProtocolError.the-variants.{InvalidWitness, VerifierFailure, ThresholdUnsatisfied}
@@ -20,7 +21,7 @@ use Rattle.protocol.proofs.Hold.{failed-passed, passed-hold, hold-passed}
 use Rattle.account_witness.specs.Reading.{ProofReading}
 use Rattle.decision.specs.Proofs.{Setting, known, entryFor, capable, entryRows, proofRows, requestOf, requestsOf}
 use Rattle.decision.specs.Walk.{Outcome, outcome, verdict, earned, weighed, ended, orElse, walk}
-use Rattle.decision.specs.Decision.{Rising, slots, EachPasses, Approved, weightOf, Quorum}
+use Rattle.decision.specs.Decision.{slots, EachPasses, Approved, weightOf, Quorum}
 
 -- The three ways on from a proof.
 module _ (c : Setting) (clean : Bool) (i weight : ℕ) (made : List ℕ) (p : ProofReading) (ps : List ProofReading) where

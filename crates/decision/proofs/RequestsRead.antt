@@ -12,46 +12,20 @@ use Rattle.octets.specs.Le.{Bytes, numberAt}
 use Rattle.octets.proofs.LeLaws.{bytes-drop, bytes-take}
 use Rattle.protocol.specs.Policy.{isOperation, capabilityFor}
 use Rattle.protocol.specs.Rows.{Hold}
-use Rattle.account_state.specs.Reading.{EntryReading, entryOf, entriesOf, lengthOf, keyLengthOf, auxLengthOf, stateReading, EntryTyped, EntriesTyped}
+use Rattle.account_state.specs.Reading.{EntryReading, entryOf, entriesOf, lengthOf, keyLengthOf, auxLengthOf, stateReading, EntriesTyped}
 use Rattle.account_state.specs.State.{stateRows}
 use Rattle.account_state.proofs.Inverse.{Keys, state-typed, state-keys}
 use Rattle.decision.proofs.KeyField.{key-kept}
 use Rattle.account_witness.specs.Reading.{ProofReading}
-use Rattle.verifier_request.specs.Reader.{requestRows}
 use Rattle.verifier_request.specs.Reading.{RequestTyped}
-use Rattle.verifier_request.specs.Reading as request
 use Rattle.verifier_request.specs.Writer as writer
 use Rattle.verifier_request.proofs.RequestTheorem.{request-accepted}
 use Rattle.scene_table.specs.Scene.{Cell}
-use Rattle.decision.specs.Proofs.{Setting, settingFor, known, entryFor, capable, hasBit, limitRows, entryRows, proofRows, requestReading, requestOf, keyField}
+use Rattle.decision.specs.Proofs.{Setting, settingFor, known, entryFor, capable, hasBit, limitRows, entryRows, proofRows, requestReading, requestOf}
+use Rattle.decision.specs.Requests.{EntryFits, EntriesFit, SettingFits, RequestRead, RequestsRead}
 use Rattle.decision.specs.Decision.{EachPasses, proofsOf, ProofsPass}
 
--- an entry as an accepted state has it: of its types, with a key of 32 bytes, and with bytes in aux
-pub record EntryFits (e : EntryReading) : Type 0 where
-  pub typed : EntryTyped e
-  pub key : length (e .key) ≡ 32
-  pub aux : Bytes (e .aux)
-
-abbrev pub EntriesFit : List EntryReading → Type 0
-EntriesFit [] = Unit {0}
-EntriesFit (e ∷ es) = EntryFits e × EntriesFit es
-
--- what is settled before the first proof fits the request's fields
-pub record SettingFits (c : Setting) : Type 0 where
-  pub entries : EntriesFit (c .entries)
-  pub digest : length (c .digest) ≡ 32
-
--- the request of a proof passes every check of the request reader, and is read as what it was made from
-pub record RequestRead (c : Setting) (p : ProofReading) : Type 0 where
-  pub accepted : Hold (requestRows (requestOf c p))
-  pub reading : request.requestReading (requestOf c p) ≡ requestReading (c .operation) (c .digest) (entryFor (p .slot) (c .entries)) p
-  -- its key is the entry's
-  pub key : keyField (entryFor (p .slot) (c .entries) .key) ≡ entryFor (p .slot) (c .entries) .key
-
-abbrev pub RequestsRead : Setting → List ProofReading → Type 0
-RequestsRead c [] = Unit {0}
-RequestsRead c (p ∷ ps) = RequestRead c p × RequestsRead c ps
-
+-- the entries of an accepted state fit
 entries-fit : (n : ℕ) (e : List ℕ) → Bytes e → EntriesTyped (entriesOf n e) → Keys (entriesOf n e) → EntriesFit (entriesOf n e)
 unfolding entriesOf entryOf
 entries-fit zero e b t k = tt
@@ -93,6 +67,7 @@ capable-operation o capabilities h = go (eqb o 1) (eqb o 2) (eqb o 3) refl refl 
     go false false true p q r = let e = eqb-true o 3 r in (rw (p, q, r), omega arith)
     go false false false p q r = absurd (let z = rw (p, q, r) at h in let y : _≡_ {A = ℕ} 0 1 = cc in omega arith)
 
+-- a proof whose rows pass has a request that is read so
 pub request-read : (c : Setting) (used : ℕ) (p : ProofReading) → SettingFits c → Hold (proofRows c used p) → RequestRead c p
 unfolding proofRows entryRows limitRows requestOf requestReading writer.writerRows writer.limitRows
 request-read c used p f h =

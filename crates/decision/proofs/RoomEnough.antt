@@ -13,6 +13,7 @@ use lib.ListN.{length, drop, replicate, length-append, length-take, length-drop}
 use lib.Seq.{length-sets}
 use borrow.Author.Tests.{leb-true, leb-false, eqb-true, le-leb, lt-leb}
 use Rattle.octets.specs.Le.{numberAt}
+use Rattle.octets.specs.Lists.{Rising}
 use Rattle.protocol.specs.Errors.{errorNumber}
 use Rattle.protocol.specs.Rows.{Row, decide, Hold, First, checkNumber}
 use Rattle.protocol.specs.declared.error.ProtocolError.{ProtocolError}
@@ -29,7 +30,7 @@ use Rattle.verifier_request.specs.Writer.{requestTotal}
 use Rattle.verifier_request.proofs.Form.{length-request}
 use Rattle.decision.specs.Proofs.{Setting, noEntry, entryFor, requestSize, limitRows, entryRows, proofRows, keyField, requestReading, requestOf, requestsOf}
 use Rattle.decision.specs.Walk.{Outcome, outcome, verdict, earned, weighed, ended, orElse, walk, proofsFrom, walkList, walkLock}
-use Rattle.decision.specs.Decision.{Rising, slots}
+use Rattle.decision.specs.Decision.{slots}
 use Rattle.decision.proofs.Listed.{listed-stops, listed-goes, listed-rising, Behind}
 
 -- ---- what the requests of a list of proofs need

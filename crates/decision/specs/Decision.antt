@@ -7,16 +7,12 @@ use mathlib.Core.Bool.{true}
 use mathlib.Core.List.{List, [], _∷_, List·Memᴰ}
 use lib.ListN.{length, getD}
 use Rattle.octets.specs.Le.{numberAt}
+use Rattle.octets.specs.Lists.{Rising}
 use Rattle.protocol.specs.Rows.{Hold}
 use Rattle.account_witness.specs.Reading.{ProofReading, proofReadings}
 use Rattle.account_witness.specs.Walk.{proofsRows}
 use Rattle.decision.specs.Proofs.{Setting, known, entryFor, capable, proofRows, requestOf}
 use Rattle.decision.specs.Walk.{verdict}
-
--- strictly rising, from `least` on: a set of slots
-abbrev pub Rising : ℕ → List ℕ → Type 0
-Rising least [] = Unit {0}
-Rising least (s ∷ ss) = (least ≤ s) × Rising (s + 1) ss
 
 abbrev pub slots : List ProofReading → List ℕ
 slots [] = []
@@ -51,7 +47,7 @@ abbrev pub weightOf : Setting → List ℕ → ℕ
 weightOf c [] = 0
 weightOf c (s ∷ ss) = entryFor s (c .entries) .weight + weightOf c ss
 
--- a set of such slots that together weigh at least the threshold, which is above zero
+-- a set of such slots, strictly rising, that together weigh at least the threshold, which is above zero
 pub record Quorum (c : Setting) (ps : List ProofReading) : Type 0 where
   pub set : List ℕ
   pub isSet : Rising 0 set

@@ -1,3 +1,4 @@
 pub mod Proofs
 pub mod Walk
 pub mod Decision
+pub mod Requests

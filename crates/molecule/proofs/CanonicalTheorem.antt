@@ -2,22 +2,21 @@
 -- two parts without a copy.
 -- Assumes nothing.
 use mathlib.Core.Path.{_≡_, refl, sym, _∙_}
-use mathlib.Core.List.{List, [], _∷_, _++_}
+use mathlib.Core.List.{List, [], _∷_}
 use Prim.Native.Nat.{ℕ, _+_, _-_, _^_, _<_}
 use native.Mathlib.Omega.{arith}
 use lib.ListN.{length, drop, length-drop}
 use Rattle.octets.specs.Le.{numberAt, Bytes}
 use Rattle.protocol.specs.Rows.{Hold}
-use Rattle.protocol.specs.declared.error.ProtocolError.{ProtocolError}
 use Rattle.protocol.specs.declared.error.ProtocolError.the-variants.{InvalidWitness}
 use Rattle.protocol.specs.declared.check.Check.the-variants.{Passed}
 use Rattle.protocol.proofs.Hold.{passed-hold}
 use Rattle.molecule.specs.declared.bytes.Place.{Place}
 use Rattle.molecule.specs.declared.bytes.PlaceAnswer.the-variants.{At}
 use Rattle.molecule.specs.Molecule.{bytesVector, tableBytes}
-use Rattle.molecule.specs.Table3.{tableRows, field1, field2, field3}
+use Rattle.molecule.specs.Table3.{tableRows, field2, field3}
 use Rattle.molecule.specs.Bytes.{bytesAt, readLock}
-use Rattle.molecule.specs.Canonical.{canonicalOf, canonicalParts}
+use Rattle.molecule.specs.Canonical.{canonicalOf, canonicalParts, ReadBack, Whole}
 use Rattle.molecule.proofs.Form.{length-three, passes, passes-hold}
 use Rattle.molecule.proofs.CanonicalForm.{canonical-whole, length-canonical, parts-read, parts-found}
 use Rattle.molecule.proofs.Inverse.{written-passes, field1-read, field2-read, field3-read}
@@ -30,12 +29,6 @@ unfolding canonicalOf
 canonical-theorem s p b h = (sym (lock-theorem s p b h .1), refl)
 
 -- where its size fits its field it is read back
-pub record ReadBack (s : List ℕ) : Type 0 where
-  pub accepted : (e : ProtocolError) → Hold (tableRows e (canonicalOf s))
-  pub lock : field1 (canonicalOf s) ≡ bytesVector []
-  pub second : field2 (canonicalOf s) ≡ field2 s
-  pub third : field3 (canonicalOf s) ≡ field3 s
-
 pub canonical-read : (s : List ℕ) → length (canonicalOf s) < 2 ^ 32 → ReadBack s
 unfolding canonicalOf
 canonical-read s h =
@@ -49,11 +42,7 @@ canonical-read s h =
       third = field3-read (bytesVector []) (field2 s) (field3 s) small;
     }
 
--- The two parts, one behind the other, are the canonical witness, and so are their lengths its length.
-pub record Whole (s : List ℕ) : Type 0 where
-  pub bytes : canonicalParts s .head ++ drop (canonicalParts s .rest) s ≡ canonicalOf s
-  pub size : 20 + (length s - canonicalParts s .rest) ≡ length (canonicalOf s)
-
+-- the parts of a witness whose table passes are whole
 whole-read : (s : List ℕ) → Hold (tableRows InvalidWitness s) → Whole s
 whole-read s h =
     let z = passes InvalidWitness s h in
@@ -64,5 +53,6 @@ whole-read s h =
       size = rw (parts-read s h) (omega arith);
     }
 
+-- so are those of a witness that is not refused
 pub parts-theorem : (s : List ℕ) → canonicalParts s .found ≡ Passed → Whole s
 parts-theorem s h = whole-read s (passed-hold (tableRows InvalidWitness s) (sym (parts-found s) ∙ h))

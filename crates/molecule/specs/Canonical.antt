@@ -1,9 +1,12 @@
 -- 01, main.rs: "Canonical witness: the lock field becomes an empty Bytes, fields 2 and 3 are copied."
-use Prim.Native.Nat.{ℕ}
-use mathlib.Core.List.{List, [], _∷_}
-use lib.ListN.{length, take, replicate}
+use Prim.Native.Nat.{ℕ, _+_, _-_}
+use mathlib.Core.Path.{_≡_}
+use mathlib.Core.List.{List, [], _∷_, _++_}
+use lib.ListN.{length, take, drop, replicate}
 use Rattle.octets.specs.Table.{Number}
+use Rattle.protocol.specs.Rows.{Hold}
 use Rattle.protocol.specs.Write.{writeFault, writeAnswer, afterWrite}
+use Rattle.protocol.specs.declared.error.ProtocolError.{ProtocolError}
 use Rattle.protocol.specs.declared.error.ProtocolError.the-variants.{InvalidWitness}
 use Rattle.protocol.specs.declared.check.Check.{Check}
 use Rattle.protocol.specs.declared.check.Check.the-variants.{Passed, Failed}
@@ -12,10 +15,17 @@ use Rattle.molecule.specs.declared.table.TableAnswer.{TableAnswer}
 use Rattle.molecule.specs.declared.table.TableAnswer.the-variants.{Fields, Refused}
 use Rattle.molecule.specs.declared.canonical.CanonicalParts.{CanonicalParts}
 use Rattle.molecule.specs.Molecule.{bytesVector, tableBytes}
-use Rattle.molecule.specs.Table3.{tableRows, readTable, field2, field3}
+use Rattle.molecule.specs.Table3.{tableRows, readTable, field1, field2, field3}
 
 unfoldable pub canonicalOf : List ℕ → List ℕ
 canonicalOf s = tableBytes (bytesVector [] ∷ field2 s ∷ field3 s ∷ [])
+
+-- the canonical witness is read back: "the lock field becomes an empty Bytes, fields 2 and 3 are copied"
+pub record ReadBack (s : List ℕ) : Type 0 where
+  pub accepted : (e : ProtocolError) → Hold (tableRows e (canonicalOf s))
+  pub lock : field1 (canonicalOf s) ≡ bytesVector []
+  pub second : field2 (canonicalOf s) ≡ field2 s
+  pub third : field3 (canonicalOf s) ≡ field3 s
 
 -- what the writer's checks find, for a buffer of `room` bytes: its table (22), then the room (5)
 unfoldable pub canonicalRoom : List ℕ → ℕ → Check
@@ -47,3 +57,8 @@ canonicalHead total third =
     ∷ record { width = 4; value = third }
     ∷ record { width = 4; value = 0 }
     ∷ []
+
+-- the two parts, one behind the other, are the canonical witness, and so are their lengths its length
+pub record Whole (s : List ℕ) : Type 0 where
+  pub bytes : canonicalParts s .head ++ drop (canonicalParts s .rest) s ≡ canonicalOf s
+  pub size : 20 + (length s - canonicalParts s .rest) ≡ length (canonicalOf s)

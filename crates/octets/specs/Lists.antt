@@ -1,5 +1,5 @@
--- Lists of numbers: equal or not, made from a function, joined from parts.
-use Prim.Native.Nat.{ℕ, zero, suc}
+-- Lists of numbers: equal or not, strictly rising, made from a function, joined from parts.
+use Prim.Native.Nat.{ℕ, zero, suc, _+_, _≤_}
 use mathlib.Core.Bool.{Bool, true, false}
 use mathlib.Core.List.{List, [], _∷_, _++_}
 use lib.Dec.{eqb}
@@ -14,6 +14,11 @@ same [] [] = true
 same [] (y ∷ ys) = false
 same (x ∷ xs) [] = false
 same (x ∷ xs) (y ∷ ys) = both (eqb x y) (same xs ys)
+
+-- strictly rising, from `least` on
+abbrev pub Rising : ℕ → List ℕ → Type 0
+Rising least [] = Unit {0}
+Rising least (s ∷ ss) = (least ≤ s) × Rising (s + 1) ss
 
 -- f 0, f 1, .. f (n - 1)
 unfoldable pub tabulate : (ℕ → ℕ) → ℕ → List ℕ

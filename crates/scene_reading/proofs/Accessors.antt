@@ -9,9 +9,8 @@ use mathlib.Core.Logic.{_↔_}
 use native.Mathlib.Omega.{arith}
 use lib.ListN.{length}
 use Rattle.protocol.specs.declared.check.Check.the-variants.{Passed}
-use Rattle.scene_text.specs.Text.{pieces}
 use Rattle.scene_reader.specs.Reader as reader
-use Rattle.scene_reader.specs.Reader.{Held, held, run, start, readOf, answerOf}
+use Rattle.scene_reader.specs.Reader.{readOf, answerOf}
 use Rattle.scene_table.specs.Scene.{Scene, sceneBytes, sceneNumbers, tableOf}
 use Rattle.scene_table.specs.Lent.{lentScene}
 use Rattle.scene_table.specs.Valid.{sceneOk, validTable}
@@ -20,6 +19,7 @@ use Rattle.scene_table.proofs.ValidTheorem.{valid-table}
 use Rattle.scene_reading.specs.Lines.{Passes}
 use Rattle.scene_reading.specs.Reading.{readingOf}
 use Rattle.scene_reading.specs.Print.{textOf}
+use Rattle.scene_reading.specs.Left.{LeftBy}
 use Rattle.scene_reading.proofs.Accepts.{accepted-passes, passes-accepted}
 use Rattle.scene_reading.proofs.Leaves.{bytes-fit, passes-leaves}
 use Rattle.scene_reading.proofs.PrintBack.{reading-ok}
@@ -27,18 +27,12 @@ use Rattle.scene_table.proofs.SceneBack.{numbers-few}
 use Rattle.scene_reading.proofs.Theorem.{reader-leaves}
 use Rattle.scene_reading.proofs.Printed.{printed-passes, printed-lines, printed-reading}
 
+-- the lent table and store of an accepted text are read as its scene
 pub accessors-give : (text : List ℕ) (n m : ℕ) → answerOf (readOf text n m) ≡ Passed → (p : Passes text n)
     → lentScene (reader.tableOf m (readOf text n m)) (reader.storeOf n (readOf text n m)) ≡ readingOf (p .lines)
 accessors-give text n m e p =
     let l = reader-leaves text n m e p in
     rw (l .table, l .store) (lent-back (readingOf (p .lines)) m n (l .ok))
-
--- a text whose lines pass leaves the table, with a store of n bytes
-pub record LeftBy (table : List ℕ) (n : ℕ) : Type 0 where
-  pub text : List ℕ
-  pub left : Held
-  pub ran : run (start n (length table)) (pieces 10 text) ≡ held left
-  pub same : left .table ≡ table
 
 module _ (table : List ℕ) (n : ℕ) (long : 2048 ≤ length table) where
   -- the print of a scene leaves its table

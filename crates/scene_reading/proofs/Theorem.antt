@@ -2,7 +2,6 @@
 -- scene that the text says.
 -- Assumes nothing.
 use Prim.Native.Nat.{ℕ, _≤_}
-use mathlib.Core.Bool.{true}
 use mathlib.Core.Path.{_≡_, refl, sym, _∙_}
 use mathlib.Core.List.{List, [], _∷_, append-cancel-right}
 use mathlib.Core.Logic.{_↔_}
@@ -13,12 +12,11 @@ use borrow.Author.Tests.{ltb-false, le-ltb}
 use Rattle.protocol.specs.declared.error.ProtocolError.the-variants.{SceneTooLong, StoreTooShort}
 use Rattle.protocol.specs.declared.check.Check.the-variants.{Passed}
 use Rattle.scene_text.specs.Text.{pieces}
-use Rattle.scene_reader.specs.Reader as reader
 use Rattle.scene_reader.specs.Reader.{Held, Outcome, refused, held, run, start, readOf, answerOf}
-use Rattle.scene_table.specs.Scene.{Scene, sceneBytes, sceneNumbers, storeOf, tableOf}
-use Rattle.scene_table.specs.Valid.{sceneOk}
+use Rattle.scene_table.specs.Scene.{sceneNumbers}
 use Rattle.scene_reading.specs.Lines.{Passes}
 use Rattle.scene_reading.specs.Reading.{readingOf}
+use Rattle.scene_reading.specs.Left.{Leaves}
 use Rattle.scene_reading.proofs.Run.{past}
 use Rattle.scene_reading.proofs.Accepts.{accepted-passes, passes-accepted}
 use Rattle.scene_reading.proofs.Leaves.{bytes-fit, passes-leaves}
@@ -51,16 +49,8 @@ module _ (text : List ℕ) (n m : ℕ) where
   pub reader-accepts : (answerOf (readOf text n m) ≡ Passed) ↔ ((length text ≤ 1048576) × ((2048 ≤ m) × Passes text n))
   reader-accepts = (accepted, accepting)
 
-  -- a store of n bytes and a table of m entries that hold the scene
-  pub record Leaves (s : Scene) : Type 0 where
-    pub store : reader.storeOf n (readOf text n m) ≡ storeOf s n
-    pub table : reader.tableOf m (readOf text n m) ≡ tableOf s m
-    pub ok : sceneOk s ≡ true
-    pub fits : length (sceneBytes s) ≤ n
-    pub few : length (sceneNumbers s) ≤ m
-
   -- the store and the table after an accepted text are those of the scene that its lines say
-  pub reader-leaves : answerOf (readOf text n m) ≡ Passed → (p : Passes text n) → Leaves (readingOf (p .lines))
+  pub reader-leaves : answerOf (readOf text n m) ≡ Passed → (p : Passes text n) → Leaves text n m (readingOf (p .lines))
   reader-leaves e p =
       let h = accepted e in
       let r = passes-accepted text n m p in

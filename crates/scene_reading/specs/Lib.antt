@@ -1,3 +1,4 @@
 pub mod Lines
 pub mod Reading
 pub mod Print
+pub mod Left
