@@ -5,6 +5,5 @@ mod numbers; // numbers.rt
 
 pub use self::lent::array_32;
 pub use self::lent::check_sizes;
-pub use self::numbers::check_number;
 pub use self::numbers::written;
 pub use self::words::store_words;

@@ -11,6 +11,7 @@ pub use self::args::ArgsAnswer;
 pub use self::args::account_lock_args;
 pub use self::check::Check;
 pub use self::check::WriteAnswer;
+pub use self::check::check_number;
 pub use self::constants::ACCOUNT_LOCK_ARGS_LEN;
 pub use self::constants::ACCOUNT_LOCK_VERSION;
 pub use self::constants::ACCOUNT_STATE_HEADER_LEN;
