@@ -5,18 +5,15 @@ use mathlib.Core.Path.{_≡_, refl, sym, _∙_}
 use mathlib.Core.Bool.{true, and-eq-true-iff}
 use mathlib.Core.List.{List}
 use mathlib.Core.Logic.{_↔_}
-use Prim.Native.Nat.{ℕ, _≤_}
-use native.Mathlib.Omega.{arith}
-use borrow.Author.Tests.{leb-true, eq-eqb, eqb-true}
-use lib.Dec.{eqb, leb}
+use Prim.Native.Nat.{ℕ}
+use borrow.Author.Tests.{eq-eqb, eqb-true}
+use lib.Dec.{eqb}
 use Rattle.octets.specs.Le.{Bytes}
 use Rattle.octets.specs.Lists.{same}
 use Rattle.octets.proofs.Same.{same-eq, eq-same}
-use Rattle.protocol.specs.Errors.{errorNumber}
 use Rattle.protocol.specs.Rows.{Hold}
 use Rattle.protocol.specs.Reading.{OneReading, WritesBack}
-use Rattle.protocol.specs.declared.error.ProtocolError.{ProtocolError}
-use Rattle.protocol.specs.declared.error.ProtocolError.the-variants.{SceneTooLong, InvalidLine, InvalidField, TooManyLines, BufferTooShort, StoreTooShort, SlicesDisagree, InvalidArgs, InvalidState, InvalidWitness, StateNotFound, DuplicateState, StateConsumedOnSpend, InvalidTransition, InvalidSequence, ThresholdUnsatisfied, InvalidCapability, InvalidVerifierRef, VerifierFailure, UnsupportedVersion, UnsupportedAlgorithm, RecoveryLocked, InvalidRequest, InvalidProof, InvalidOperation, UnsatisfiableThreshold, LengthOverflow}
+use Rattle.protocol.proofs.ErrorNumbers.{not-0}
 use Rattle.verifier_request.specs.declared.reader.RequestFields.{RequestFields}
 use Rattle.verifier_request.specs.declared.reader.RequestAnswer.{RequestAnswer}
 use Rattle.verifier_request.specs.declared.reader.RequestAnswer.the-variants.{Request, Refused}
@@ -26,41 +23,6 @@ use Rattle.verifier_request.specs.Writer.{requestWritten, requestStored}
 use Rattle.verifier_request.proofs.RequestTheorem.{reader-accepts, request-given, request-theorem}
 use Rattle.held_request.specs.declared.places.RequestPlaces.{RequestPlaces}
 use Rattle.held_request.specs.Held.{partAt, placesOf, heldReading, isFor}
-
--- no refusal has the number 0
-numbered : (e : ProtocolError) → leb 1 (errorNumber e) ≡ true
-numbered SceneTooLong = refl
-numbered InvalidLine = refl
-numbered InvalidField = refl
-numbered TooManyLines = refl
-numbered BufferTooShort = refl
-numbered StoreTooShort = refl
-numbered SlicesDisagree = refl
-numbered InvalidArgs = refl
-numbered InvalidState = refl
-numbered InvalidWitness = refl
-numbered StateNotFound = refl
-numbered DuplicateState = refl
-numbered StateConsumedOnSpend = refl
-numbered InvalidTransition = refl
-numbered InvalidSequence = refl
-numbered ThresholdUnsatisfied = refl
-numbered InvalidCapability = refl
-numbered InvalidVerifierRef = refl
-numbered VerifierFailure = refl
-numbered UnsupportedVersion = refl
-numbered UnsupportedAlgorithm = refl
-numbered RecoveryLocked = refl
-numbered InvalidRequest = refl
-numbered InvalidProof = refl
-numbered InvalidOperation = refl
-numbered UnsatisfiableThreshold = refl
-numbered LengthOverflow = refl
-
-not-0 : (e : ProtocolError) → errorNumber e ≡ 0 → ⊥
-not-0 e z =
-    let n : 1 ≤ errorNumber e = leb-true _ _ (numbered e) in
-    omega arith
 
 -- what was found in s
 abbrev found : List ℕ → RequestPlaces

@@ -1,4 +1,5 @@
 pub mod Hold
+pub mod ErrorNumbers
 pub mod Back
 pub mod ArgsTheorem
 pub mod Outcome
