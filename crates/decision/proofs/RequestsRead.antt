@@ -9,13 +9,14 @@ use lib.Dec.{eqb}
 use lib.ListN.{length, drop}
 use borrow.Author.Tests.{eqb-true}
 use Rattle.octets.specs.Le.{Bytes, numberAt}
+use Rattle.octets.specs.Lists.{arrayOf}
+use Rattle.octets.proofs.Arrays.{array-whole}
 use Rattle.octets.proofs.LeLaws.{bytes-drop, bytes-take}
 use Rattle.protocol.specs.Policy.{isOperation, capabilityFor}
 use Rattle.protocol.specs.Rows.{Hold}
 use Rattle.account_state.specs.Reading.{EntryReading, entryOf, entriesOf, lengthOf, keyLengthOf, auxLengthOf, stateReading, EntryTyped, EntriesTyped}
 use Rattle.account_state.specs.State.{stateRows}
 use Rattle.account_state.proofs.Inverse.{Keys, state-typed, state-keys}
-use Rattle.decision.proofs.KeyField.{key-kept}
 use Rattle.account_witness.specs.Reading.{ProofReading}
 use Rattle.verifier_request.specs.Reader.{requestRows}
 use Rattle.verifier_request.specs.Reading.{RequestTyped}
@@ -23,7 +24,7 @@ use Rattle.verifier_request.specs.Reading as request
 use Rattle.verifier_request.specs.Writer as writer
 use Rattle.verifier_request.proofs.RequestTheorem.{request-accepted}
 use Rattle.scene_table.specs.Scene.{Cell}
-use Rattle.decision.specs.Proofs.{Setting, settingFor, known, entryFor, capable, hasBit, limitRows, entryRows, proofRows, requestReading, requestOf, keyField}
+use Rattle.decision.specs.Proofs.{Setting, settingFor, known, entryFor, capable, hasBit, limitRows, entryRows, proofRows, requestReading, requestOf}
 use Rattle.decision.specs.Decision.{EachPasses, proofsOf, ProofsPass}
 
 -- an entry as an accepted state has it: of its types, with a key of 32 bytes, and with bytes in aux
@@ -46,7 +47,7 @@ pub record RequestRead (c : Setting) (p : ProofReading) : Type 0 where
   pub accepted : Hold (requestRows (requestOf c p))
   pub reading : request.requestReading (requestOf c p) ≡ requestReading (c .operation) (c .digest) (entryFor (p .slot) (c .entries)) p
   -- its key is the entry's
-  pub key : keyField (entryFor (p .slot) (c .entries) .key) ≡ entryFor (p .slot) (c .entries) .key
+  pub key : arrayOf 32 (entryFor (p .slot) (c .entries) .key) ≡ entryFor (p .slot) (c .entries) .key
 
 abbrev pub RequestsRead : Setting → List ProofReading → Type 0
 RequestsRead c [] = Unit {0}
@@ -107,10 +108,10 @@ request-read c used p f h =
       operation = o .1;
       profile = z .0 .aux 0;
       digest = f .digest;
-      key = rw (key-kept (entryFor (p .slot) (c .entries) .key) (z .0 .key)) (z .0 .key);
+      key = rw (array-whole 32 (entryFor (p .slot) (c .entries) .key) (z .0 .key)) (z .0 .key);
     } in
     let y = request-accepted r t (o .0, (h .1 .1 .1 .1 .1 .0, (h .1 .1 .1 .0, tt))) in
-    record { accepted = y .0; reading = y .1; key = key-kept (e .key) (z .0 .key) }
+    record { accepted = y .0; reading = y .1; key = array-whole 32 (e .key) (z .0 .key) }
 
 -- where each proof's rows pass, each one's request is
 pub requests-read : (c : Setting) (i used : ℕ) (ps : List ProofReading) → SettingFits c → EachPasses c i used ps → RequestsRead c ps
