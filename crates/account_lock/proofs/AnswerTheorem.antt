@@ -10,10 +10,10 @@ use lib.Dec.{leb, ltb}
 use lib.ListN.{length, take, drop, getD, length-take}
 use borrow.Author.Tests.{ltb-true, ltb-false}
 use Rattle.octets.specs.Le.{Bytes}
+use Rattle.octets.specs.Places as octets
 use Rattle.octets.proofs.LeLaws.{bytes-drop, bytes-take}
 use Rattle.protocol.specs.Rows.{Hold}
 use Rattle.protocol.proofs.Hold.{hold-split, hold-passed}
-use Rattle.molecule.specs.Bytes as molecule
 use Rattle.molecule.specs.Canonical.{canonicalOf}
 use Rattle.authorization.specs.Digest.{ckbHash, digestOf, digestInput}
 use Rattle.authorization.specs.Sighash.{sighashInput}
@@ -48,7 +48,7 @@ use Rattle.account_lock.proofs.DigestTheorem.{length-hash, digest-hash}
 -- the data of a cell are bytes of the store
 content-bytes : (from : Source) (table store : List ℕ) (i : ℕ) → Bytes store
     → Bytes (cellAt (cellsOf from (lentScene table store)) i .content)
-unfolding places.cellAt molecule.bytesAt noCell
+unfolding places.cellAt octets.bytesAt noCell
 content-bytes from table store i b = go (ltb i (cellCount from table)) refl
   where
     go : (t : Bool) → ltb i (cellCount from table) ≡ t → Bytes (cellAt (cellsOf from (lentScene table store)) i .content)

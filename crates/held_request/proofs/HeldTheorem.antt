@@ -10,6 +10,7 @@ use borrow.Author.Tests.{eq-eqb, eqb-true}
 use lib.Dec.{eqb}
 use Rattle.octets.specs.Le.{Bytes}
 use Rattle.octets.specs.Lists.{same}
+use Rattle.octets.specs.Places.{bytesAt}
 use Rattle.octets.proofs.Same.{same-eq, eq-same}
 use Rattle.protocol.specs.Rows.{Hold}
 use Rattle.protocol.specs.Reading.{OneReading, WritesBack}
@@ -22,7 +23,7 @@ use Rattle.verifier_request.specs.Reading.{RequestTyped, readingOf, requestRead
 use Rattle.verifier_request.specs.Writer.{requestWritten, requestStored}
 use Rattle.verifier_request.proofs.RequestTheorem.{reader-accepts, request-given, request-theorem}
 use Rattle.held_request.specs.declared.places.RequestPlaces.{RequestPlaces}
-use Rattle.held_request.specs.Held.{partAt, placesOf, heldReading, isFor}
+use Rattle.held_request.specs.Held.{placesOf, heldReading, isFor}
 
 -- what was found in s
 abbrev found : List ℕ → RequestPlaces
@@ -30,7 +31,7 @@ found s = placesOf (readRequest s)
 
 -- the functions hand out what the fields of the answer say
 held-given : (s : List ℕ) (f : RequestFields) → readRequest s ≡ Request f → heldReading s (found s) ≡ readingOf s f
-unfolding placesOf heldReading partAt readingOf
+unfolding placesOf heldReading bytesAt readingOf
 held-given s f e = rw e
 
 -- an answer that is not refused has fields
@@ -53,8 +54,8 @@ held-theorem s b z =
     rw (held-given s (fieldsAt s) e) (request-theorem s (fieldsAt s) b e)
 
 -- the digest handed out is the reading's
-held-digest : (s : List ℕ) → Hold (requestRows s) → partAt s (found s .«authorization_digest») ≡ requestReading s .digest
-unfolding placesOf partAt requestReading readingOf
+held-digest : (s : List ℕ) → Hold (requestRows s) → bytesAt s (found s .«authorization_digest») ≡ requestReading s .digest
+unfolding placesOf bytesAt requestReading readingOf
 held-digest s h = rw (reader-accepts s .1 h)
 
 -- a request for this digest: every check passes, and its reading has the digest
@@ -62,10 +63,10 @@ pub for-theorem : (s digest : List ℕ) → (isFor s digest ≡ true) ↔ (Hold 
 unfolding isFor
 for-theorem s digest = (
   λ t.
-      let p = and-eq-true-iff (eqb (found s .refusal) 0) (same (partAt s (found s .«authorization_digest»)) digest) .0 t in
+      let p = and-eq-true-iff (eqb (found s .refusal) 0) (same (bytesAt s (found s .«authorization_digest»)) digest) .0 t in
       let h = held-accepts s .0 (eqb-true _ _ (p .0)) in
       (h, sym (held-digest s h) ∙ same-eq _ _ (p .1)),
   λ p.
-      and-eq-true-iff (eqb (found s .refusal) 0) (same (partAt s (found s .«authorization_digest»)) digest) .1
+      and-eq-true-iff (eqb (found s .refusal) 0) (same (bytesAt s (found s .«authorization_digest»)) digest) .1
       (eq-eqb _ _ (held-accepts s .1 (p .0)), eq-same _ _ (held-digest s (p .0) ∙ p .1)),
 )

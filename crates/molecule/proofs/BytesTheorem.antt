@@ -8,8 +8,9 @@ use Prim.Native.Nat.{ℕ, _+_, _-_, _^_, _<_}
 use native.Mathlib.Omega.{arith}
 use lib.ListN.{length, take, drop, length-append}
 use lib.Seq.{take-add, take-all, drop-at, drop-drop}
-use Rattle.molecule.specs.declared.bytes.Place.{Place}
+use Rattle.octets.specs.declared.place.Place.{Place}
 use Rattle.octets.specs.Le.{numberAt, Bytes}
+use Rattle.octets.specs.Places.{bytesAt}
 use Rattle.octets.proofs.LeLaws.{number-lt, length-to, bytes-take, bytes-drop}
 use Rattle.octets.proofs.Parts.{part-length}
 use Rattle.protocol.specs.Rows.{Row, decide, Hold, First}
@@ -24,7 +25,7 @@ use Rattle.molecule.specs.declared.bytes.PlaceAnswer.{PlaceAnswer}
 use Rattle.molecule.specs.declared.bytes.PlaceAnswer.the-variants.{At, Refused}
 use Rattle.molecule.specs.Molecule.{bytesVector, tableBytes}
 use Rattle.molecule.specs.Table3.{tableRows, between, field1, field2, field3}
-use Rattle.molecule.specs.Bytes.{bytesRows, placeOf, bytesAt, placeAnswer, readBytes, lockRows, readLock, argsRows, readScriptArgs}
+use Rattle.molecule.specs.Bytes.{bytesRows, placeOf, placeAnswer, readBytes, lockRows, readLock, argsRows, readScriptArgs}
 use Rattle.molecule.proofs.Form.{Passes, passes, length-field1}
 use Rattle.molecule.proofs.Inverse.{table-written, vector-length, vector-written, vector-read}
 
