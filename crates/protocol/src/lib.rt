@@ -27,6 +27,7 @@ pub use self::constants::ALG_MLDSA65;
 pub use self::constants::ALG_MLDSA87;
 pub use self::constants::ALG_P256_WEBAUTHN;
 pub use self::constants::ALG_SLHDSA;
+pub use self::constants::AUTH_DOMAIN;
 pub use self::constants::AUTHENTICATOR_MAX_COUNT;
 pub use self::constants::CAP_KNOWN_MASK;
 pub use self::constants::CAP_RECOVERY;
