@@ -10,8 +10,8 @@ use lib.Dec.{ltb}
 use lib.ListN.{length, drop}
 use borrow.Author.Tests.{ltb-true, ltb-false}
 use Rattle.octets.specs.Le.{Bytes}
+use Rattle.octets.specs.Places as octets
 use Rattle.octets.proofs.LeLaws.{bytes-drop, bytes-take}
-use Rattle.molecule.specs.Bytes as molecule
 use Rattle.authorization.specs.Digest.{digestOf}
 use Rattle.scene_table.specs.Lent.{bytesAt, lentScene}
 use Rattle.scene_table.specs.Places as places
@@ -34,7 +34,7 @@ use Rattle.account_lock.proofs.DigestTheorem.{length-hash, early-walked
 -- the data of a cell are bytes of the store
 content-bytes : (from : Source) (table store : List ℕ) (i : ℕ) → Bytes store
     → Bytes (cellAt (cellsOf from (lentScene table store)) i .content)
-unfolding places.cellAt molecule.bytesAt noCell
+unfolding places.cellAt octets.bytesAt noCell
 content-bytes from table store i b = go (ltb i (cellCount from table)) refl
   where
     go : (t : Bool) → ltb i (cellCount from table) ≡ t → Bytes (cellAt (cellsOf from (lentScene table store)) i .content)

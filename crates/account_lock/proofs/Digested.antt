@@ -1,13 +1,9 @@
 -- The digest of a scene whose account, operation and first witness are there.
 -- Assumes nothing.
-use mathlib.Core.Path.{_≡_, refl, ap, _∙_}
+use mathlib.Core.Path.{_≡_}
 use mathlib.Core.Bool.{true}
-use mathlib.Core.List.{List, append-nil}
-use Prim.Native.Nat.{ℕ, _≤_}
-use native.Mathlib.Omega.{arith}
-use lib.ListN.{length, replicate}
-use lib.Seq.{sets}
-use Rattle.octets.proofs.Stores.{sets-front}
+use mathlib.Core.List.{List}
+use Prim.Native.Nat.{ℕ}
 use Rattle.protocol.specs.Policy.{isOperation}
 use Rattle.protocol.specs.Rows.{Hold, decide, _▷_}
 use Rattle.protocol.proofs.Hold.{hold-passed}
@@ -19,18 +15,13 @@ use Rattle.scene_table.specs.Scene.{Scene}
 use Rattle.group_sighash.specs.Witnesses.{firstWitness}
 use Rattle.group_sighash.specs.GroupSighash.{groupSighash, groupAnswer}
 
--- an id of 32 bytes fills its array
-pub id-kept : (id : List ℕ) → length id ≡ 32 → sets (replicate 32 0) 0 id ≡ id
-id-kept id n =
-    let zeros : List ℕ = replicate 32 0 in
-    let h : length id ≤ length zeros = omega arith in
-    rw (sets-front zeros id h, n) (append-nil id)
-
+-- the operation is one: the answer has the digest
 pub digest-given : (operation : ℕ) (id : List ℕ) (sequence : ℕ) (state hash : List ℕ) → isOperation operation ≡ true
     → authorizationOf operation id sequence state hash .digest ≡ digestOf operation id sequence state hash
 unfolding authorizationOf digestAnswer operationRows decide _▷_
 digest-given operation id sequence state hash e = rw e
 
+-- the first witness passes its rows: the answer has the sighash
 pub sighash-given : (s : Scene) → Hold (tableRows InvalidWitness (firstWitness s)) → groupAnswer s .hash ≡ groupSighash s
 unfolding groupAnswer groupSighash sighashAnswer sighashFound
 sighash-given s h = rw (hold-passed (tableRows InvalidWitness (firstWitness s)) h)

@@ -1,4 +1,3 @@
-pub mod Answers
 pub mod Resolved
 pub mod Digested
 pub mod LockLaws

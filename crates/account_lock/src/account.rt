@@ -4,7 +4,7 @@ use crate::answer::refused;
 use authorization::authorization_digest;
 use group_sighash::canonical_group_sighash;
 use group_sighash::check_others;
-use octets::store_bytes;
+use octets::array_32;
 use octets::u8_at;
 use octets::u64_at;
 use proof_walk::walk_proofs;
@@ -38,8 +38,7 @@ fn digest_of(
     requires { ⌜ Authorized operation (now «account_id») (lentScene (now table) (now store)) ⌝ }
     ensures { λ r. ⌜ r ≡ digestOf operation (now («account_id» .entry)) (sequenceOf (now (current .entry))) (now (current .entry)) (groupSighash (lentScene (now (table .entry)) (now (store .entry)))) ⌝ }
 {
-    let mut account = [0u8; 32];
-    store_bytes(&mut account, 0, account_id);
+    let account = array_32(account_id);
     let sighash = canonical_group_sighash(table, store).hash;
     authorization_digest(operation, account, u64_at(current, 8), current, sighash).digest
 }

@@ -3,3 +3,4 @@ pub mod StateLaws
 pub mod Inverse
 pub mod Unique
 pub mod Theorem
+pub mod Smallest

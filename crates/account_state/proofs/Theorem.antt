@@ -17,7 +17,8 @@ use Rattle.protocol.specs.Reading.{OneReading}
 use Rattle.protocol.specs.declared.error.ProtocolError.{ProtocolError}
 use Rattle.protocol.specs.declared.check.Check.{Check}
 use Rattle.protocol.specs.declared.check.Check.the-variants.{Passed, Failed}
-use Rattle.protocol.proofs.Hold.{passed-hold, hold-passed, failed-first, first-failed, hold-split}
+use Rattle.protocol.proofs.Hold.{passed-hold, hold-passed, hold-split}
+use Rattle.protocol.proofs.Answers.{answer-accepts, answer-refuses}
 use Rattle.account_state.specs.Reading.{stateBytes, lengthOf, slotOf, keyLengthOf, entryOf, entriesOf, stateReading, slotsOf, StateTyped}
 use Rattle.account_state.specs.State.{stateRows, stateFault, headerOf, summaryOf, stateAnswer, readState, entryRows, entriesRows, entryAt, firstEntry, cursorBehind, stepAnswer, entryStep, entryGiven, Steps, headRows, tailRows, layoutRows, headerAnswer, readHeader, HeaderGives}
 use Rattle.account_state.specs.declared.header.StateHeader.{StateHeader}
@@ -27,27 +28,26 @@ use Rattle.account_state.specs.declared.StateAnswer.the-variants.{Valid,
 use Rattle.account_state.proofs.Inverse.{state-back, state-typed, length-entries, parts}
 use Rattle.account_state.proofs.Unique.{state-read}
 
-valid-passed : (k : Check) (h g : StateHeader) (t u : StateSummary) → stateAnswer k h t ≡ Valid g u → k ≡ Passed
-unfolding stateAnswer
-valid-passed Passed h g t u e = refl
-valid-passed (Failed x) h g t u e = absurd (let z : _≡_ {A = ℕ} 0 1 = cc in omega arith)
+-- what the checks found, by the answer
+abbrev stateFound : StateAnswer → Check
+stateFound (Valid h t) = Passed
+stateFound (Refused e) = Failed e
 
-refused-failed : (k : Check) (h : StateHeader) (t : StateSummary) (e : ProtocolError) → stateAnswer k h t ≡ Refused e → k ≡ Failed e
+-- which is what it was made from
+state-found : (h : StateHeader) (t : StateSummary) (k : Check) → stateFound (stateAnswer k h t) ≡ k
 unfolding stateAnswer
-refused-failed Passed h t e q = absurd (let z : _≡_ {A = ℕ} 0 1 = cc in omega arith)
-refused-failed (Failed x) h t e q = cc
+state-found h t Passed = refl
+state-found h t (Failed e) = refl
 
 -- accepted exactly where every check passes
 pub reader-accepts : (s : List ℕ) → (readState s ≡ Valid (headerOf s) (summaryOf (stateReading s .entries))) ↔ Hold (stateRows s)
 unfolding readState stateFault stateAnswer stateReading
-reader-accepts s =
-    (λ e. passed-hold (stateRows s) (valid-passed (decide Passed (stateRows s)) (headerOf s) (headerOf s) _ _ e), λ h. rw (hold-passed (stateRows s) h))
+reader-accepts s = answer-accepts (λ k. stateAnswer k (headerOf s) _) stateFound (state-found (headerOf s) _) (stateRows s)
 
 -- refused exactly with the first check that fails
 pub reader-refuses : (s : List ℕ) (e : ProtocolError) → (readState s ≡ Refused e) ↔ First (stateRows s) e
 unfolding readState stateFault stateAnswer
-reader-refuses s e =
-    (λ q. failed-first (stateRows s) e (refused-failed (decide Passed (stateRows s)) (headerOf s) _ e q), λ f. rw (first-failed (stateRows s) e f))
+reader-refuses s e = answer-refuses (λ k. stateAnswer k (headerOf s) _) stateFound (state-found (headerOf s) _) (stateRows s) e
 
 -- the one reading
 pub state-one : (s : List ℕ) → Bytes s → Hold (stateRows s) → OneReading StateTyped stateBytes s (stateReading s)
@@ -133,8 +133,9 @@ state-steps s b h = steps-from s (numberAt s 22 1) 32 0 (parts s b h .1 .0)
 -- what an answer says of the checks
 pub valid-fault : (s : List ℕ) (h : StateHeader) (t : StateSummary) → readState s ≡ Valid h t → stateFault s ≡ Passed
 unfolding readState
-valid-fault s h t e = valid-passed _ _ _ _ _ e
+valid-fault s h t e = sym (state-found _ _ (stateFault s)) ∙ ap stateFound e
 
+-- likewise of a refusal
 pub refused-fault : (s : List ℕ) (x : ProtocolError) → readState s ≡ Refused x → stateFault s ≡ Failed x
 unfolding readState
-refused-fault s x e = refused-failed _ _ _ x e
+refused-fault s x e = sym (state-found _ _ (stateFault s)) ∙ ap stateFound e

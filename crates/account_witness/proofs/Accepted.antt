@@ -11,7 +11,7 @@ use Rattle.protocol.specs.declared.error.ProtocolError.{ProtocolError}
 use Rattle.protocol.specs.declared.error.ProtocolError.the-variants.{InvalidWitness}
 use Rattle.protocol.specs.declared.check.Check.{Check}
 use Rattle.protocol.specs.declared.check.Check.the-variants.{Passed, Failed}
-use Rattle.protocol.proofs.Hold.{passed-hold, hold-passed, failed-first}
+use Rattle.protocol.proofs.Answers.{answer-accepts, answer-refuses}
 use Rattle.account_witness.specs.declared.header.AccountWitnessHeader.{AccountWitnessHeader}
 use Rattle.account_witness.specs.declared.header.WitnessHeaderAnswer.{WitnessHeaderAnswer}
 use Rattle.account_witness.specs.declared.header.WitnessHeaderAnswer.the-variants as header
@@ -30,15 +30,18 @@ abbrev Only22 : List Row → Type 0
 Only22 [] = Unit {0}
 Only22 (r ∷ rs) = (r .error ≡ InvalidWitness) × Only22 rs
 
+-- so it is for two lists one after another
 only-append : (ps qs : List Row) → Only22 ps → Only22 qs → Only22 (ps ++ qs)
 only-append [] qs h k = k
 only-append (p ∷ ps) qs h k = (h .0, only-append ps qs (h .1) k)
 
+-- and so is the first refusal
 only-first : (rs : List Row) (e : ProtocolError) → Only22 rs → First rs e → errorNumber e ≡ 22
 only-first [] e h f = absurd f
 only-first (r ∷ rs) e h (inl f) = ap errorNumber (sym (f .1) ∙ h .0)
 only-first (r ∷ rs) e h (inr p) = only-first rs e (h .1) (p .1)
 
+-- the rows of the header, of a proof, of the proofs, and all
 header-only : (s : List ℕ) → Only22 (headerRows s)
 unfolding headerRows
 header-only s = (refl, (refl, (refl, (refl, (refl, (refl, tt))))))
@@ -56,70 +59,82 @@ witness-only : (s : List ℕ) → Only22 (witnessRows s)
 unfolding witnessRows
 witness-only s = only-append (headerRows s) _ (header-only s) (refl, proofs-only s (numberAt s 6 1) 16 0)
 
--- an answer f, from which g takes what the checks found, accepts where every row passes, and refuses as the first that fails
-module _ {A : Type 0} (f : Check → A) (g : A → Check) (back : (k : Check) → g (f k) ≡ k) where
-  accepted-by : (rs : List Row) → (f (decide Passed rs) ≡ f Passed) ↔ Hold rs
-  accepted-by rs = (λ h. passed-hold rs (sym (back _) ∙ (ap g h ∙ back Passed)), λ h. ap f (hold-passed rs h))
+-- a refusal that says which row failed first, where every row's is 22
+refused-22 : (rs : List Row) (e : ProtocolError) → Only22 rs → First rs e → First rs e × (errorNumber e ≡ 22)
+refused-22 rs e o f = (f, only-first rs e o f)
 
-  refused-by : (rs : List Row) (e : ProtocolError) → Only22 rs → f (decide Passed rs) ≡ f (Failed e) → First rs e × (errorNumber e ≡ 22)
-  refused-by rs e o h =
-      let x = failed-first rs e (sym (back _) ∙ (ap g h ∙ back (Failed e))) in
-      (x, only-first rs e o x)
+-- the header: what the checks found, by the answer
+abbrev pub headerFound : WitnessHeaderAnswer → Check
+headerFound (header.Header h) = Passed
+headerFound (header.Refused e) = Failed e
 
--- the header
-abbrev header-check : WitnessHeaderAnswer → Check
-header-check (header.Header h) = Passed
-header-check (header.Refused e) = Failed e
-
-header-back : (h : AccountWitnessHeader) (k : Check) → header-check (headerAnswer k h) ≡ k
+-- which is what it was made from
+header-back : (h : AccountWitnessHeader) (k : Check) → headerFound (headerAnswer k h) ≡ k
 unfolding headerAnswer
 header-back h Passed = refl
 header-back h (Failed e) = refl
 
+-- so the reader's answer tells what the rows find
+pub header-found : (s : List ℕ) → headerFound (readHeader s) ≡ decide Passed (headerRows s)
+unfolding readHeader headerFault
+header-found s = header-back (headerAt s) (decide Passed (headerRows s))
+
+-- accepted exactly where every row passes
 pub header-accepted : (s : List ℕ) → (readHeader s ≡ header.Header (headerAt s)) ↔ Hold (headerRows s)
 unfolding readHeader headerFault headerAnswer
-header-accepted s = accepted-by (λ k. headerAnswer k (headerAt s)) header-check (header-back (headerAt s)) (headerRows s)
+header-accepted s = answer-accepts (λ k. headerAnswer k (headerAt s)) headerFound (header-back (headerAt s)) (headerRows s)
 
+-- refused with the first that fails, which is 22
 pub header-refused : (s : List ℕ) (e : ProtocolError) → readHeader s ≡ header.Refused e → First (headerRows s) e × (errorNumber e ≡ 22)
 unfolding readHeader headerFault headerAnswer
-header-refused s e h = refused-by (λ k. headerAnswer k (headerAt s)) header-check (header-back (headerAt s)) (headerRows s) e (header-only s) h
+header-refused s e h =
+    refused-22 (headerRows s) e (header-only s) (answer-refuses (λ k. headerAnswer k (headerAt s)) headerFound (header-back (headerAt s)) (headerRows s) e .0 h)
 
--- a step
-abbrev step-check : ProofStep → Check
-step-check (step.Next p c) = Passed
-step-check (step.Refused e) = Failed e
+-- a step, likewise
+abbrev pub stepFound : ProofStep → Check
+stepFound (step.Next p c) = Passed
+stepFound (step.Refused e) = Failed e
 
-step-back : (p : Proof) (c : ProofCursor) (k : Check) → step-check (stepAnswer k p c) ≡ k
+-- which is what it was made from
+pub step-back : (p : Proof) (c : ProofCursor) (k : Check) → stepFound (stepAnswer k p c) ≡ k
 unfolding stepAnswer
 step-back p c Passed = refl
 step-back p c (Failed e) = refl
 
 module _ (s : List ℕ) (c : ProofCursor) where
-  abbrev answer : Check → ProofStep
-  answer k = stepAnswer k (proofAt s (c .offset)) (cursorBehind s (c .offset))
+  -- by what its checks found
+  abbrev pub stepBy : Check → ProofStep
+  stepBy k = stepAnswer k (proofAt s (c .offset)) (cursorBehind s (c .offset))
 
+  -- accepted exactly where every row passes
   pub step-accepted : (proofStep s c ≡ step.Next (proofAt s (c .offset)) (cursorBehind s (c .offset))) ↔ Hold (proofRows s (c .offset) (c .least))
   unfolding proofStep stepAnswer
-  step-accepted = accepted-by answer step-check (step-back _ _) (proofRows s (c .offset) (c .least))
+  step-accepted = answer-accepts stepBy stepFound (step-back _ _) (proofRows s (c .offset) (c .least))
 
+  -- refused with the first that fails, which is 22
   pub step-refusal : (e : ProtocolError) → proofStep s c ≡ step.Refused e → First (proofRows s (c .offset) (c .least)) e × (errorNumber e ≡ 22)
   unfolding proofStep stepAnswer
-  step-refusal e h = refused-by answer step-check (step-back _ _) (proofRows s (c .offset) (c .least)) e (proof-only s (c .offset) (c .least)) h
+  step-refusal e h =
+      refused-22 (proofRows s (c .offset) (c .least)) e (proof-only s (c .offset) (c .least)) (answer-refuses stepBy stepFound (step-back _ _) (proofRows s (c .offset) (c .least)) e .0 h)
 
--- the whole
-abbrev witness-check : WitnessAnswer → Check
-witness-check (witness.Witness h) = Passed
-witness-check (witness.Refused e) = Failed e
+-- the whole, likewise
+abbrev witnessFound : WitnessAnswer → Check
+witnessFound (witness.Witness h) = Passed
+witnessFound (witness.Refused e) = Failed e
 
-witness-back : (h : AccountWitnessHeader) (k : Check) → witness-check (witnessAnswer k h) ≡ k
+-- which is what it was made from
+witness-back : (h : AccountWitnessHeader) (k : Check) → witnessFound (witnessAnswer k h) ≡ k
 unfolding witnessAnswer
 witness-back h Passed = refl
 witness-back h (Failed e) = refl
 
+-- accepted exactly where every row passes
 pub witness-accepted : (s : List ℕ) → (readWitness s ≡ witness.Witness (headerAt s)) ↔ Hold (witnessRows s)
 unfolding readWitness witnessFault witnessAnswer
-witness-accepted s = accepted-by (λ k. witnessAnswer k (headerAt s)) witness-check (witness-back (headerAt s)) (witnessRows s)
+witness-accepted s = answer-accepts (λ k. witnessAnswer k (headerAt s)) witnessFound (witness-back (headerAt s)) (witnessRows s)
 
+-- refused with the first that fails, which is 22
 pub witness-refused : (s : List ℕ) (e : ProtocolError) → readWitness s ≡ witness.Refused e → First (witnessRows s) e × (errorNumber e ≡ 22)
 unfolding readWitness witnessFault witnessAnswer
-witness-refused s e h = refused-by (λ k. witnessAnswer k (headerAt s)) witness-check (witness-back (headerAt s)) (witnessRows s) e (witness-only s) h
+witness-refused s e h =
+    refused-22 (witnessRows s) e (witness-only s) (answer-refuses (λ k. witnessAnswer k (headerAt s)) witnessFound (witness-back (headerAt s)) (witnessRows s) e .0 h)

@@ -15,10 +15,12 @@ use Rattle.protocol.specs.declared.error.ProtocolError.the-variants.{InvalidWit
 use Rattle.protocol.specs.declared.check.Check.{Check}
 use Rattle.protocol.specs.declared.check.Check.the-variants.{Passed, Failed}
 use Rattle.protocol.proofs.Hold.{decide-append, decide-failed}
+use Rattle.protocol.proofs.Answers.{answer-found, answer-given}
 use Rattle.account_witness.specs.declared.walk.Proof.{Proof}
 use Rattle.account_witness.specs.declared.walk.ProofCursor.{ProofCursor}
 use Rattle.account_witness.specs.declared.walk.ProofStep.the-variants.{Next, Refused}
 use Rattle.account_witness.specs.Walk.{proofRows, proofAt, cursorBehind, stepAnswer, proofStep, proofsRows}
+use Rattle.account_witness.proofs.Accepted.{stepFound, step-back, stepBy}
 
 -- a row that passes decides nothing
 pub row-passed : (b : Bool) (e : ProtocolError) → b ≡ true → Passed ▷ row b e ≡ Passed
@@ -42,27 +44,20 @@ proof-holds s off least h =
       above = leb-true _ _ (h .1 .1 .1 .1 .0);
     }
 
-answer-next : (k : Check) (p q : Proof) (c d : ProofCursor) → stepAnswer k p c ≡ Next q d → (k ≡ Passed) × (p ≡ q) × (c ≡ d)
-unfolding stepAnswer
-answer-next Passed p q c d h = (refl, cc, cc)
-answer-next (Failed e) p q c d h = absurd (let z : _≡_ {A = ℕ} 0 1 = cc in omega arith)
-
-answer-refused : (k : Check) (p : Proof) (c : ProofCursor) (e : ProtocolError) → stepAnswer k p c ≡ Refused e → k ≡ Failed e
-unfolding stepAnswer
-answer-refused Passed p c e h = absurd (let z : _≡_ {A = ℕ} 0 1 = cc in omega arith)
-answer-refused (Failed x) p c e h = cc
-
 -- a step that goes on: every row of the proof passed, and the cursor is behind it
 pub step-next : (s : List ℕ) (c : ProofCursor) (p : Proof) (d : ProofCursor) → proofStep s c ≡ Next p d
     → (decide Passed (proofRows s (c .offset) (c .least)) ≡ Passed) × (proofAt s (c .offset) ≡ p) × (cursorBehind s (c .offset) ≡ d)
-unfolding proofStep
-step-next s c p d h = answer-next _ _ _ _ _ h
+unfolding proofStep stepAnswer
+step-next s c p d h =
+    let z = answer-given (stepBy s c) stepFound (step-back _ _) (decide Passed (proofRows s (c .offset) (c .least))) (Next p d) h refl in
+    let e : Next (proofAt s (c .offset)) (cursorBehind s (c .offset)) ≡ Next p d = z .1 in
+    (z .0, cc, cc)
 
 -- a step that does not: the refusal of the rows
 pub step-refused : (s : List ℕ) (c : ProofCursor) (e : ProtocolError) → proofStep s c ≡ Refused e
     → decide Passed (proofRows s (c .offset) (c .least)) ≡ Failed e
-unfolding proofStep
-step-refused s c e h = answer-refused _ _ _ _ h
+unfolding proofStep stepAnswer
+step-refused s c e h = answer-found (stepBy s c) stepFound (step-back _ _) _ (Failed e) h
 
 -- a proof's rows, and then those of the proofs behind it
 pub walk-more : (s : List ℕ) (left off least : ℕ) → 0 < left

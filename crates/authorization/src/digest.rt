@@ -2,6 +2,7 @@
 use crate::number::u64_bytes;
 use blake2b::Blake2b;
 use blake2b::ckb_hash;
+use protocol::AUTH_DOMAIN;
 use protocol::Check;
 use protocol::ProtocolError;
 use protocol::is_operation;
@@ -22,7 +23,7 @@ fn feed_head(operation: u8, account: [u8; 32], sequence: u64) -> Blake2b
     let byte = [operation];
     let number = u64_bytes(sequence);
     Blake2b::new()
-        .update(b"CKB_ACCOUNT_LOCK_V1")
+        .update(&AUTH_DOMAIN)
         .update(&byte)
         .update(&account)
         .update(&number)

@@ -5,7 +5,7 @@ use account_lock::refused;
 use answer_line::answer_line;
 use protocol::Check;
 use protocol::ProtocolError;
-use protocol::error_number;
+use protocol::check_number;
 use scene_reader::read_scene;
 ghost use mathlib.Core.Path.{_≡_};
 ghost use Prim.Native.Nat.{_≤_};
@@ -36,15 +36,6 @@ pub fn decide_scene(
     match read_scene(scene, store, table) {
         Check::Failed(error) => refused(error),
         Check::Passed => lock(table, store, answer),
-    }
-}
-
-fn check_number(found: Check) -> u8
-    ensures { λ r. ⌜ r ≡ checkNumber found ⌝ }
-{
-    match found {
-        Check::Failed(error) => error_number(error),
-        Check::Passed => 0,
     }
 }
 

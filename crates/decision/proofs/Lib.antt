@@ -1,4 +1,3 @@
-pub mod KeyField
 pub mod Quorum
 pub mod Listed
 pub mod DecisionTheorem

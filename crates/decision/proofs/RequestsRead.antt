@@ -9,13 +9,14 @@ use lib.Dec.{eqb}
 use lib.ListN.{length, drop}
 use borrow.Author.Tests.{eqb-true}
 use Rattle.octets.specs.Le.{Bytes, numberAt}
+use Rattle.octets.specs.Lists.{arrayOf}
+use Rattle.octets.proofs.Arrays.{array-whole}
 use Rattle.octets.proofs.LeLaws.{bytes-drop, bytes-take}
 use Rattle.protocol.specs.Policy.{isOperation, capabilityFor}
 use Rattle.protocol.specs.Rows.{Hold}
 use Rattle.account_state.specs.Reading.{EntryReading, entryOf, entriesOf, lengthOf, keyLengthOf, auxLengthOf, stateReading, EntriesTyped}
 use Rattle.account_state.specs.State.{stateRows}
 use Rattle.account_state.proofs.Inverse.{Keys, state-typed, state-keys}
-use Rattle.decision.proofs.KeyField.{key-kept}
 use Rattle.account_witness.specs.Reading.{ProofReading}
 use Rattle.verifier_request.specs.Reading.{RequestTyped}
 use Rattle.verifier_request.specs.Writer as writer
@@ -82,10 +83,10 @@ request-read c used p f h =
       operation = o .1;
       profile = z .0 .aux 0;
       digest = f .digest;
-      key = rw (key-kept (entryFor (p .slot) (c .entries) .key) (z .0 .key)) (z .0 .key);
+      key = rw (array-whole 32 (entryFor (p .slot) (c .entries) .key) (z .0 .key)) (z .0 .key);
     } in
     let y = request-accepted r t (o .0, (h .1 .1 .1 .1 .1 .0, (h .1 .1 .1 .0, tt))) in
-    record { accepted = y .0; reading = y .1; key = key-kept (e .key) (z .0 .key) }
+    record { accepted = y .0; reading = y .1; key = array-whole 32 (e .key) (z .0 .key) }
 
 -- where each proof's rows pass, each one's request is
 pub requests-read : (c : Setting) (i used : ℕ) (ps : List ProofReading) → SettingFits c → EachPasses c i used ps → RequestsRead c ps

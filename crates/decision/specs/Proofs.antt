@@ -2,10 +2,10 @@
 use Prim.Native.Nat.{ℕ, _+_, _-_}
 use mathlib.Core.Bool.{Bool, true, false, cond}
 use mathlib.Core.List.{List, [], _∷_, _++_}
-use lib.ListN.{length, getD, drop, replicate}
-use lib.Seq.{sets}
+use lib.ListN.{length, getD, drop}
 use lib.Dec.{eqb, leb}
 use Rattle.octets.specs.Le.{numberAt}
+use Rattle.octets.specs.Lists.{arrayOf}
 use Rattle.protocol.specs.Policy.{capabilityFor, hasCapability}
 use Rattle.protocol.specs.Rows.{Row, row}
 use Rattle.protocol.specs.declared.error.ProtocolError.the-variants.{InvalidWitness, InvalidCapability, InvalidVerifierRef, InvalidRequest, LengthOverflow, BufferTooShort}
@@ -103,15 +103,11 @@ proofRows c used p =
     row (known (p .slot) (c .entries)) InvalidWitness
     ∷ entryRows (c .operation) (c .deps) (entryFor (p .slot) (c .entries)) (length (p .bytes)) (c .room - used)
 
--- 01, Request: "digest, key (32 bytes each)": a key in its field of 32 bytes. A state that passed its rows has keys of 32 bytes, and
--- they stand there as they are
-unfoldable pub keyField : List ℕ → List ℕ
-keyField key = sets (replicate 32 0) 0 key
-
--- the request: its profile is the first byte of aux
+-- the request: its profile is the first byte of aux. 01, Request: "digest, key (32 bytes each)": a key in its field of 32 bytes. A
+-- state that passed its rows has keys of 32 bytes, and they stand there as they are
 unfoldable pub requestReading : ℕ → List ℕ → EntryReading → ProofReading → RequestReading
 requestReading operation digest e p =
-    reading (e .algorithm) (p .slot) operation (getD (e .aux) 0 0) digest (keyField (e .key)) (e .aux) (p .bytes)
+    reading (e .algorithm) (p .slot) operation (getD (e .aux) 0 0) digest (arrayOf 32 (e .key)) (e .aux) (p .bytes)
 
 unfoldable pub requestOf : Setting → ProofReading → List ℕ
 requestOf c p = requestBytes (requestReading (c .operation) (c .digest) (entryFor (p .slot) (c .entries)) p)

@@ -3,12 +3,13 @@ use mathlib.Core.Path.{_≡_}
 use mathlib.Core.List.{List, [], _∷_}
 use lib.ListN.{length}
 use Rattle.octets.specs.Le.{Bytes}
+use Rattle.octets.specs.Lists.{arrayOf}
 use Rattle.protocol.specs.Rows.{Hold}
 use Rattle.account_state.specs.Reading.{EntryReading, EntryTyped}
 use Rattle.account_witness.specs.Reading.{ProofReading}
 use Rattle.verifier_request.specs.Reader.{requestRows}
 use Rattle.verifier_request.specs.Reading as request
-use Rattle.decision.specs.Proofs.{Setting, entryFor, keyField, requestReading, requestOf}
+use Rattle.decision.specs.Proofs.{Setting, entryFor, requestReading, requestOf}
 
 -- an entry as an accepted state has it: of its types, with a key of 32 bytes, and with bytes in aux
 pub record EntryFits (e : EntryReading) : Type 0 where
@@ -30,7 +31,7 @@ pub record RequestRead (c : Setting) (p : ProofReading) : Type 0 where
   pub accepted : Hold (requestRows (requestOf c p))
   pub reading : request.requestReading (requestOf c p) ≡ requestReading (c .operation) (c .digest) (entryFor (p .slot) (c .entries)) p
   -- its key is the entry's
-  pub key : keyField (entryFor (p .slot) (c .entries) .key) ≡ entryFor (p .slot) (c .entries) .key
+  pub key : arrayOf 32 (entryFor (p .slot) (c .entries) .key) ≡ entryFor (p .slot) (c .entries) .key
 
 -- so each one's; 01: "its proof's place in the witness lock, which is its place in the answer too"
 abbrev pub RequestsRead : Setting → List ProofReading → Type 0

@@ -2,8 +2,7 @@
 use Prim.Native.Nat.{ℕ}
 use mathlib.Core.List.{List, [], _∷_}
 use lib.Dec.{eqb}
-use lib.ListN.{length, replicate}
-use lib.Seq.{sets}
+use lib.ListN.{length}
 use Rattle.protocol.specs.Rows.{Row, row, decide}
 use Rattle.protocol.specs.declared.error.ProtocolError.the-variants.{SlicesDisagree}
 use Rattle.protocol.specs.declared.check.Check.{Check}
@@ -16,7 +15,3 @@ sizeRow s = row (eqb (length s) 32) SlicesDisagree
 -- two of them
 unfoldable pub sizesFault : List ℕ → List ℕ → Check
 sizesFault a b = decide Passed (sizeRow a ∷ sizeRow b ∷ [])
-
--- the slice's bytes over 32 zeros: its first 32 bytes, and zeros where it has fewer
-unfoldable pub arrayOf : List ℕ → List ℕ
-arrayOf s = sets (replicate 32 0) 0 s

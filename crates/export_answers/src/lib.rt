@@ -3,8 +3,6 @@ mod lent; // lent.rt
 mod words; // words.rt
 mod numbers; // numbers.rt
 
-pub use self::lent::array_32;
 pub use self::lent::check_sizes;
-pub use self::numbers::check_number;
 pub use self::numbers::written;
 pub use self::words::store_words;

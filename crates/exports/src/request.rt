@@ -1,8 +1,8 @@
 // The verifier request.
-use export_answers::array_32;
 use export_answers::check_sizes;
 use export_answers::store_words;
 use export_answers::written;
+use octets::array_32;
 use protocol::Check;
 use protocol::WriteAnswer;
 use protocol::error_number;

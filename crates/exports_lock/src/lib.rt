@@ -2,9 +2,9 @@
 use account_lock::LockAnswer;
 use account_lock::lock;
 use decide_scene::decide_scene;
-use export_answers::check_number;
 use export_answers::store_words;
 use octets::store_bytes;
+use protocol::check_number;
 ghost use mathlib.Core.Path.{_≡_};
 ghost use lib.ListN.{length};
 ghost use Rattle.protocol.specs.Rows.{checkNumber};
@@ -44,7 +44,7 @@ pub extern "C" fn fowlcredenza_lock(
     let locked = lock(table, store, answer);
     let found = locked.found;
     store_answer(locked, out);
-    check_number(found)
+    check_number(found) as u32
 }
 
 // Reads a scene into the store and the table, and decides it as `fowlcredenza_lock` does.
@@ -65,5 +65,5 @@ pub extern "C" fn fowlcredenza_decide_scene(
     let read = decide_scene(scene, store, table, answer);
     let found = read.found;
     store_answer(read, out);
-    check_number(found)
+    check_number(found) as u32
 }

@@ -1,5 +1,5 @@
 // The scene reader and the table's test for programs in other languages.
-use export_answers::check_number;
+use protocol::check_number;
 ghost use mathlib.Core.Path.{_≡_};
 ghost use mathlib.Core.Bool.{cond};
 ghost use lib.ListN.{length};
@@ -14,7 +14,7 @@ pub extern "C" fn fowlcredenza_read_scene(scene: &[u8], store: &mut [u8], table:
     ensures { λ _. ⌜ now (store .exit) ≡ storeOf (length (now (store .entry))) (readOf (now (scene .entry)) (length (now (store .entry))) (length (now (table .entry)))) ⌝ }
     ensures { λ _. ⌜ now (table .exit) ≡ tableOf (length (now (table .entry))) (readOf (now (scene .entry)) (length (now (store .entry))) (length (now (table .entry)))) ⌝ }
 {
-    check_number(scene_reader::read_scene(scene, store, table))
+    check_number(scene_reader::read_scene(scene, store, table)) as u32
 }
 
 // 1 where a scene leaves this table with a store of that many bytes, else 0.

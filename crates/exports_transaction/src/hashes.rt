@@ -2,8 +2,8 @@
 use authorization::AuthorizationDigest;
 use authorization::authorization_digest;
 use authorization::sighash;
-use export_answers::array_32;
 use export_answers::check_sizes;
+use octets::array_32;
 use octets::store_bytes;
 use protocol::Check;
 use protocol::error_number;

@@ -1,2 +1,1 @@
 pub mod HashedLaws
-pub mod Answers

@@ -9,7 +9,7 @@ use Rattle.octets.specs.Lists.{both}
 use Rattle.scene_table.specs.Scene.{Input}
 use Rattle.scene_table.specs.Lent.{entryAt, lentScene}
 use Rattle.scene_table.specs.Places.{inputGroup, witnessPlace}
-use Rattle.molecule.specs.Bytes.{bytesAt}
+use Rattle.octets.specs.Places.{bytesAt}
 use Rattle.group_sighash.specs.Witnesses.{groupWitnesses, otherWitnesses}
 
 -- the witnesses of the group, and all those behind the inputs

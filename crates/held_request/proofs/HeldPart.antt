@@ -39,17 +39,17 @@ use denote.Triple.Spec.{Meets}
 use denote.Exit.{yes}
 use denote.Triple.Table.{cited}
 use denote.Triple.Clauses.{closing}
-use Rattle.held_request.specs.declared.places.Place.{Place}
-use Rattle.held_request.proofs.places.Place as P
-use Rattle.held_request.proofs.places.Place.Laws as P′
-use Rattle.held_request.specs.Held.{partAt}
+use Rattle.octets.specs.declared.place.Place.{Place}
+use Rattle.octets.specs.Places.{bytesAt}
+use Rattle.octets.proofs.place.Place as P
+use Rattle.octets.proofs.place.Place.Laws as P′
+use Rattle.octets.proofs.part_at.Symbol as part-def
+use Rattle.octets.proofs.part_at.Symbol.{name as #part}
+use Rattle.octets.proofs.part_at.Met as part-thm
 use Rattle.held_request.specs.declared.places.RequestPlaces.{RequestPlaces}
 use Rattle.held_request.specs.declared.VerifierRequest.{VerifierRequest}
 use Rattle.held_request.proofs.VerifierRequest as T
 use Rattle.held_request.proofs.VerifierRequest.Laws as T′
-use Rattle.held_request.proofs.places.part_at.Symbol as part-def
-use Rattle.held_request.proofs.places.part_at.Symbol.{name as #part}
-use Rattle.held_request.proofs.places.part_at.Met as part-thm
 use Rattle.held_request.proofs.Calls.{Fun1, Fact1, Stated, calls-stated}
 use Rattle.held_request.proofs.Held.{B, Takes, Taken, Said, Says, At, inner, field-typed, becomes, mach, Entry, Post, exits, taken}
 
@@ -70,7 +70,7 @@ abbrev R : Slot 1
 R = SliceRefOf (0 ∷ []) tt (plain (λ κs. u8)) (λ κs. tt)
 
 abbrev pub PartOf : (RequestPlaces → Place) → Said R
-PartOf π d κs r = now r ≡ partAt (now (d .request)) (π (d .places))
+PartOf π d κs r = now r ≡ bytesAt (now (d .request)) (π (d .places))
 
 -- what a place owns follows from its machine value's type
 place-is : (p : Place) → WT (P′.lowered p) → Is P.the-row p (P′.lowered p ∷ [])
@@ -81,7 +81,7 @@ abbrev ps : List (Slot 1)
 ps = R ∷ plain (λ κs. P.the-row) ∷ []
 
 abbrev Found : Fact1 ps R
-Found κs a r = now r ≡ partAt (now (a .0)) (a .1 .0)
+Found κs a r = now r ≡ bytesAt (now (a .0)) (a .1 .0)
 
 module _ {M : Type 1} (𝓤 : URA M) (H : Heap 𝓤) (A : Atoms 𝓤) (W : Given 𝓤 H A) (k : ℕ) (π : RequestPlaces → Place)
     (at : At P′.mir k (λ f. P′.lowered (π f))) where

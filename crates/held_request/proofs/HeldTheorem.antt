@@ -5,18 +5,16 @@ use mathlib.Core.Path.{_≡_, refl, sym, _∙_}
 use mathlib.Core.Bool.{true, and-eq-true-iff}
 use mathlib.Core.List.{List}
 use mathlib.Core.Logic.{_↔_}
-use Prim.Native.Nat.{ℕ, _≤_}
-use native.Mathlib.Omega.{arith}
-use borrow.Author.Tests.{leb-true, eq-eqb, eqb-true}
-use lib.Dec.{eqb, leb}
+use Prim.Native.Nat.{ℕ}
+use borrow.Author.Tests.{eq-eqb, eqb-true}
+use lib.Dec.{eqb}
 use Rattle.octets.specs.Le.{Bytes}
 use Rattle.octets.specs.Lists.{same}
+use Rattle.octets.specs.Places.{bytesAt}
 use Rattle.octets.proofs.Same.{same-eq, eq-same}
-use Rattle.protocol.specs.Errors.{errorNumber}
 use Rattle.protocol.specs.Rows.{Hold}
 use Rattle.protocol.specs.Reading.{OneReading, WritesBack}
-use Rattle.protocol.specs.declared.error.ProtocolError.{ProtocolError}
-use Rattle.protocol.specs.declared.error.ProtocolError.the-variants.{SceneTooLong, InvalidLine, InvalidField, TooManyLines, BufferTooShort, StoreTooShort, SlicesDisagree, InvalidArgs, InvalidState, InvalidWitness, StateNotFound, DuplicateState, StateConsumedOnSpend, InvalidTransition, InvalidSequence, ThresholdUnsatisfied, InvalidCapability, InvalidVerifierRef, VerifierFailure, UnsupportedVersion, UnsupportedAlgorithm, RecoveryLocked, InvalidRequest, InvalidProof, InvalidOperation, UnsatisfiableThreshold, LengthOverflow}
+use Rattle.protocol.proofs.ErrorNumbers.{not-0}
 use Rattle.verifier_request.specs.declared.reader.RequestFields.{RequestFields}
 use Rattle.verifier_request.specs.declared.reader.RequestAnswer.{RequestAnswer}
 use Rattle.verifier_request.specs.declared.reader.RequestAnswer.the-variants.{Request, Refused}
@@ -25,42 +23,7 @@ use Rattle.verifier_request.specs.Reading.{RequestTyped, readingOf, requestRead
 use Rattle.verifier_request.specs.Writer.{requestWritten, requestStored}
 use Rattle.verifier_request.proofs.RequestTheorem.{reader-accepts, request-given, request-theorem}
 use Rattle.held_request.specs.declared.places.RequestPlaces.{RequestPlaces}
-use Rattle.held_request.specs.Held.{partAt, placesOf, heldReading, isFor}
-
--- no refusal has the number 0
-numbered : (e : ProtocolError) → leb 1 (errorNumber e) ≡ true
-numbered SceneTooLong = refl
-numbered InvalidLine = refl
-numbered InvalidField = refl
-numbered TooManyLines = refl
-numbered BufferTooShort = refl
-numbered StoreTooShort = refl
-numbered SlicesDisagree = refl
-numbered InvalidArgs = refl
-numbered InvalidState = refl
-numbered InvalidWitness = refl
-numbered StateNotFound = refl
-numbered DuplicateState = refl
-numbered StateConsumedOnSpend = refl
-numbered InvalidTransition = refl
-numbered InvalidSequence = refl
-numbered ThresholdUnsatisfied = refl
-numbered InvalidCapability = refl
-numbered InvalidVerifierRef = refl
-numbered VerifierFailure = refl
-numbered UnsupportedVersion = refl
-numbered UnsupportedAlgorithm = refl
-numbered RecoveryLocked = refl
-numbered InvalidRequest = refl
-numbered InvalidProof = refl
-numbered InvalidOperation = refl
-numbered UnsatisfiableThreshold = refl
-numbered LengthOverflow = refl
-
-not-0 : (e : ProtocolError) → errorNumber e ≡ 0 → ⊥
-not-0 e z =
-    let n : 1 ≤ errorNumber e = leb-true _ _ (numbered e) in
-    omega arith
+use Rattle.held_request.specs.Held.{placesOf, heldReading, isFor}
 
 -- what was found in s
 abbrev found : List ℕ → RequestPlaces
@@ -68,7 +31,7 @@ found s = placesOf (readRequest s)
 
 -- the functions hand out what the fields of the answer say
 held-given : (s : List ℕ) (f : RequestFields) → readRequest s ≡ Request f → heldReading s (found s) ≡ readingOf s f
-unfolding placesOf heldReading partAt readingOf
+unfolding placesOf heldReading bytesAt readingOf
 held-given s f e = rw e
 
 -- an answer that is not refused has fields
@@ -91,8 +54,8 @@ held-theorem s b z =
     rw (held-given s (fieldsAt s) e) (request-theorem s (fieldsAt s) b e)
 
 -- the digest handed out is the reading's
-held-digest : (s : List ℕ) → Hold (requestRows s) → partAt s (found s .«authorization_digest») ≡ requestReading s .digest
-unfolding placesOf partAt requestReading readingOf
+held-digest : (s : List ℕ) → Hold (requestRows s) → bytesAt s (found s .«authorization_digest») ≡ requestReading s .digest
+unfolding placesOf bytesAt requestReading readingOf
 held-digest s h = rw (reader-accepts s .1 h)
 
 -- a request for this digest: every check passes, and its reading has the digest
@@ -100,10 +63,10 @@ pub for-theorem : (s digest : List ℕ) → (isFor s digest ≡ true) ↔ (Hold 
 unfolding isFor
 for-theorem s digest = (
   λ t.
-      let p = and-eq-true-iff (eqb (found s .refusal) 0) (same (partAt s (found s .«authorization_digest»)) digest) .0 t in
+      let p = and-eq-true-iff (eqb (found s .refusal) 0) (same (bytesAt s (found s .«authorization_digest»)) digest) .0 t in
       let h = held-accepts s .0 (eqb-true _ _ (p .0)) in
       (h, sym (held-digest s h) ∙ same-eq _ _ (p .1)),
   λ p.
-      and-eq-true-iff (eqb (found s .refusal) 0) (same (partAt s (found s .«authorization_digest»)) digest) .1
+      and-eq-true-iff (eqb (found s .refusal) 0) (same (bytesAt s (found s .«authorization_digest»)) digest) .1
       (eq-eqb _ _ (held-accepts s .1 (p .0)), eq-same _ _ (held-digest s (p .0) ∙ p .1)),
 )

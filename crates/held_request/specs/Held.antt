@@ -1,25 +1,21 @@
 -- 01, From these files: "`VerifierRequest` holds slices: places by value first; then its reader keeps the request's bytes in
--- the struct it hands out." What that struct has: the request's bytes, what was read in them, and the bytes at a place.
+-- the struct it hands out." What that struct has: the request's bytes, and what was read in them.
 use Prim.Native.Nat.{ℕ}
 use mathlib.Core.Bool.{Bool, _&&_}
 use mathlib.Core.List.{List}
 use lib.Dec.{eqb}
-use lib.ListN.{take, drop}
 use denote.Ref.{RefT, now}
+use Rattle.octets.specs.declared.place.Place.{Place}
 use Rattle.octets.specs.Lists.{same}
+use Rattle.octets.specs.Places.{bytesAt}
 use Rattle.protocol.specs.Errors.{errorNumber}
 use Rattle.verifier_request.specs.declared.reader.RequestFields.{RequestFields}
 use Rattle.verifier_request.specs.declared.reader.RequestAnswer.{RequestAnswer}
 use Rattle.verifier_request.specs.declared.reader.RequestAnswer.the-variants.{Request, Refused}
 use Rattle.verifier_request.specs.Reader.{readRequest}
 use Rattle.verifier_request.specs.Reading.{RequestReading, reading}
-use Rattle.held_request.specs.declared.places.Place.{Place}
 use Rattle.held_request.specs.declared.places.RequestPlaces.{RequestPlaces}
 use Rattle.held_request.specs.declared.VerifierRequest.{VerifierRequest}
-
--- the bytes at a place
-unfoldable pub partAt : List ℕ → Place → List ℕ
-partAt s place = take (place .len) (drop (place .start) s)
 
 -- of a request that was read: the digest and the key have 32 bytes each
 abbrev pub readPlaces : RequestFields → RequestPlaces
@@ -70,13 +66,13 @@ heldReading s p =
     (p .slot)
     (p .operation)
     (p .«verifier_profile»)
-    (partAt s (p .«authorization_digest»))
-    (partAt s (p .«key_id»))
-    (partAt s (p .aux))
-    (partAt s (p .proof))
+    (bytesAt s (p .«authorization_digest»))
+    (bytesAt s (p .«key_id»))
+    (bytesAt s (p .aux))
+    (bytesAt s (p .proof))
 
 -- the bytes are a request for this digest: nothing was refused, and the digest found is this one
 unfoldable pub isFor : List ℕ → List ℕ → Bool
 isFor s digest =
     let found = placesOf (readRequest s) in
-    eqb (found .refusal) 0 && same (partAt s (found .«authorization_digest»)) digest
+    eqb (found .refusal) 0 && same (bytesAt s (found .«authorization_digest»)) digest

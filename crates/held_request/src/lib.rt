@@ -2,14 +2,14 @@
 // functions over it. Functions with plain parameters stand above them, for every other caller.
 mod places; // places.rt
 
-pub use self::places::Place;
 pub use self::places::RequestPlaces;
-pub use self::places::part_at;
 pub use self::places::read_places;
+use octets::part_at;
 use octets::same_bytes;
 ghost use mathlib.Core.Path.{_≡_};
+ghost use Rattle.octets.specs.Places.{bytesAt};
 ghost use Rattle.verifier_request.specs.Reader.{readRequest};
-ghost use Rattle.held_request.specs.Held.{partAt, placesOf, parsed, isFor};
+ghost use Rattle.held_request.specs.Held.{placesOf, parsed, isFor};
 
 pub struct VerifierRequest<'a> {
     pub request: &'a [u8],
@@ -59,25 +59,25 @@ impl<'a> VerifierRequest<'a> {
     }
 
     pub fn authorization_digest(self) -> &'a [u8]
-        ensures { λ r. ⌜ now r ≡ partAt (now (self .entry .request)) (self .entry .places .«authorization_digest») ⌝ }
+        ensures { λ r. ⌜ now r ≡ bytesAt (now (self .entry .request)) (self .entry .places .«authorization_digest») ⌝ }
     {
         part_at(self.request, self.places.authorization_digest)
     }
 
     pub fn key_id(self) -> &'a [u8]
-        ensures { λ r. ⌜ now r ≡ partAt (now (self .entry .request)) (self .entry .places .«key_id») ⌝ }
+        ensures { λ r. ⌜ now r ≡ bytesAt (now (self .entry .request)) (self .entry .places .«key_id») ⌝ }
     {
         part_at(self.request, self.places.key_id)
     }
 
     pub fn aux(self) -> &'a [u8]
-        ensures { λ r. ⌜ now r ≡ partAt (now (self .entry .request)) (self .entry .places .aux) ⌝ }
+        ensures { λ r. ⌜ now r ≡ bytesAt (now (self .entry .request)) (self .entry .places .aux) ⌝ }
     {
         part_at(self.request, self.places.aux)
     }
 
     pub fn proof(self) -> &'a [u8]
-        ensures { λ r. ⌜ now r ≡ partAt (now (self .entry .request)) (self .entry .places .proof) ⌝ }
+        ensures { λ r. ⌜ now r ≡ bytesAt (now (self .entry .request)) (self .entry .places .proof) ⌝ }
     {
         part_at(self.request, self.places.proof)
     }
@@ -92,7 +92,7 @@ pub fn refusal_of(request: &[u8]) -> u8
 
 // The digest that the request in these bytes is for; no byte where it is refused.
 pub fn authorization_digest_of(request: &[u8]) -> &[u8]
-    ensures { λ r. ⌜ now r ≡ partAt (now (request .entry)) (placesOf (readRequest (now (request .entry))) .«authorization_digest») ⌝ }
+    ensures { λ r. ⌜ now r ≡ bytesAt (now (request .entry)) (placesOf (readRequest (now (request .entry))) .«authorization_digest») ⌝ }
 {
     VerifierRequest::parse(request).authorization_digest()
 }

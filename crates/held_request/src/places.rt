@@ -1,17 +1,12 @@
-// What the reader finds in a request, as numbers and places, and the bytes at a place.
-use octets::part;
+// What the reader finds in a request, as numbers and places.
+use octets::Place;
 use protocol::error_number;
 use verifier_request::RequestAnswer;
 use verifier_request::RequestFields;
 use verifier_request::parse_verifier_request;
 ghost use mathlib.Core.Path.{_≡_};
 ghost use Rattle.verifier_request.specs.Reader.{readRequest};
-ghost use Rattle.held_request.specs.Held.{partAt, refusedPlaces, readPlaces, placesOf};
-
-pub struct Place {
-    pub start: usize,
-    pub len: usize,
-}
+ghost use Rattle.held_request.specs.Held.{refusedPlaces, readPlaces, placesOf};
 
 // `refusal` is 0, or the refusal's number; then all else is 0 and the places are empty.
 pub struct RequestPlaces {
@@ -24,13 +19,6 @@ pub struct RequestPlaces {
     pub key_id: Place,
     pub aux: Place,
     pub proof: Place,
-}
-
-// The bytes at a place, as far as there are any.
-pub fn part_at(s: &[u8], place: Place) -> &[u8]
-    ensures { λ r. ⌜ now r ≡ partAt (now (s .entry)) place ⌝ }
-{
-    part(s, place.start, place.len)
 }
 
 fn refused_places(number: u8) -> RequestPlaces

@@ -8,7 +8,9 @@ use Prim.Native.Nat.{ℕ, _+_, _-_, _^_, _<_}
 use native.Mathlib.Omega.{arith}
 use lib.ListN.{length, take, drop, length-append}
 use lib.Seq.{take-add, take-all, drop-at, drop-drop}
+use Rattle.octets.specs.declared.place.Place.{Place}
 use Rattle.octets.specs.Le.{numberAt, Bytes}
+use Rattle.octets.specs.Places.{bytesAt}
 use Rattle.octets.proofs.LeLaws.{number-lt, length-to, bytes-take, bytes-drop}
 use Rattle.octets.proofs.Parts.{part-length}
 use Rattle.protocol.specs.Rows.{Row, decide, Hold, First}
@@ -17,37 +19,52 @@ use Rattle.protocol.specs.declared.error.ProtocolError.{ProtocolError}
 use Rattle.protocol.specs.declared.error.ProtocolError.the-variants.{InvalidArgs, InvalidWitness}
 use Rattle.protocol.specs.declared.check.Check.{Check}
 use Rattle.protocol.specs.declared.check.Check.the-variants.{Passed, Failed}
-use Rattle.protocol.proofs.Hold.{passed-hold, hold-passed, failed-first, first-failed, hold-split}
-use Rattle.molecule.specs.declared.bytes.Place.{Place}
+use Rattle.protocol.proofs.Hold.{passed-hold, hold-split}
+use Rattle.protocol.proofs.Answers.{answer-given, answer-accepts, answer-refuses}
+use Rattle.molecule.specs.declared.bytes.PlaceAnswer.{PlaceAnswer}
 use Rattle.molecule.specs.declared.bytes.PlaceAnswer.the-variants.{At, Refused}
 use Rattle.molecule.specs.Molecule.{bytesVector, tableBytes}
 use Rattle.molecule.specs.Table3.{tableRows, between, field1, field2, field3}
-use Rattle.molecule.specs.Bytes.{bytesRows, placeOf, bytesAt, placeAnswer, readBytes, lockRows, readLock, argsRows, readScriptArgs}
+use Rattle.molecule.specs.Bytes.{bytesRows, placeOf, placeAnswer, readBytes, lockRows, readLock, argsRows, readScriptArgs}
 use Rattle.molecule.proofs.Form.{Passes, passes, length-field1}
 use Rattle.molecule.proofs.Inverse.{table-written, vector-length, vector-written, vector-read}
 
-answered : (k : Check) (g p : Place) → placeAnswer k g ≡ At p → (k ≡ Passed) × (p ≡ g)
-unfolding placeAnswer
-answered Passed g p h = (refl, cc)
-answered (Failed e) g p h = absurd (let z : _≡_ {A = ℕ} 0 1 = cc in omega arith)
+-- what the checks found, by the answer
+abbrev pub placeFound : PlaceAnswer → Check
+placeFound (At p) = Passed
+placeFound (Refused e) = Failed e
 
-refused : (k : Check) (g : Place) (e : ProtocolError) → placeAnswer k g ≡ Refused e → k ≡ Failed e
+-- which is what it was made from
+place-back : (g : Place) (k : Check) → placeFound (placeAnswer k g) ≡ k
 unfolding placeAnswer
-refused Passed g e h = absurd (let z : _≡_ {A = ℕ} 0 1 = cc in omega arith)
-refused (Failed d) g e h = cc
+place-back g Passed = refl
+place-back g (Failed e) = refl
 
 -- What holds of each of the three readers: its rows, and the place that it gives where they pass.
 module _ (rows : List Row) (g : Place) where
   pub place-accepts : (placeAnswer (decide Passed rows) g ≡ At g) ↔ Hold rows
   unfolding placeAnswer
-  place-accepts = (λ h. passed-hold rows (answered (decide Passed rows) g g h .0), λ h. rw (hold-passed rows h))
+  place-accepts = answer-accepts (λ k. placeAnswer k g) placeFound (place-back g) rows
 
   pub place-refuses : (e : ProtocolError) → (placeAnswer (decide Passed rows) g ≡ Refused e) ↔ First rows e
   unfolding placeAnswer
-  place-refuses e = (λ h. failed-first rows e (refused (decide Passed rows) g e h), λ f. rw (first-failed rows e f))
+  place-refuses e = answer-refuses (λ k. placeAnswer k g) placeFound (place-back g) rows e
 
   place-given : (p : Place) → placeAnswer (decide Passed rows) g ≡ At p → Hold rows × (p ≡ g)
-  place-given p h = let z = answered (decide Passed rows) g p h in (passed-hold rows (z .0), z .1)
+  unfolding placeAnswer
+  place-given p h =
+      let z = answer-given (λ k. placeAnswer k g) placeFound (place-back g) (decide Passed rows) (At p) h refl in
+      let e : At g ≡ At p = z .1 in
+      (passed-hold rows (z .0), cc)
+
+-- what the lock's reader and the args' say of their checks
+pub lock-found : (s : List ℕ) → placeFound (readLock s) ≡ decide Passed (lockRows s)
+unfolding readLock
+lock-found s = place-back _ (decide Passed (lockRows s))
+
+pub script-found : (s : List ℕ) → placeFound (readScriptArgs s) ≡ decide Passed (argsRows s)
+unfolding readScriptArgs
+script-found s = place-back _ (decide Passed (argsRows s))
 
 -- accepted exactly where every check passes, refused exactly with the first that fails
 pub bytes-accepts : (field : List ℕ) → (readBytes field ≡ At (placeOf 0 field)) ↔ Hold (bytesRows InvalidWitness field)

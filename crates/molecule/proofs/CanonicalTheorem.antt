@@ -6,16 +6,17 @@ use mathlib.Core.List.{List, [], _∷_}
 use Prim.Native.Nat.{ℕ, _+_, _-_, _^_, _<_}
 use native.Mathlib.Omega.{arith}
 use lib.ListN.{length, drop, length-drop}
+use Rattle.octets.specs.declared.place.Place.{Place}
 use Rattle.octets.specs.Le.{numberAt, Bytes}
+use Rattle.octets.specs.Places.{bytesAt}
 use Rattle.protocol.specs.Rows.{Hold}
 use Rattle.protocol.specs.declared.error.ProtocolError.the-variants.{InvalidWitness}
 use Rattle.protocol.specs.declared.check.Check.the-variants.{Passed}
 use Rattle.protocol.proofs.Hold.{passed-hold}
-use Rattle.molecule.specs.declared.bytes.Place.{Place}
 use Rattle.molecule.specs.declared.bytes.PlaceAnswer.the-variants.{At}
 use Rattle.molecule.specs.Molecule.{bytesVector, tableBytes}
 use Rattle.molecule.specs.Table3.{tableRows, field2, field3}
-use Rattle.molecule.specs.Bytes.{bytesAt, readLock}
+use Rattle.molecule.specs.Bytes.{readLock}
 use Rattle.molecule.specs.Canonical.{canonicalOf, canonicalParts, ReadBack, Whole}
 use Rattle.molecule.proofs.Form.{length-three, passes, passes-hold}
 use Rattle.molecule.proofs.CanonicalForm.{canonical-whole, length-canonical, parts-read, parts-found}

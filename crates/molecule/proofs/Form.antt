@@ -1,4 +1,4 @@
--- Tables of three fields: their written form, what the loose reader's rows say, and the fields of one that passes them.
+-- Tables of three fields: their written form, what the loose reader's rows and its answer say, and the fields of one that passes them.
 -- Assumes nothing.
 use mathlib.Core.Path.{_≡_, refl}
 use mathlib.Core.List.{List, [], _∷_, _++_, append-nil}
@@ -17,8 +17,10 @@ use Rattle.protocol.specs.declared.error.ProtocolError.the-variants.{InvalidWit
 use Rattle.protocol.specs.declared.check.Check.{Check}
 use Rattle.protocol.specs.declared.check.Check.the-variants.{Passed, Failed}
 use Rattle.protocol.proofs.Hold.{passed-hold}
+use Rattle.protocol.proofs.Answers.{answer-given}
 use Rattle.molecule.specs.declared.table.TableFields.{TableFields}
-use Rattle.molecule.specs.declared.table.TableAnswer.the-variants.{Fields}
+use Rattle.molecule.specs.declared.table.TableAnswer.{TableAnswer}
+use Rattle.molecule.specs.declared.table.TableAnswer.the-variants.{Fields, Refused}
 use Rattle.molecule.specs.Molecule.{offsetsFrom, headSize, tableHead, tableBytes}
 use Rattle.molecule.specs.Table3.{tableRows, fieldsAt, tableAnswer, readTable, between, field1, field2, field3}
 
@@ -85,17 +87,24 @@ module _ (s : List ℕ) (z : Passes s) where
   unfolding field3
   length-field3 = length-drop (numberAt s 12 4) s
 
--- what an accepting answer says
-answered : (k : Check) (g f : TableFields) → tableAnswer k g ≡ Fields f → (k ≡ Passed) × (f ≡ g)
-unfolding tableAnswer
-answered Passed g f h = (refl, cc)
-answered (Failed e) g f h = absurd (let z : _≡_ {A = ℕ} 0 1 = cc in omega arith)
+-- what the checks found, by the answer
+abbrev pub tableFound : TableAnswer → Check
+tableFound (Fields f) = Passed
+tableFound (Refused e) = Failed e
 
+-- which is what it was made from
+pub table-back : (g : TableFields) (k : Check) → tableFound (tableAnswer k g) ≡ k
+unfolding tableAnswer
+table-back g Passed = refl
+table-back g (Failed e) = refl
+
+-- the fields of an answer that accepts
 pub table-given : (s : List ℕ) (f : TableFields) → readTable s ≡ Fields f → Hold (tableRows InvalidWitness s) × (f ≡ fieldsAt s)
-unfolding readTable
+unfolding readTable tableAnswer
 table-given s f h =
-    let z = answered (decide Passed (tableRows InvalidWitness s)) (fieldsAt s) f h in
-    (passed-hold (tableRows InvalidWitness s) (z .0), z .1)
+    let z = answer-given (λ k. tableAnswer k (fieldsAt s)) tableFound (table-back (fieldsAt s)) (decide Passed (tableRows InvalidWitness s)) (Fields f) h refl in
+    let e : Fields (fieldsAt s) ≡ Fields f = z .1 in
+    (passed-hold (tableRows InvalidWitness s) (z .0), cc)
 
 -- the offsets of the answer don't fall or pass the length
 pub given-order : (s : List ℕ) (f : TableFields) → readTable s ≡ Fields f → (f .second ≤ f .third) × (f .third ≤ length s)

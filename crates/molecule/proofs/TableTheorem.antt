@@ -10,35 +10,27 @@ use native.Mathlib.Omega.{arith}
 use lib.ListN.{length}
 use Rattle.octets.specs.Le.{Bytes}
 use Rattle.octets.proofs.LeLaws.{number-lt}
-use Rattle.protocol.specs.Rows.{decide, Hold, First}
+use Rattle.protocol.specs.Rows.{Hold, First}
 use Rattle.protocol.specs.Reading.{OneReading}
 use Rattle.protocol.specs.declared.error.ProtocolError.{ProtocolError}
 use Rattle.protocol.specs.declared.error.ProtocolError.the-variants.{InvalidWitness}
-use Rattle.protocol.specs.declared.check.Check.{Check}
-use Rattle.protocol.specs.declared.check.Check.the-variants.{Passed, Failed}
-use Rattle.protocol.proofs.Hold.{hold-passed, failed-first, first-failed}
+use Rattle.protocol.proofs.Answers.{answer-accepts, answer-refuses}
 use Rattle.molecule.specs.declared.table.TableFields.{TableFields}
 use Rattle.molecule.specs.declared.table.TableAnswer.the-variants.{Fields, Refused}
 use Rattle.molecule.specs.Molecule.{tableBytes}
 use Rattle.molecule.specs.Table3.{tableRows, fieldsAt, tableAnswer, readTable, field1, field2, field3, Table3, table3Bytes, readingOf}
-use Rattle.molecule.proofs.Form.{length-three, Passes, passes, passes-hold, table-given}
+use Rattle.molecule.proofs.Form.{length-three, Passes, passes, passes-hold, tableFound, table-back, table-given}
 use Rattle.molecule.proofs.Inverse.{table-written, written-passes, field1-read, field2-read, field3-read}
-
-refused : (k : Check) (f : TableFields) (e : ProtocolError) → tableAnswer k f ≡ Refused e → k ≡ Failed e
-unfolding tableAnswer
-refused Passed f e h = absurd (let z : _≡_ {A = ℕ} 0 1 = cc in omega arith)
-refused (Failed d) f e h = cc
 
 -- accepted exactly where every check passes
 pub table-accepts : (s : List ℕ) → (readTable s ≡ Fields (fieldsAt s)) ↔ Hold (tableRows InvalidWitness s)
 unfolding readTable tableAnswer
-table-accepts s = (λ h. table-given s (fieldsAt s) h .0, λ h. rw (hold-passed (tableRows InvalidWitness s) h))
+table-accepts s = answer-accepts (λ k. tableAnswer k (fieldsAt s)) tableFound (table-back (fieldsAt s)) (tableRows InvalidWitness s)
 
 -- refused exactly with the first check that fails
 pub table-refuses : (s : List ℕ) (e : ProtocolError) → (readTable s ≡ Refused e) ↔ First (tableRows InvalidWitness s) e
 unfolding readTable tableAnswer
-table-refuses s e =
-    (λ h. failed-first (tableRows InvalidWitness s) e (refused (decide Passed (tableRows InvalidWitness s)) (fieldsAt s) e h), λ f. rw (first-failed (tableRows InvalidWitness s) e f))
+table-refuses s e = answer-refuses (λ k. tableAnswer k (fieldsAt s)) tableFound (table-back (fieldsAt s)) (tableRows InvalidWitness s) e
 
 -- a written table whose size fits its field is accepted, and read as what was written
 pub table-accepted : (e : ProtocolError) (r : Table3) → length (table3Bytes r) < 2 ^ 32

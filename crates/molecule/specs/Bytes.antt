@@ -3,15 +3,16 @@
 use Prim.Native.Nat.{ℕ, _+_}
 use mathlib.Core.List.{List, [], _∷_, _++_}
 use lib.Dec.{eqb, leb}
-use lib.ListN.{length, take, drop}
+use lib.ListN.{length}
+use Rattle.octets.specs.declared.place.Place.{Place}
 use Rattle.octets.specs.Le.{numberAt}
+use Rattle.octets.specs.Places.{bytesAt}
 use Rattle.protocol.specs.Errors.{errorNumber}
 use Rattle.protocol.specs.Rows.{Row, row, decide}
 use Rattle.protocol.specs.declared.error.ProtocolError.{ProtocolError}
 use Rattle.protocol.specs.declared.error.ProtocolError.the-variants.{InvalidArgs, InvalidWitness}
 use Rattle.protocol.specs.declared.check.Check.{Check}
 use Rattle.protocol.specs.declared.check.Check.the-variants.{Passed, Failed}
-use Rattle.molecule.specs.declared.bytes.Place.{Place}
 use Rattle.molecule.specs.declared.bytes.PlaceAnswer.{PlaceAnswer}
 use Rattle.molecule.specs.declared.bytes.PlaceAnswer.the-variants.{At, Refused}
 use Rattle.molecule.specs.Table3.{tableRows, field1, field3}
@@ -23,10 +24,6 @@ bytesRows e field = row (leb 4 (length field)) e ∷ row (eqb (4 + numberAt fiel
 -- the place of the bytes of a field that begins at `at`
 unfoldable pub placeOf : ℕ → List ℕ → Place
 placeOf at field = record { start = at + 4; len = numberAt field 0 4 }
-
--- the bytes of s at a place
-unfoldable pub bytesAt : List ℕ → Place → List ℕ
-bytesAt s p = take (p .len) (drop (p .start) s)
 
 unfoldable pub placeAnswer : Check → Place → PlaceAnswer
 placeAnswer Passed p = At p

@@ -1,6 +1,7 @@
 // The lock of a witness and the args of a script: fields that hold a vector of bytes.
 use crate::table::bytes_between;
 use crate::table::check_table;
+use octets::Place;
 use octets::part;
 use octets::rest;
 use octets::u32_at;
@@ -10,12 +11,6 @@ ghost use mathlib.Core.Path.{_≡_};
 ghost use Rattle.protocol.specs.Rows.{decide};
 ghost use Rattle.protocol.specs.declared.check.Check.the-variants.{Passed};
 ghost use Rattle.molecule.specs.Bytes.{bytesRows, placeOf, placeAnswer, readBytes, lockRows, readLock, argsRows, readScriptArgs, bytesIn};
-
-// Where bytes begin, and how many they are.
-pub struct Place {
-    pub start: usize,
-    pub len: usize,
-}
 
 pub enum PlaceAnswer {
     At(Place),

@@ -4,7 +4,6 @@ mod table; // table.rt
 mod bytes; // bytes.rt
 mod canonical; // canonical.rt
 
-pub use self::bytes::Place;
 pub use self::bytes::PlaceAnswer;
 pub use self::bytes::bytes_in;
 pub use self::bytes::molecule_bytes;

@@ -1,3 +1,4 @@
 pub mod Le
 pub mod Table
 pub mod Lists
+pub mod Places

@@ -1,8 +1,10 @@
--- Lists of numbers: equal or not, strictly rising, made from a function, joined from parts.
+-- Lists of numbers: equal or not, strictly rising, made from a function, joined from parts, and in an array.
 use Prim.Native.Nat.{ℕ, zero, suc, _+_, _≤_}
 use mathlib.Core.Bool.{Bool, true, false}
 use mathlib.Core.List.{List, [], _∷_, _++_}
 use lib.Dec.{eqb}
+use lib.ListN.{replicate}
+use lib.Seq.{sets}
 
 abbrev pub both : Bool → Bool → Bool
 both true b = b
@@ -29,3 +31,7 @@ tabulate f (suc n) = tabulate f n ++ (f n ∷ [])
 unfoldable pub joined : List (List ℕ) → List ℕ
 joined [] = []
 joined (part ∷ parts) = part ++ joined parts
+
+-- the list's bytes over n zeros: its first n bytes, and zeros where it has fewer
+unfoldable pub arrayOf : ℕ → List ℕ → List ℕ
+arrayOf n s = sets (replicate n 0) 0 s

@@ -1,10 +1,15 @@
-// Bytes in slices: little-endian numbers, runs of stores, parts, equal slices. Every function is total: past the end
-// of a slice a read finds nothing and a store stores nothing.
+// Bytes in slices: little-endian numbers, runs of stores, parts and places, arrays, equal slices. Every function is total:
+// past the end of a slice a read finds nothing and a store stores nothing.
 mod read; // read.rt
 mod store; // store.rt
+mod place; // place.rt
+mod array; // array.rt
 mod compare; // compare.rt
 
+pub use self::array::array_32;
 pub use self::compare::same_bytes;
+pub use self::place::Place;
+pub use self::place::part_at;
 pub use self::read::fits;
 pub use self::read::number_at;
 pub use self::read::part;

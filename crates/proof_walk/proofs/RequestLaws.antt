@@ -8,9 +8,10 @@ use native.Mathlib.Nat.{sub-zero}
 use native.Mathlib.Omega.{arith}
 use lib.Dec.{eqb}
 use lib.ListN.{length, take, drop}
-use lib.Seq.{sets, length-sets}
+use lib.Seq.{sets}
 use borrow.Author.Tests.{ne-eqb, leb-true}
 use Rattle.octets.specs.Le.{numberAt}
+use Rattle.octets.proofs.Arrays.{length-array}
 use Rattle.octets.proofs.Stores.{sets-front}
 use Rattle.protocol.specs.Rows.{decide}
 use Rattle.protocol.specs.declared.check.Check.the-variants.{Passed}
@@ -25,7 +26,7 @@ use Rattle.cell_search.specs.declared.cells.Source.the-variants.{CellDep}
 use Rattle.cell_search.specs.declared.search.Search.{Search}
 use Rattle.cell_search.specs.declared.search.Search.the-variants.{Missing, One, Several}
 use Rattle.cell_search.specs.Search.{cellsOf, matches, searchOf, cellSearch}
-use Rattle.decision.specs.Proofs.{settingFor, known, entryFor, verifierField, verifiers, requestSize, limitRows, entryRows, proofRows, keyField, requestReading, requestOf}
+use Rattle.decision.specs.Proofs.{settingFor, known, entryFor, verifierField, verifiers, requestSize, limitRows, entryRows, proofRows, requestReading, requestOf}
 use Rattle.decision.specs.Walk.{answered}
 use Rattle.proof_walk.specs.Answer.{sceneDeps, walkSetting}
 use Rattle.proof_walk.specs.Steps.{stateEntries, isKnown, entryIn, FoundIs, proofOf, rowsOf, requestFor}
@@ -51,16 +52,11 @@ unfolding entryOf verifiers cellsOf sceneDeps cellSearch
 resolved table store entry s e =
     ap isOne e ∙ one-found (matches (verifierField (numberAt entry 10 1)) (take 32 (drop 12 entry)) (lentScene table store .deps))
 
--- a key's field has 32 bytes
-pub length-key : (key : List ℕ) → length (keyField key) ≡ 32
-unfolding keyField
-length-key key = simp length-sets
-
 -- the request's length, and the request stored at the front
 module _ (operation : ℕ) (digest : List ℕ) (e : EntryReading) (p : ProofReading) (d : length digest ≡ 32) where
   pub request-long : length (requestFor operation digest e p) ≡ requestSize (length (e .aux)) (length (p .bytes))
   unfolding requestFor requestReading requestSize requestTotal
-  request-long = length-request (requestReading operation digest e p) (record { digest = d; key = length-key (e .key) })
+  request-long = length-request (requestReading operation digest e p) (record { digest = d; key = length-array 32 (e .key) })
 
   pub request-stored : (out after : List ℕ) → requestSize (length (e .aux)) (length (p .bytes)) ≤ length out
       → after ≡ sets out 0 (requestFor operation digest e p) → after ≡ answered out (requestFor operation digest e p)

@@ -1,7 +1,7 @@
 // The authenticator entries of the current state, by slot.
+use octets::array_32;
 use octets::part;
 use octets::rest;
-use octets::store_bytes;
 use octets::u8_at;
 use octets::u16_at;
 use protocol::ACCOUNT_STATE_HEADER_LEN;
@@ -10,8 +10,9 @@ use protocol::OP_SPEND;
 use protocol::OperationCapability;
 use protocol::capability_for_operation;
 ghost use mathlib.Core.Path.{_≡_};
+ghost use Rattle.octets.specs.Lists.{arrayOf};
 ghost use Rattle.account_state.specs.Reading.{entryOf};
-ghost use Rattle.decision.specs.Proofs.{thresholdOf, capable, keyField};
+ghost use Rattle.decision.specs.Proofs.{thresholdOf, capable};
 ghost use Rattle.proof_walk.specs.Steps.{FoundIs, stateEntries, isKnown, entryIn};
 
 // Where the entry of a slot begins.
@@ -57,11 +58,9 @@ pub(crate) fn entry_bytes(state: &[u8], found: Found) -> &[u8]
 
 // The key of the entry at the front of the bytes, in its field of 32 bytes.
 pub(crate) fn key_id(entry: &[u8]) -> [u8; 32]
-    ensures { λ r. ⌜ r ≡ keyField (entryOf (now (entry .entry)) .key) ⌝ }
+    ensures { λ r. ⌜ r ≡ arrayOf 32 (entryOf (now (entry .entry)) .key) ⌝ }
 {
-    let mut key = [0u8; 32];
-    store_bytes(&mut key, 0, part(entry, 48, u16_at(entry, 44) as usize));
-    key
+    array_32(part(entry, 48, u16_at(entry, 44) as usize))
 }
 
 // The aux of the entry at the front of the bytes.

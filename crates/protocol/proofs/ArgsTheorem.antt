@@ -1,4 +1,5 @@
--- Args: accepted exactly where every check passes, and then exactly one account has them as its args.
+-- Args: accepted exactly where every check passes, refused exactly with the first that fails; and where they are accepted exactly
+-- one account has them as its args.
 -- Assumes nothing.
 use mathlib.Core.Path.{_≡_, refl, sym, ap, _∙_}
 use mathlib.Core.List.{List, [], _∷_}
@@ -11,25 +12,41 @@ use lib.ListN.{length, take, drop, getD}
 use lib.Seq.{take-all}
 use Rattle.octets.specs.Le.{numberAt}
 use Rattle.octets.proofs.LeLaws.{number-one}
-use Rattle.protocol.specs.Rows.{decide, Hold}
+use Rattle.protocol.specs.Rows.{decide, Hold, First}
 use Rattle.protocol.specs.Args.{argsRows, argsFault, argsAnswer, readArgs, argsBytes, accountOf}
 use Rattle.protocol.specs.Reading.{OneReading}
+use Rattle.protocol.specs.declared.error.ProtocolError.{ProtocolError}
 use Rattle.protocol.specs.declared.check.Check.{Check}
 use Rattle.protocol.specs.declared.check.Check.the-variants.{Passed, Failed}
 use Rattle.protocol.specs.declared.args.ArgsAnswer.{ArgsAnswer}
 use Rattle.protocol.specs.declared.args.ArgsAnswer.the-variants.{Args, Refused}
-use Rattle.protocol.proofs.Hold.{passed-hold, hold-passed}
+use Rattle.protocol.proofs.Answers.{answer-accepts, answer-refuses}
 
-refused-apart : (k : Check) → argsAnswer k ≡ Args (record { version = 1; «account_id» = 1 }) → k ≡ Passed
+-- what the checks found, by the answer
+abbrev pub argsFound : ArgsAnswer → Check
+argsFound (Args a) = Passed
+argsFound (Refused e) = Failed e
+
+-- which is what it was made from
+args-back : (k : Check) → argsFound (argsAnswer k) ≡ k
 unfolding argsAnswer
-refused-apart Passed h = refl
-refused-apart (Failed e) h = absurd (let z : _≡_ {A = ℕ} 0 1 = cc in omega arith)
+args-back Passed = refl
+args-back (Failed e) = refl
+
+-- so the reader's answer tells what the rows find
+pub args-found : (s : List ℕ) → argsFound (readArgs s) ≡ decide Passed (argsRows s)
+unfolding readArgs argsFault
+args-found s = args-back (decide Passed (argsRows s))
 
 -- accepted exactly where every check passes
 pub reader-accepts : (s : List ℕ) → (readArgs s ≡ Args (record { version = 1; «account_id» = 1 })) ↔ Hold (argsRows s)
 unfolding readArgs argsFault argsAnswer
-reader-accepts s =
-    (λ h. passed-hold (argsRows s) (refused-apart (decide Passed (argsRows s)) h), λ h. rw (hold-passed (argsRows s) h))
+reader-accepts s = answer-accepts argsAnswer argsFound args-back (argsRows s)
+
+-- refused exactly with the first check that fails
+pub reader-refuses : (s : List ℕ) (e : ProtocolError) → (readArgs s ≡ Refused e) ↔ First (argsRows s) e
+unfolding readArgs argsFault argsAnswer
+reader-refuses s e = answer-refuses argsAnswer argsFound args-back (argsRows s) e
 
 -- the one account
 pub args-one : (s : List ℕ) → Hold (argsRows s) → OneReading (λ (a : List ℕ). length a ≡ 32) argsBytes s (accountOf s)

@@ -1,5 +1,7 @@
 pub mod Hold
+pub mod ErrorNumbers
 pub mod Back
+pub mod Answers
 pub mod ArgsTheorem
 pub mod ArgsGiven
 pub mod Outcome

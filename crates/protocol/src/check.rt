@@ -1,7 +1,8 @@
 // Rows of checks: the first that fails decides.
 use crate::error::ProtocolError;
+use crate::error::error_number;
 ghost use mathlib.Core.Path.{_≡_};
-ghost use Rattle.protocol.specs.Rows.{_▷_, row, _then_};
+ghost use Rattle.protocol.specs.Rows.{_▷_, row, _then_, checkNumber};
 
 // What a row of checks finds.
 pub enum Check {
@@ -40,5 +41,15 @@ impl Check {
             Check::Failed(first) => Check::Failed(first),
             Check::Passed => later,
         }
+    }
+}
+
+// Document 01's number of what was found, 0 where all passed.
+pub fn check_number(found: Check) -> u8
+    ensures { λ r. ⌜ r ≡ checkNumber found ⌝ }
+{
+    match found {
+        Check::Failed(error) => error_number(error),
+        Check::Passed => 0,
     }
 }

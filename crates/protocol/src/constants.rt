@@ -33,6 +33,8 @@ pub const VERIFIER_MAX_PROOF_LEN: usize = 65_536;
 
 pub const VERIFIER_MAX_REQUEST_LEN: usize = 69_728;
 
+pub const AUTH_DOMAIN: [u8; 19] = *b"CKB_ACCOUNT_LOCK_V1";
+
 pub const OP_SPEND: u8 = 0x01;
 
 pub const OP_ROTATE: u8 = 0x02;

@@ -14,38 +14,37 @@ use Rattle.protocol.specs.Reading.{OneReading, WritesBack}
 use Rattle.protocol.specs.declared.error.ProtocolError.{ProtocolError}
 use Rattle.protocol.specs.declared.check.Check.{Check}
 use Rattle.protocol.specs.declared.check.Check.the-variants.{Passed, Failed}
-use Rattle.protocol.proofs.Hold.{passed-hold, hold-passed, failed-first, first-failed}
+use Rattle.protocol.proofs.Hold.{passed-hold}
+use Rattle.protocol.proofs.Answers.{answer-given, answer-accepts, answer-refuses}
 use Rattle.protocol.proofs.Back.{writes-back}
 use Rattle.public_key_proof.specs.declared.reader.PublicKeyProof.{PublicKeyProof}
+use Rattle.public_key_proof.specs.declared.reader.PublicKeyProofAnswer.{PublicKeyProofAnswer}
 use Rattle.public_key_proof.specs.declared.reader.PublicKeyProofAnswer.the-variants.{Proof, Refused}
 use Rattle.public_key_proof.specs.Reader.{proofRows, proofFault, placesAt, proofAnswer, readProof}
 use Rattle.public_key_proof.specs.Reading.{ProofReading, ProofTyped, readingOf, proofReading, proofBytes}
 use Rattle.public_key_proof.specs.Writer.{writerRows, proofTotal, proofRoom, proofWritten, proofStored}
 use Rattle.public_key_proof.proofs.Inverse.{passes, passes-hold, reading-written, reading-limits, reading-total, written-reading, written-passes, lengths-fit}
 
--- what an accepting answer says of the checks and of its places
-answered : (k : Check) (g p : PublicKeyProof) → proofAnswer k g ≡ Proof p → (k ≡ Passed) × (p ≡ g)
-unfolding proofAnswer
-answered Passed g p h = (refl, cc)
-answered (Failed e) g p h = absurd (let z : _≡_ {A = ℕ} 0 1 = cc in omega arith)
+-- what the checks found, by the answer
+abbrev proofFound : PublicKeyProofAnswer → Check
+proofFound (Proof p) = Passed
+proofFound (Refused e) = Failed e
 
--- and a refusing one
-refused : (k : Check) (g : PublicKeyProof) (e : ProtocolError) → proofAnswer k g ≡ Refused e → k ≡ Failed e
+-- which is what it was made from
+proof-back : (g : PublicKeyProof) (k : Check) → proofFound (proofAnswer k g) ≡ k
 unfolding proofAnswer
-refused Passed g e h = absurd (let z : _≡_ {A = ℕ} 0 1 = cc in omega arith)
-refused (Failed d) g e h = cc
+proof-back g Passed = refl
+proof-back g (Failed e) = refl
 
 -- accepted exactly where every check passes
 pub reader-accepts : (s : List ℕ) → (readProof s ≡ Proof (placesAt s)) ↔ Hold (proofRows s)
 unfolding readProof proofFault proofAnswer
-reader-accepts s =
-    (λ h. passed-hold (proofRows s) (answered (decide Passed (proofRows s)) (placesAt s) (placesAt s) h .0), λ h. rw (hold-passed (proofRows s) h))
+reader-accepts s = answer-accepts (λ k. proofAnswer k (placesAt s)) proofFound (proof-back (placesAt s)) (proofRows s)
 
 -- refused exactly with the first check that fails
 pub reader-refuses : (s : List ℕ) (e : ProtocolError) → (readProof s ≡ Refused e) ↔ First (proofRows s) e
 unfolding readProof proofFault proofAnswer
-reader-refuses s e =
-    (λ h. failed-first (proofRows s) e (refused (decide Passed (proofRows s)) (placesAt s) e h), λ f. rw (first-failed (proofRows s) e f))
+reader-refuses s e = answer-refuses (λ k. proofAnswer k (placesAt s)) proofFound (proof-back (placesAt s)) (proofRows s) e
 
 -- what the writer writes is accepted, and read as what was written
 pub proof-accepted : (r : ProofReading) → Hold (writerRows r) → Hold (proofRows (proofBytes r)) × (proofReading (proofBytes r) ≡ r)
@@ -69,10 +68,12 @@ proof-one s b h =
 
 -- is the one that the reader gives,
 pub proof-given : (s : List ℕ) (p : PublicKeyProof) → readProof s ≡ Proof p → Hold (proofRows s) × (readingOf s p ≡ proofReading s)
-unfolding readProof proofFault proofReading
+unfolding readProof proofFault proofReading proofAnswer
 proof-given s p h =
-    let z = answered (decide Passed (proofRows s)) (placesAt s) p h in
-    (passed-hold (proofRows s) (z .0), ap (readingOf s) (z .1))
+    let z = answer-given (λ k. proofAnswer k (placesAt s)) proofFound (proof-back (placesAt s)) (decide Passed (proofRows s)) (Proof p) h refl in
+    let e : Proof (placesAt s) ≡ Proof p = z .1 in
+    let same : p ≡ placesAt s = cc in
+    (passed-hold (proofRows s) (z .0), ap (readingOf s) same)
 
 -- and the writer writes it back
 pub proof-writes-back : (s : List ℕ) → Bytes s → Hold (proofRows s) → WritesBack (proofWritten (proofReading s)) (proofStored (proofReading s)) s

@@ -5,7 +5,7 @@ use mathlib.Core.List.{List}
 use Prim.Native.Nat.{ℕ, _+_}
 use lib.Dec.{eqb}
 use lib.ListN.{length}
-use Rattle.molecule.specs.Bytes as molecule
+use Rattle.octets.specs.Places as octets
 use Rattle.scene_table.specs.Scene.{Input, Scene}
 use Rattle.scene_table.specs.Lent.{entryAt, inputsAt, outputsAt, depsAt, witnessesAt, verdictsAt, cellFrom, inputFrom, cellRowFrom, bytesFrom, sceneFrom, bytesAt, lentScene, blankScene}
 use Rattle.scene_table.specs.Places.{placeOf, cellPlaces, bytesPlace, rowPlaces, scriptPlace, transactionPlace, digitCount, inputAt, inputGroup, inputSince, inputPlaces, outputPlaces, depPlaces, witnessPlace, verdictAt, verdictOf, cellAt}
@@ -26,17 +26,17 @@ lent-group table store i = refl
 
 -- the accessors give the scene s: its parts, its lists one by one and what is left of them, its verdicts
 pub record Given (table store : List ℕ) (s : Scene) : Type 0 where
-  pub script : s .script ≡ molecule.bytesAt store (scriptPlace table)
-  pub transaction : s .transaction ≡ molecule.bytesAt store (transactionPlace table)
+  pub script : s .script ≡ octets.bytesAt store (scriptPlace table)
+  pub transaction : s .transaction ≡ octets.bytesAt store (transactionPlace table)
   pub inputs : Listed (s .inputs) (entryAt table 3) (lentInput table store)
   pub outputs : Listed (s .outputs) (entryAt table 4) (λ i. cellAt store (outputPlaces table i))
   pub deps : Listed (s .deps) (entryAt table 5) (λ i. cellAt store (depPlaces table i))
-  pub witnesses : Listed (s .witnesses) (entryAt table 6) (λ i. molecule.bytesAt store (witnessPlace table i))
+  pub witnesses : Listed (s .witnesses) (entryAt table 6) (λ i. octets.bytesAt store (witnessPlace table i))
   pub digits : length (s .digits) ≡ digitCount table
   pub verdicts : (i : ℕ) → verdictAt (s .digits) i ≡ verdictOf table i
 
 pub lent-given : (table store : List ℕ) → Given table store (lentScene table store)
-unfolding lentScene blankScene sceneFrom lentInput inputAt inputSince inputPlaces outputPlaces depPlaces witnessPlace scriptPlace transactionPlace bytesPlace rowPlaces cellAt molecule.bytesAt cellPlaces placeOf inputFrom cellRowFrom cellFrom bytesFrom bytesAt digitCount verdictOf
+unfolding lentScene blankScene sceneFrom lentInput inputAt inputSince inputPlaces outputPlaces depPlaces witnessPlace scriptPlace transactionPlace bytesPlace rowPlaces cellAt octets.bytesAt cellPlaces placeOf inputFrom cellRowFrom cellFrom bytesFrom bytesAt digitCount verdictOf
 lent-given table store = record {
   script = refl;
   transaction = refl;

@@ -4,8 +4,8 @@ use mathlib.Core.Bool.{Bool}
 use mathlib.Core.List.{List}
 use lib.ListN.{getD}
 use lib.Dec.{eqb}
-use Rattle.molecule.specs.declared.bytes.Place.{Place}
-use Rattle.molecule.specs.Bytes as molecule
+use Rattle.octets.specs.declared.place.Place.{Place}
+use Rattle.octets.specs.Places.{bytesAt}
 use Rattle.scene_table.specs.Scene.{Cell}
 use Rattle.scene_table.specs.Lent.{entryAt, inputsAt, outputsAt, depsAt, witnessesAt, verdictsAt, hashLength, blankScene}
 use Rattle.scene_table.specs.declared.places.CellPlaces.{CellPlaces}
@@ -74,8 +74,8 @@ verdictOf table i = verdictAt (blankScene table .digits) i
 -- the cell at its places in the store
 unfoldable pub cellAt : List ℕ → CellPlaces → Cell
 cellAt store p = record {
-  typeHash = molecule.bytesAt store (p .«type_hash»);
-  dataHash = molecule.bytesAt store (p .«data_hash»);
-  typeScript = molecule.bytesAt store (p .«type_script»);
-  content = molecule.bytesAt store (p .content);
+  typeHash = bytesAt store (p .«type_hash»);
+  dataHash = bytesAt store (p .«data_hash»);
+  typeScript = bytesAt store (p .«type_script»);
+  content = bytesAt store (p .content);
 }

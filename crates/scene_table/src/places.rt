@@ -1,5 +1,5 @@
 // What the table says of the scene: numbers, and places of bytes in the store. An entry past the table's end counts as 0.
-use molecule::Place;
+use octets::Place;
 ghost use mathlib.Core.Path.{_≡_};
 ghost use Prim.Native.Nat.{_≤_, _<_, _^_};
 ghost use Rattle.scene_table.specs.Lent.{entryAt, outputsAt, depsAt, witnessesAt, verdictsAt, hashLength};

@@ -1,11 +1,11 @@
 // One record: a scene that is read and decided, and the line of its answer.
 use account_lock::LockAnswer;
 use account_lock::lock;
-use export_answers::check_number;
 use octets::part;
 use octets::rest;
 use octets::same_bytes;
 use protocol::Check;
+use protocol::check_number;
 use scene_reader::read_scene;
 use scene_text::Number;
 use scene_text::decode;

@@ -14,9 +14,11 @@ use Rattle.protocol.specs.Reading.{OneReading, WritesBack}
 use Rattle.protocol.specs.declared.error.ProtocolError.{ProtocolError}
 use Rattle.protocol.specs.declared.check.Check.{Check}
 use Rattle.protocol.specs.declared.check.Check.the-variants.{Passed, Failed}
-use Rattle.protocol.proofs.Hold.{passed-hold, hold-passed, failed-first, first-failed}
+use Rattle.protocol.proofs.Hold.{passed-hold}
+use Rattle.protocol.proofs.Answers.{answer-given, answer-accepts, answer-refuses}
 use Rattle.protocol.proofs.Back.{writes-back}
 use Rattle.verifier_request.specs.declared.reader.RequestFields.{RequestFields}
+use Rattle.verifier_request.specs.declared.reader.RequestAnswer.{RequestAnswer}
 use Rattle.verifier_request.specs.declared.reader.RequestAnswer.the-variants.{Request, Refused}
 use Rattle.verifier_request.specs.Reader.{requestRows, requestFault, fieldsAt, requestAnswer, readRequest}
 use Rattle.verifier_request.specs.Reading.{RequestReading, RequestTyped, readingOf, requestReading, requestBytes}
@@ -24,29 +26,26 @@ use Rattle.verifier_request.specs.Writer.{limitRows, writerRows, request
 use Rattle.verifier_request.proofs.Form.{typed-sized, length-request}
 use Rattle.verifier_request.proofs.Inverse.{Passes, passes, passes-hold, reading-written, reading-typed, reading-limits, reading-total, written-reading, written-passes}
 
--- what an accepting answer says of the checks and of its fields
-answered : (k : Check) (g f : RequestFields) → requestAnswer k g ≡ Request f → (k ≡ Passed) × (f ≡ g)
-unfolding requestAnswer
-answered Passed g f h = (refl, cc)
-answered (Failed e) g f h = absurd (let z : _≡_ {A = ℕ} 0 1 = cc in omega arith)
+-- what the checks found, by the answer
+abbrev requestFound : RequestAnswer → Check
+requestFound (Request f) = Passed
+requestFound (Refused e) = Failed e
 
--- and a refusing one
-refused : (k : Check) (g : RequestFields) (e : ProtocolError) → requestAnswer k g ≡ Refused e → k ≡ Failed e
+-- which is what it was made from
+request-back : (g : RequestFields) (k : Check) → requestFound (requestAnswer k g) ≡ k
 unfolding requestAnswer
-refused Passed g e h = absurd (let z : _≡_ {A = ℕ} 0 1 = cc in omega arith)
-refused (Failed d) g e h = cc
+request-back g Passed = refl
+request-back g (Failed e) = refl
 
 -- accepted exactly where every check passes
 pub reader-accepts : (s : List ℕ) → (readRequest s ≡ Request (fieldsAt s)) ↔ Hold (requestRows s)
 unfolding readRequest requestFault requestAnswer
-reader-accepts s =
-    (λ h. passed-hold (requestRows s) (answered (decide Passed (requestRows s)) (fieldsAt s) (fieldsAt s) h .0), λ h. rw (hold-passed (requestRows s) h))
+reader-accepts s = answer-accepts (λ k. requestAnswer k (fieldsAt s)) requestFound (request-back (fieldsAt s)) (requestRows s)
 
 -- refused exactly with the first check that fails
 pub reader-refuses : (s : List ℕ) (e : ProtocolError) → (readRequest s ≡ Refused e) ↔ First (requestRows s) e
 unfolding readRequest requestFault requestAnswer
-reader-refuses s e =
-    (λ h. failed-first (requestRows s) e (refused (decide Passed (requestRows s)) (fieldsAt s) e h), λ f. rw (first-failed (requestRows s) e f))
+reader-refuses s e = answer-refuses (λ k. requestAnswer k (fieldsAt s)) requestFound (request-back (fieldsAt s)) (requestRows s) e
 
 -- what the writer writes is accepted, and read as what was written
 pub request-accepted : (r : RequestReading) → RequestTyped r → Hold (writerRows r) → Hold (requestRows (requestBytes r)) × (requestReading (requestBytes r) ≡ r)
@@ -75,10 +74,12 @@ request-one s b h =
 
 -- is the one that the reader gives,
 pub request-given : (s : List ℕ) (f : RequestFields) → readRequest s ≡ Request f → Hold (requestRows s) × (readingOf s f ≡ requestReading s)
-unfolding readRequest requestFault requestReading
+unfolding readRequest requestFault requestReading requestAnswer
 request-given s f h =
-    let z = answered (decide Passed (requestRows s)) (fieldsAt s) f h in
-    (passed-hold (requestRows s) (z .0), ap (readingOf s) (z .1))
+    let z = answer-given (λ k. requestAnswer k (fieldsAt s)) requestFound (request-back (fieldsAt s)) (decide Passed (requestRows s)) (Request f) h refl in
+    let e : Request (fieldsAt s) ≡ Request f = z .1 in
+    let same : f ≡ fieldsAt s = cc in
+    (passed-hold (requestRows s) (z .0), ap (readingOf s) same)
 
 -- and the writer writes it back
 pub request-writes-back : (s : List ℕ) → Bytes s → Hold (requestRows s) → WritesBack (requestWritten (requestReading s)) (requestStored (requestReading s)) s

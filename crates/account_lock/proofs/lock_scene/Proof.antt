@@ -4,7 +4,7 @@ use Rattle.protocol.specs.Rows.{decide, _▷_, _then_}
 use Rattle.scene_table.specs.Lent.{lentScene}
 use lib.ListN.{length}
 use Rattle.protocol.proofs.Hold.{passed-hold}
-use Rattle.molecule.specs.Bytes as molecule
+use Rattle.octets.specs.Places.{bytesAt}
 use Rattle.scene_table.proofs.PlaceLaws.{lent-given}
 use Rattle.group_sighash.specs.Witnesses.{lockIn, groupRows}
 use Rattle.decision.specs.Walk.{answered}
@@ -16,7 +16,7 @@ use Rattle.account_lock.proofs.lock_scene.Statement.{statement}
 use Rattle.account_lock.proofs.lock_scene.Tie as tie
 
 lock-account-requires : tie.Need-lock-account-requires
-unfolding account witnessLock molecule.bytesAt
+unfolding account witnessLock bytesAt
 lock-account-requires c κs =
     let p = c .before .before .before .before .before .before .before .before .before .before .before .before .before .before in
     let s = lentScene (now (p .args .table)) (now (p .args .store)) in
@@ -31,7 +31,7 @@ lock-account-requires c κs =
     }
 
 returns : tie.Need-returns
-unfolding answered refused molecule.bytesAt
+unfolding answered refused bytesAt
 returns c =
     let p = c .before .before .before .before .before .before .before .before .before .before .before .before in
     let s = lentScene (now (p .args .table)) (now (p .args .store)) in
@@ -41,7 +41,7 @@ returns c =
     (c .refused .ensures ∙ ap told (sym failed), ap (λ (x : Result). answered (now (p .args .answer)) (x .made)) (sym failed))
 
 returns-2 : tie.Need-returns-2
-unfolding molecule.bytesAt
+unfolding bytesAt
 returns-2 c =
     let p = c .before .before .before .before .before .before .before .before .before .before .before .before .before .before .before .before .before in
     let s = lentScene (now (p .args .table)) (now (p .args .store)) in

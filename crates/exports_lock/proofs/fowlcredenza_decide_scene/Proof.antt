@@ -23,4 +23,5 @@ fowlcredenza-decide-scene-spec =
     (λ c. search needs)
     (λ c. search needs)
     (λ c. search needs)
+    (λ c. search needs)
     returns)

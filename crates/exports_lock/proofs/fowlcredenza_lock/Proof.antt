@@ -21,4 +21,5 @@ fowlcredenza-lock-spec =
     (λ c κs. search needs)
     (λ c. search needs)
     (λ c. search needs)
+    (λ c. search needs)
     returns)

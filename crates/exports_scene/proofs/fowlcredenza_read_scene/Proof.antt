@@ -16,4 +16,5 @@ fowlcredenza-read-scene-spec =
     (λ c κs. search needs)
     (λ c. search needs)
     (λ c. search needs)
+    (λ c. search needs)
     returns)

@@ -1,7 +1,7 @@
 -- `account_lock::script::check_args` meets its contract. Assumes nothing.
 use mathlib.Core.Path.{_≡_, refl, sym, ap, _∙_}
 use denote.Ref.{now}
-use Rattle.account_lock.proofs.Answers.{argsFound, args-found}
+use Rattle.protocol.proofs.ArgsTheorem.{argsFound, args-found}
 use borrow.Author.Needs.{needs}
 use Rattle.account_lock.proofs.script.check_args.Statement.{statement}
 use Rattle.account_lock.proofs.script.check_args.Tie as tie

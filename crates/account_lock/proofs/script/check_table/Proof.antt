@@ -1,8 +1,7 @@
 -- `account_lock::script::check_table` meets its contract. Assumes nothing.
 use mathlib.Core.Path.{_≡_, refl, sym, ap, _∙_}
 use denote.Ref.{now}
-use Rattle.account_lock.proofs.Answers.{script-found}
-use Rattle.group_sighash.proofs.Answers.{placeFound}
+use Rattle.molecule.proofs.BytesTheorem.{placeFound, script-found}
 use borrow.Author.Needs.{needs}
 use Rattle.account_lock.proofs.script.check_table.Statement.{statement}
 use Rattle.account_lock.proofs.script.check_table.Tie as tie

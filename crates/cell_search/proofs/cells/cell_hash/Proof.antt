@@ -1,5 +1,5 @@
 -- `cell_search::cells::cell_hash` meets its contract. Assumes nothing.
-use Rattle.molecule.specs.Bytes.{bytesAt}
+use Rattle.octets.specs.Places.{bytesAt}
 use Rattle.scene_table.specs.Places as places
 use Rattle.cell_search.specs.Search.{hashOf}
 use borrow.Author.Needs.{needs}

@@ -2,7 +2,7 @@
 use denote.Ref.{now}
 use mathlib.Core.Path.{_≡_, sym, ap, _∙_}
 use Rattle.scene_table.specs.Scene.{Cell}
-use Rattle.molecule.specs.Bytes.{bytesAt}
+use Rattle.octets.specs.Places.{bytesAt}
 use Rattle.scene_table.specs.Places as places
 use Rattle.cell_search.specs.Search.{noCell}
 use Rattle.cell_search.proofs.CellLaws.{cell-there, cell-missing}

@@ -4,11 +4,11 @@ use mathlib.Core.List.{List, [], _∷_}
 use Prim.Native.Nat.{ℕ, suc}
 use lib.ListN.{length}
 use borrow.Author.Tests.{eqb-true}
+use Rattle.octets.proofs.Arrays.{array-whole}
 use Rattle.protocol.specs.Args.{argsBytes}
 use Rattle.protocol.proofs.Back.{write-passed}
 use Rattle.protocol.proofs.Outcome.{write-refused, write-done}
 use Rattle.export_answers.specs.Lent.{sizeRow}
-use Rattle.export_answers.proofs.Sizes.{array-whole}
 use Rattle.exports.specs.Writers.{argsFault, argsWritten, argsStored}
 use borrow.Author.Needs.{needs}
 use Rattle.exports.proofs.args.write_args.Statement.{statement}
@@ -29,7 +29,7 @@ returns-2 c =
     let account : List ℕ = a .account .now in
     let found = k .check-account .ensures in
     let n : length account ≡ 32 = eqb-true _ _ (write-passed _ _ _ (sym found ∙ told .enum-told .given .1) .0 .0) in
-    let stored = rw (lock .account-lock-args .ensures, lock .before .array-32 .ensures ∙ array-whole account n) at (store .store-bytes .ensures) in
+    let stored = rw (lock .account-lock-args .ensures, lock .before .array-32 .ensures ∙ array-whole 32 account n) at (store .store-bytes .ensures) in
     write-done (sizeRow account ∷ []) 33 (a .out .now) _ found (argsBytes account) _ (told .enum-told .given .1) (ap suc n) stored
 
 pub write-args-spec : {M : Type 1} → statement M

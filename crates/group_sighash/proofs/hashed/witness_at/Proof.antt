@@ -1,7 +1,7 @@
 -- `group_sighash::hashed::witness_at` meets its contract. Assumes nothing.
 use mathlib.Core.Path.{_≡_, refl, sym, ap, _∙_}
 use Rattle.group_sighash.specs.Hashed.{witnessAt}
-use Rattle.molecule.specs.Bytes.{bytesAt}
+use Rattle.octets.specs.Places.{bytesAt}
 use borrow.Author.Needs.{needs}
 use Rattle.group_sighash.proofs.hashed.witness_at.Statement.{statement}
 use Rattle.group_sighash.proofs.hashed.witness_at.Tie as tie

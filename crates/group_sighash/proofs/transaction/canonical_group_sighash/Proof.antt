@@ -11,7 +11,7 @@ use Rattle.authorization.specs.declared.witness.CanonicalFed.{CanonicalFed}
 use Rattle.authorization.specs.Sighash.{sighashInput, sighashOf, sighashFound, sighashAnswer}
 use Rattle.authorization.proofs.SighashTheorem.{fed-found, fed-passed, input-fed}
 use Rattle.scene_table.specs.Lent.{lentScene}
-use Rattle.molecule.specs.Bytes.{bytesAt}
+use Rattle.octets.specs.Places.{bytesAt}
 use Rattle.scene_table.proofs.PlaceLaws.{lent-given}
 use Rattle.group_sighash.specs.Witnesses.{firstWitness, otherWitnesses}
 use Rattle.group_sighash.specs.GroupSighash.{groupAnswer}

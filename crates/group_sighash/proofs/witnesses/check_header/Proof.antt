@@ -1,7 +1,7 @@
 -- `group_sighash::witnesses::check_header` meets its contract. Assumes nothing.
 use mathlib.Core.Path.{_≡_, refl, sym, ap, _∙_}
 use denote.Ref.{now}
-use Rattle.group_sighash.proofs.Answers.{headerFound, header-found}
+use Rattle.account_witness.proofs.Accepted.{headerFound, header-found}
 use borrow.Author.Needs.{needs}
 use Rattle.group_sighash.proofs.witnesses.check_header.Statement.{statement}
 use Rattle.group_sighash.proofs.witnesses.check_header.Tie as tie

@@ -1,7 +1,7 @@
 -- `group_sighash::witnesses::check_lock` meets its contract. Assumes nothing.
 use mathlib.Core.Path.{_≡_, refl, sym, ap, _∙_}
 use denote.Ref.{now}
-use Rattle.group_sighash.proofs.Answers.{placeFound, lock-found}
+use Rattle.molecule.proofs.BytesTheorem.{placeFound, lock-found}
 use borrow.Author.Needs.{needs}
 use Rattle.group_sighash.proofs.witnesses.check_lock.Statement.{statement}
 use Rattle.group_sighash.proofs.witnesses.check_lock.Tie as tie

@@ -9,4 +9,4 @@ pub authorization-digest-spec : {M : Type 1} → statement M
 unfolding code.routine
 authorization-digest-spec 𝓤 H 𝓜 𝓖 𝓡 =
     its-part 𝓤 H 𝓜 𝓖 𝓡 code.env name 5 (λ f. f .«authorization_digest») (record { off = _; there = refl; holds = λ f. refl })
-    (code.unfolded 𝓤 H 𝓜 𝓡) code.calls-held-request·places·part-at
+    (code.unfolded 𝓤 H 𝓜 𝓡) code.calls-octets·part-at

@@ -9,4 +9,4 @@ pub proof-spec : {M : Type 1} → statement M
 unfolding code.routine
 proof-spec 𝓤 H 𝓜 𝓖 𝓡 =
     its-part 𝓤 H 𝓜 𝓖 𝓡 code.env name 8 (λ f. f .proof) (record { off = _; there = refl; holds = λ f. refl })
-    (code.unfolded 𝓤 H 𝓜 𝓡) code.calls-held-request·places·part-at
+    (code.unfolded 𝓤 H 𝓜 𝓡) code.calls-octets·part-at

@@ -1,4 +1,5 @@
-use Rattle.molecule.specs.Bytes.{bytesIn, bytesAt}
+use Rattle.octets.specs.Places.{bytesAt}
+use Rattle.molecule.specs.Bytes.{bytesIn}
 use borrow.Author.Needs.{needs}
 use Rattle.molecule.proofs.bytes.bytes_in.Statement.{statement}
 use Rattle.molecule.proofs.bytes.bytes_in.Tie as tie

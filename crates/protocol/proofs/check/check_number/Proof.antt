@@ -1,7 +1,7 @@
--- `decide_scene::check_number` meets its contract, by cases. Assumes nothing.
+-- `protocol::check::check_number` meets its contract, by what was found. Assumes nothing.
 use borrow.Author.Needs.{needs}
-use Rattle.decide_scene.proofs.check_number.Statement.{statement}
-use Rattle.decide_scene.proofs.check_number.Tie as tie
+use Rattle.protocol.proofs.check.check_number.Statement.{statement}
+use Rattle.protocol.proofs.check.check_number.Tie as tie
 
 returns : tie.Need-returns
 returns c = rw (c .before .before .found .given .1) (c .error-number .ensures)

@@ -1,0 +1,43 @@
+-- 01: "The smallest state has 113 bytes." No accepted state has fewer: 32 of the header, and of its first entry 48, a key of 32
+-- and an aux that is not empty.
+-- Assumes nothing.
+use mathlib.Core.Path.{_≡_}
+use mathlib.Core.List.{List, _++_}
+use Prim.Native.Nat.{ℕ, zero, suc, _+_, _-_, _≤_}
+use native.Mathlib.Omega.{arith}
+use borrow.Author.Tests.{leb-true, eqb-true}
+use lib.ListN.{length, drop, length-drop}
+use Rattle.octets.specs.Le.{numberAt}
+use Rattle.protocol.specs.Rows.{Hold}
+use Rattle.protocol.proofs.Hold.{hold-split}
+use Rattle.account_state.specs.Reading.{lengthOf, keyLengthOf, auxLengthOf}
+use Rattle.account_state.specs.State.{headRows, layoutRows, fieldRows, entryRows, entriesRows, tailRows, stateRows}
+
+-- an entry that passes has 81 bytes
+entry-smallest : (e : List ℕ) (least : ℕ) → Hold (entryRows e least) → 81 ≤ length e
+unfolding entryRows layoutRows fieldRows
+entry-smallest e least h =
+    let z = hold-split (layoutRows e least) (fieldRows e) h in
+    let whole : lengthOf e ≡ 48 + keyLengthOf e + auxLengthOf e = eqb-true _ _ (z .0 .1 .0) in
+    let inside : lengthOf e ≤ length e = leb-true _ _ (z .0 .1 .1 .0) in
+    let key : keyLengthOf e ≡ 32 = eqb-true _ _ (z .1 .1 .1 .1 .1 .1 .0) in
+    let aux : 1 ≤ auxLengthOf e = leb-true _ _ (z .1 .1 .1 .1 .1 .1 .1 .0) in
+    omega arith
+
+-- so have the entries that pass, if there is one
+entries-smallest : (n : ℕ) (e : List ℕ) (least : ℕ) → 1 ≤ n → Hold (entriesRows n e least) → 81 ≤ length e
+unfolding entriesRows
+entries-smallest zero e least some h = absurd (omega arith)
+entries-smallest (suc n) e least some h = entry-smallest e least (hold-split (entryRows e least) _ h .0)
+
+-- The theorem: a state that passes its rows has at least 113 bytes.
+pub state-smallest : (s : List ℕ) → Hold (stateRows s) → 113 ≤ length s
+unfolding stateRows headRows
+state-smallest s h =
+    let count = numberAt s 22 1 in
+    let e = drop 32 s in
+    let z = hold-split (headRows s) (entriesRows count e 0 ++ tailRows s count e) h in
+    let entries = hold-split (entriesRows count e 0) (tailRows s count e) (z .1) .0 in
+    let l : 81 ≤ length e = entries-smallest count e 0 (leb-true _ _ (z .0 .1 .1 .1 .1 .1 .1 .1 .0)) entries in
+    let n : length e ≡ length s - 32 = length-drop 32 s in
+    omega arith
