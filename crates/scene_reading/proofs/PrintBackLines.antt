@@ -23,10 +23,8 @@ use Rattle.scene_table.specs.Valid.{bytesOk, hashOk, cellOk, inputOk, digitsOk}
 use Rattle.scene_reading.specs.Lines.{wordOf, kindOfLine, fieldsOfLine, countOk, formOk}
 use Rattle.scene_reading.specs.Print.{commaed, lineText, digitsText, cellFields, inputFields, inputText, cellText, bytesText, endedLines}
 use Rattle.scene_reading.specs.Reading.{cellOf, inputOf, fieldAt}
-use Rattle.scene_reading.proofs.LineRows as rows
-use Rattle.scene_reading.proofs.LineRows.{fieldsFrom, fields-from}
 use Rattle.scene_reading.proofs.PrintBackDigits.{hex-print, digits-print}
-use Rattle.scene_reading.proofs.PrintBackFields.{hash-print, cell-print, input-print}
+use Rattle.scene_reading.proofs.PrintBackFields.{fieldsFrom, fields-from, hash-print, cell-print, input-print}
 
 -- pieces with c before each
 parted : ℕ → List (List ℕ) → List ℕ
@@ -121,7 +119,8 @@ module _ (l : List ℕ) (k : Kind) (p : LinePasses l k) where
   named = rw (p .is) at (kind-named (wordOf (pieces 44 l)))
 
   field-count : length (fieldsOfLine l) ≡ fieldCount k
-  field-count = rw (p .is) at (rows.field-count l (p .counted))
+  unfolding countOk
+  field-count = rw (p .is) at (eqb-true (length (fieldsOfLine l)) (fieldCount (kindOfLine l)) (p .counted))
 
   field-forms : formsOk true (firstForm k) (fieldsOfLine l) ≡ true
   unfolding formOk
@@ -148,7 +147,7 @@ module _ (l : List ℕ) (k : Kind) (p : LinePasses l k) where
   unfolding cellText
   cell-line word w n f =
       let c = cell-print (fieldsOfLine l) (field-count ∙ n) (rw f at field-forms) in
-      record { value = cellOf (fieldsOfLine l) 0; fits = c .ok; print = line-whole word (cellFields (cellOf (fieldsOfLine l) 0)) w (c .text) }
+      record { value = cellOf 0 (fieldsOfLine l); fits = c .ok; print = line-whole word (cellFields (cellOf 0 (fieldsOfLine l))) w (c .text) }
 
 module _ (l : List ℕ) where
   pub script-line : LinePasses l kind.Script → PrintOf bytesOk (bytesText script) l

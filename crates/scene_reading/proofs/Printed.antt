@@ -1,23 +1,24 @@
 -- The printed text of a scene that a text can say: no line row refuses it, and it says that scene.
 -- Assumes nothing.
 use Prim.Native.Nat.{ℕ, _≤_}
-use mathlib.Core.Path.{_≡_, refl}
-use mathlib.Core.Bool.{Bool, true, _&&_}
-use mathlib.Core.List.{List, [], _∷_, _++_, map, append-assoc, append-nil}
+use mathlib.Core.Path.{_≡_, refl, ap, _∙_}
+use mathlib.Core.Bool.{Bool, true, false, cond, _&&_}
+use mathlib.Core.List.{List, [], _∷_, _++_, map, append-assoc}
 use native.Mathlib.Omega.{arith}
 use borrow.Author.Tests.{leb-true}
 use lib.ListN.{length}
-use lib.Dec.{leb}
+use lib.Dec.{leb, eqb}
 use Rattle.scene_text.specs.Text.{pieces}
 use Rattle.scene_text.proofs.Tests.{and-left, and-right}
 use Rattle.scene_line.specs.declared.kind.Kind.{Kind}
 use Rattle.scene_line.specs.declared.kind.Kind.the-variants as kind
-use Rattle.scene_line.specs.Kind.{script, tx, output, dep, witness}
-use Rattle.scene_table.specs.Scene.{Cell, Input, Scene, bytesLine, inputLine, cellLine, linesOf, sceneBytes}
+use Rattle.scene_line.specs.Kind.{place, script, tx, output, dep, witness}
+use Rattle.scene_table.specs.Scene.{Scene, Line, bytesLine, inputLine, cellLine, linesOf, sceneBytes}
 use Rattle.scene_table.specs.Valid.{every, bytesOk, hashOk, cellOk, inputOk, fewOf, digitsOk, sceneOk}
-use Rattle.scene_reading.specs.Lines.{kindsOf, Passes}
-use Rattle.scene_reading.specs.Print.{hexText, cellFields, inputFields, inputText, cellText, bytesText, textLines, textOf}
-use Rattle.scene_reading.specs.Reading.{fieldAt, readingOf, withLine, nothing}
+use Rattle.scene_reading.specs.Lines.{kindsOf, bytesOfLine, Passes}
+use Rattle.scene_reading.specs.Print.{hexText, digitsText, cellFields, inputFields, inputText, cellText, bytesText, textLines, textOf}
+use Rattle.scene_reading.specs.Reading.{fieldAt, cellOf, inputOf, bytesOf, fieldsOfKind, onlyField, readingOf}
+use Rattle.scene_reading.proofs.LineRows.{lineIn, rowOf}
 use Rattle.scene_reading.proofs.PrintPieces.{lines-pieces}
 use Rattle.scene_reading.proofs.PrintDigits.{hex-back, digits-back}
 use Rattle.scene_reading.proofs.PrintFields.{HashHolds, hash-holds, cell-holds, cell-back, input-holds, input-back}
@@ -33,6 +34,7 @@ unfolding fewOf
 few-holds ok xs h =
     record { count = leb-true (length xs) 64 (and-left (leb (length xs) 64) (every ok xs) h); each = and-right (leb (length xs) 64) (every ok xs) h }
 
+-- each part of a scene that a text can say
 pub record SceneHolds (s : Scene) : Type 0 where
   pub script : bytesOk (s .script) ≡ true
   pub transaction : HashHolds (s .transaction)
@@ -80,6 +82,12 @@ scene-prints s h =
     let head = more (bytes-prints script kind.Script script-word refl refl (s .script) (h .script)) (more (hash-prints (s .transaction) (h .transaction)) inputs) in
     each-append (each-append (each-append (each-append head outputs) deps) witnesses) verdict
 
+-- the bytes of lines are those that the reader puts down
+pub row-bytes : (ls : List (List ℕ)) → map bytesOfLine ls ≡ map (λ (l : Line). l .bytes) (map rowOf ls)
+unfolding bytesOfLine rowOf lineIn
+row-bytes [] = refl
+row-bytes (l ∷ ls) = ap (λ (t : List (List ℕ)). bytesOfLine l ∷ t) (row-bytes ls)
+
 -- the printed text is cut into its lines
 pub printed-pieces : (s : Scene) → sceneOk s ≡ true → pieces 10 (textOf s) ≡ textLines s ++ ([] ∷ [])
 unfolding textOf
@@ -105,133 +113,101 @@ printed-passes s n ok room =
       few-deps = h .deps .count;
       few-witnesses = h .witnesses .count;
       formed = r .formed;
-      room = rw (r .bytes) room;
+      room = rw (row-bytes (textLines s), r .rows) room;
     }
 
+-- its lines are the printed ones
 pub printed-lines : (s : Scene) (n : ℕ) (ok : sceneOk s ≡ true) (room : length (sceneBytes s) ≤ n) → printed-passes s n ok room .lines ≡ textLines s
 unfolding printed-passes
 printed-lines s n ok room = refl
 
--- what lines of one kind say, before what the lines behind them say
-withInputs : List Input → Scene → Scene
-withInputs xs s = record {
-  script = s .script;
-  transaction = s .transaction;
-  inputs = xs ++ s .inputs;
-  outputs = s .outputs;
-  deps = s .deps;
-  witnesses = s .witnesses;
-  digits = s .digits;
-}
+-- the fields of lines of kind j, where those of kind k are asked for
+given : Kind → Kind → List (List (List ℕ)) → List (List (List ℕ))
+given j k fss = cond (eqb (place j) (place k)) fss []
 
-withOutputs : List Cell → Scene → Scene
-withOutputs xs s = record {
-  script = s .script;
-  transaction = s .transaction;
-  inputs = s .inputs;
-  outputs = xs ++ s .outputs;
-  deps = s .deps;
-  witnesses = s .witnesses;
-  digits = s .digits;
-}
+module _ (k : Kind) where
+  -- a line gives its fields to its kind
+  line-gives : (l : List ℕ) (j : Kind) (fs : List (List ℕ)) (ls : List (List ℕ)) → Says l j fs
+      → fieldsOfKind k (l ∷ ls) ≡ given j k (fs ∷ []) ++ fieldsOfKind k ls
+  unfolding fieldsOfKind given
+  line-gives l j fs ls says = rw (says .kind, says .fields) (go (eqb (place j) (place k)) (fieldsOfKind k ls))
+    where
+      go : (b : Bool) (rest : List (List (List ℕ))) → cond b (fs ∷ rest) rest ≡ cond b (fs ∷ []) [] ++ rest
+      go true rest = refl
+      go false rest = refl
 
-withDeps : List Cell → Scene → Scene
-withDeps xs s = record {
-  script = s .script;
-  transaction = s .transaction;
-  inputs = s .inputs;
-  outputs = s .outputs;
-  deps = xs ++ s .deps;
-  witnesses = s .witnesses;
-  digits = s .digits;
-}
+  -- and so do lines of one kind
+  lines-give : {A : Type 0} (ok : A → Bool) (text : A → List ℕ) (j : Kind) (fields : A → List (List ℕ)) → ((x : A) → ok x ≡ true → Says (text x) j (fields x))
+      → (xs : List A) → every ok xs ≡ true → (ls : List (List ℕ)) → fieldsOfKind k (map text xs ++ ls) ≡ given j k (map fields xs) ++ fieldsOfKind k ls
+  unfolding every given
+  lines-give ok text j fields says [] h ls = none-given (eqb (place j) (place k))
+    where
+      none-given : (b : Bool) → fieldsOfKind k ls ≡ cond b [] [] ++ fieldsOfKind k ls
+      none-given true = refl
+      none-given false = refl
+  lines-give ok text j fields says (x ∷ xs) h ls =
+      line-gives (text x) j (fields x) (map text xs ++ ls) (says x (and-left (ok x) (every ok xs) h))
+      ∙ rw (lines-give ok text j fields says xs (and-right (ok x) (every ok xs) h) ls) (go (eqb (place j) (place k)))
+    where
+      go : (b : Bool) → cond b (fields x ∷ []) [] ++ (cond b (map fields xs) [] ++ fieldsOfKind k ls) ≡ cond b (fields x ∷ map fields xs) [] ++ fieldsOfKind k ls
+      go true = refl
+      go false = refl
 
-withWitnesses : List (List ℕ) → Scene → Scene
-withWitnesses xs s = record {
-  script = s .script;
-  transaction = s .transaction;
-  inputs = s .inputs;
-  outputs = s .outputs;
-  deps = s .deps;
-  witnesses = xs ++ s .witnesses;
-  digits = s .digits;
-}
+-- the only field of a line of bytes
+bytesFields : List ℕ → List (List ℕ)
+bytesFields bytes = hexText bytes ∷ []
 
-lines-say : {A : Type 0} (ok : A → Bool) (text : A → List ℕ) (k : Kind) (fields : A → List (List ℕ)) (put : List A → Scene → Scene)
-    → ((x : A) → ok x ≡ true → Says (text x) k (fields x)) → ((s : Scene) → s ≡ put [] s)
-    → ((x : A) → ok x ≡ true → (xs : List A) (s : Scene) → withLine k (fields x) (put xs s) ≡ put (x ∷ xs) s)
-    → (xs : List A) → every ok xs ≡ true → (ls : List (List ℕ)) → readingOf (map text xs ++ ls) ≡ put xs (readingOf ls)
-unfolding every readingOf
-lines-say ok text k fields put says empty next [] h ls = empty (readingOf ls)
-lines-say ok text k fields put says empty next (x ∷ xs) h ls =
-    let a = and-left (ok x) (every ok xs) h in
-    rw (says x a .kind, says x a .fields, lines-say ok text k fields put says empty next xs (and-right (ok x) (every ok xs) h) ls)
-    (next x a xs (readingOf ls))
-
-inputs-say : (xs : List Input) → every inputOk xs ≡ true → (ls : List (List ℕ)) → readingOf (map inputText xs ++ ls) ≡ withInputs xs (readingOf ls)
-unfolding withLine withInputs
-inputs-say =
-    lines-say inputOk inputText kind.Input inputFields withInputs (λ i e. input-says i (input-holds i e)) (λ s. refl)
-    (λ i e xs s. rw (input-back i (input-holds i e)))
-
-outputs-say : (xs : List Cell) → every cellOk xs ≡ true → (ls : List (List ℕ)) → readingOf (map (cellText output) xs ++ ls) ≡ withOutputs xs (readingOf ls)
-unfolding withLine withOutputs
-outputs-say =
-    lines-say cellOk (cellText output) kind.Output cellFields withOutputs (λ c e. cell-says output kind.Output output-word c (cell-holds c e)) (λ s. refl)
-    (λ c e xs s. rw (cell-back c (cell-holds c e)))
-
-deps-say : (xs : List Cell) → every cellOk xs ≡ true → (ls : List (List ℕ)) → readingOf (map (cellText dep) xs ++ ls) ≡ withDeps xs (readingOf ls)
-unfolding withLine withDeps
-deps-say =
-    lines-say cellOk (cellText dep) kind.Dep cellFields withDeps (λ c e. cell-says dep kind.Dep dep-word c (cell-holds c e)) (λ s. refl)
-    (λ c e xs s. rw (cell-back c (cell-holds c e)))
-
-witnesses-say : (xs : List (List ℕ)) → every bytesOk xs ≡ true → (ls : List (List ℕ)) → readingOf (map (bytesText witness) xs ++ ls) ≡ withWitnesses xs (readingOf ls)
-unfolding withLine withWitnesses fieldAt
-witnesses-say =
-    lines-say bytesOk (bytesText witness) kind.Witness (λ (b : List ℕ). hexText b ∷ []) withWitnesses (bytes-says witness kind.Witness witness-word) (λ s. refl)
-    (λ b e xs s. rw (hex-back b e))
-
+-- five lists end to end
 right-nested : {A : Type 0} (a b c d e : List A) → a ++ b ++ c ++ d ++ e ≡ a ++ (b ++ (c ++ (d ++ e)))
 right-nested a b c d e = simp append-assoc
 
--- the lines behind the first two
-rest-says : (s : Scene) → SceneHolds s → (ls : List (List ℕ))
-    → readingOf (map inputText (s .inputs) ++ map (cellText output) (s .outputs) ++ map (cellText dep) (s .deps) ++ map (bytesText witness) (s .witnesses) ++ ls)
-    ≡ withInputs (s .inputs) (withOutputs (s .outputs) (withDeps (s .deps) (withWitnesses (s .witnesses) (readingOf ls))))
-rest-says s h ls =
+-- the fields of each kind in the printed text
+printed-fields : (s : Scene) → SceneHolds s → (k : Kind) → fieldsOfKind k (textLines s)
+    ≡ given kind.Script k (bytesFields (s .script) ∷ [])
+    ++ (given kind.Tx k (bytesFields (s .transaction) ∷ [])
+    ++ (given kind.Input k (map inputFields (s .inputs))
+    ++ (given kind.Output k (map cellFields (s .outputs))
+    ++ (given kind.Dep k (map cellFields (s .deps))
+    ++ (given kind.Witness k (map bytesFields (s .witnesses)) ++ (given kind.Verdicts k ((digitsText (s .digits) ∷ []) ∷ []) ++ []))))))
+unfolding textLines bytesFields fieldsOfKind
+printed-fields s h k =
     rw (
-      right-nested (map inputText (s .inputs)) (map (cellText output) (s .outputs)) (map (cellText dep) (s .deps)) (map (bytesText witness) (s .witnesses)) ls,
-      inputs-say (s .inputs) (h .inputs .each),
-      outputs-say (s .outputs) (h .outputs .each),
-      deps-say (s .deps) (h .deps .each),
-      witnesses-say (s .witnesses) (h .witnesses .each),
+      line-gives k _ _ _ _ (bytes-says script kind.Script script-word (s .script) (h .script)),
+      line-gives k _ _ _ _ (bytes-says tx kind.Tx tx-word (s .transaction) (h .transaction .bytes)),
+      right-nested (map inputText (s .inputs)) (map (cellText output) (s .outputs)) (map (cellText dep) (s .deps)) (map (bytesText witness) (s .witnesses)) _,
+      lines-give k inputOk inputText kind.Input inputFields (λ i e. input-says i (input-holds i e)) (s .inputs) (h .inputs .each),
+      lines-give k cellOk (cellText output) kind.Output cellFields (λ c e. cell-says output kind.Output output-word c (cell-holds c e)) (s .outputs) (h .outputs .each),
+      lines-give k cellOk (cellText dep) kind.Dep cellFields (λ c e. cell-says dep kind.Dep dep-word c (cell-holds c e)) (s .deps) (h .deps .each),
+      lines-give k bytesOk (bytesText witness) kind.Witness bytesFields (bytes-says witness kind.Witness witness-word) (s .witnesses) (h .witnesses .each),
+      line-gives k _ _ _ _ (digits-says (s .digits) (h .digits)),
     )
 
-first-says : (l : List ℕ) (k : Kind) (fs : List (List ℕ)) (ls : List (List ℕ)) → Says l k fs → readingOf (l ∷ ls) ≡ withLine k fs (readingOf ls)
-unfolding readingOf
-first-says l k fs ls says = rw (says .kind, says .fields)
-
-no-line-says : readingOf [] ≡ nothing
-unfolding readingOf
-no-line-says = refl
+-- the values of printed fields are the values that were printed
+values-back : {A : Type 0} (ok : A → Bool) (fields : A → List (List ℕ)) (value : List (List ℕ) → A) → ((x : A) → ok x ≡ true → value (fields x) ≡ x)
+    → (xs : List A) → every ok xs ≡ true → map value (map fields xs ++ []) ≡ xs
+unfolding every
+values-back ok fields value back [] h = refl
+values-back ok fields value back (x ∷ xs) h =
+    rw (back x (and-left (ok x) (every ok xs) h), values-back ok fields value back xs (and-right (ok x) (every ok xs) h))
 
 -- and it says the scene
 pub printed-reading : (s : Scene) → sceneOk s ≡ true → readingOf (textLines s) ≡ s
-unfolding textLines withLine withInputs withOutputs withDeps withWitnesses nothing fieldAt
+unfolding readingOf given onlyField bytesOf bytesFields fieldAt
 printed-reading s ok =
     let h = scene-holds s ok in
     rw (
-      first-says _ _ _ _ (bytes-says script kind.Script script-word (s .script) (h .script)),
-      first-says _ _ _ _ (bytes-says tx kind.Tx tx-word (s .transaction) (h .transaction .bytes)),
-      rest-says s h,
-      first-says _ _ _ _ (digits-says (s .digits) (h .digits)),
-      no-line-says,
+      printed-fields s h kind.Script,
+      printed-fields s h kind.Tx,
+      printed-fields s h kind.Input,
+      printed-fields s h kind.Output,
+      printed-fields s h kind.Dep,
+      printed-fields s h kind.Witness,
+      printed-fields s h kind.Verdicts,
       hex-back (s .script) (h .script),
       hex-back (s .transaction) (h .transaction .bytes),
+      values-back inputOk inputFields inputOf (λ i e. input-back i (input-holds i e)) (s .inputs) (h .inputs .each),
+      values-back cellOk cellFields (cellOf 0) (λ c e. cell-back c (cell-holds c e)) (s .outputs) (h .outputs .each),
+      values-back cellOk cellFields (cellOf 0) (λ c e. cell-back c (cell-holds c e)) (s .deps) (h .deps .each),
+      values-back bytesOk bytesFields bytesOf hex-back (s .witnesses) (h .witnesses .each),
       digits-back 3 (omega arith) (s .digits) (h .digits .each),
-      append-nil (s .inputs),
-      append-nil (s .outputs),
-      append-nil (s .deps),
-      append-nil (s .witnesses),
     )
