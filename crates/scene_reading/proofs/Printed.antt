@@ -8,12 +8,12 @@ use native.Mathlib.Omega.{arith}
 use borrow.Author.Tests.{leb-true}
 use lib.ListN.{length}
 use lib.Dec.{leb, eqb}
-use Rattle.scene_text.specs.Text.{pieces}
+use Rattle.scene_text.specs.Text.{pieces, hexBytes, hexVal}
 use Rattle.scene_text.proofs.Tests.{and-left, and-right}
 use Rattle.scene_line.specs.declared.kind.Kind.{Kind}
 use Rattle.scene_line.specs.declared.kind.Kind.the-variants as kind
 use Rattle.scene_line.specs.Kind.{place, script, tx, output, dep, witness}
-use Rattle.scene_table.specs.Scene.{Scene, Line, bytesLine, inputLine, cellLine, linesOf, sceneBytes}
+use Rattle.scene_table.specs.Scene.{Cell, Scene, Line, bytesLine, inputLine, cellLine, linesOf, sceneBytes}
 use Rattle.scene_table.specs.Valid.{every, bytesOk, hashOk, cellOk, inputOk, fewOf, digitsOk, sceneOk}
 use Rattle.scene_reading.specs.Lines.{kindsOf, bytesOfLine, Passes}
 use Rattle.scene_reading.specs.Print.{hexText, digitsText, cellFields, inputFields, inputText, cellText, bytesText, textLines, textOf}
@@ -190,24 +190,28 @@ values-back ok fields value back [] h = refl
 values-back ok fields value back (x ∷ xs) h =
     rw (back x (and-left (ok x) (every ok xs) h), values-back ok fields value back xs (and-right (ok x) (every ok xs) h))
 
--- and it says the scene
+cells-back : (cs : List Cell) → every cellOk cs ≡ true → map (cellOf 0) (map cellFields cs ++ []) ≡ cs
+cells-back = values-back cellOk cellFields (cellOf 0) (λ c e. cell-back c (cell-holds c e))
+
+-- and it says the scene, part by part
 pub printed-reading : (s : Scene) → sceneOk s ≡ true → readingOf (textLines s) ≡ s
 unfolding readingOf given onlyField bytesOf bytesFields fieldAt
 printed-reading s ok =
     let h = scene-holds s ok in
-    rw (
-      printed-fields s h kind.Script,
-      printed-fields s h kind.Tx,
-      printed-fields s h kind.Input,
-      printed-fields s h kind.Output,
-      printed-fields s h kind.Dep,
-      printed-fields s h kind.Witness,
-      printed-fields s h kind.Verdicts,
-      hex-back (s .script) (h .script),
-      hex-back (s .transaction) (h .transaction .bytes),
-      values-back inputOk inputFields inputOf (λ i e. input-back i (input-holds i e)) (s .inputs) (h .inputs .each),
-      values-back cellOk cellFields (cellOf 0) (λ c e. cell-back c (cell-holds c e)) (s .outputs) (h .outputs .each),
-      values-back cellOk cellFields (cellOf 0) (λ c e. cell-back c (cell-holds c e)) (s .deps) (h .deps .each),
-      values-back bytesOk bytesFields bytesOf hex-back (s .witnesses) (h .witnesses .each),
-      digits-back 3 (omega arith) (s .digits) (h .digits .each),
-    )
+    let fields = printed-fields s h in
+    let script = ap (λ (f : List (List (List ℕ))). hexBytes (onlyField f)) (fields kind.Script) ∙ hex-back (s .script) (h .script) in
+    let transaction = ap (λ (f : List (List (List ℕ))). hexBytes (onlyField f)) (fields kind.Tx) ∙ hex-back (s .transaction) (h .transaction .bytes) in
+    let inputs = ap (map inputOf) (fields kind.Input) ∙ values-back inputOk inputFields inputOf (λ i e. input-back i (input-holds i e)) (s .inputs) (h .inputs .each) in
+    let outputs = ap (map (cellOf 0)) (fields kind.Output) ∙ cells-back (s .outputs) (h .outputs .each) in
+    let deps = ap (map (cellOf 0)) (fields kind.Dep) ∙ cells-back (s .deps) (h .deps .each) in
+    let witnesses = ap (map bytesOf) (fields kind.Witness) ∙ values-back bytesOk bytesFields bytesOf hex-back (s .witnesses) (h .witnesses .each) in
+    let digits = ap (λ (f : List (List (List ℕ))). map hexVal (onlyField f)) (fields kind.Verdicts) ∙ digits-back 3 (omega arith) (s .digits) (h .digits .each) in
+    λ i. record {
+      script = script i;
+      transaction = transaction i;
+      inputs = inputs i;
+      outputs = outputs i;
+      deps = deps i;
+      witnesses = witnesses i;
+      digits = digits i;
+    }
