@@ -23,7 +23,7 @@ use Rattle.cell_search.specs.declared.cells.Source.the-variants as sourc
 use Rattle.cell_search.specs.declared.cells.CellField.{CellField}
 use Rattle.cell_search.specs.declared.search.Search.{Search}
 use Rattle.cell_search.specs.declared.search.Search.the-variants.{Missing, One, Several}
-use Rattle.cell_search.specs.Search.{cellsOf, hashOf, matching, matches, searchOf, isMissing, isOne, isSeveral, cellAt, noCell}
+use Rattle.cell_search.specs.Search.{cellsOf, hashOf, matching, searchOf, isMissing, isOne, isSeveral, cellAt, noCell}
 use Rattle.cell_search.specs.Cells.{cellCount, cellPlaces, noPlaces, placesWithin}
 use Rattle.cell_search.proofs.search.Search.{enum}
 

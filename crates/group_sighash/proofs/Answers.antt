@@ -9,7 +9,7 @@ use Rattle.protocol.specs.declared.check.Check.the-variants.{Passed, Failed}
 use Rattle.molecule.specs.declared.bytes.Place.{Place}
 use Rattle.molecule.specs.declared.bytes.PlaceAnswer.{PlaceAnswer}
 use Rattle.molecule.specs.declared.bytes.PlaceAnswer.the-variants as place
-use Rattle.molecule.specs.Bytes.{placeAnswer, lockRows, readLock, placeOf}
+use Rattle.molecule.specs.Bytes.{placeAnswer, lockRows, readLock}
 use Rattle.account_witness.specs.declared.header.AccountWitnessHeader.{AccountWitnessHeader}
 use Rattle.account_witness.specs.declared.header.WitnessHeaderAnswer.{WitnessHeaderAnswer}
 use Rattle.account_witness.specs.declared.header.WitnessHeaderAnswer.the-variants as header

@@ -1,5 +1,4 @@
 -- `cell_search::cells::places_within` meets its contract. Assumes nothing.
-use mathlib.Core.Path.{_∙_}
 use borrow.Author.Tests.{lt-ltb, le-ltb}
 use Rattle.scene_table.specs.Places as places
 use Rattle.cell_search.specs.Cells.{noPlaces, placesWithin}
