@@ -17,11 +17,12 @@ use Rattle.scene_reader.specs.Reader.{Held, held, seenWith, put, run, start}
 use Rattle.scene_table.specs.Scene.{Scene, linesOf, countsOf, rowsFrom, sceneBytes, sceneNumbers, padded, storeOf, tableOf}
 use Rattle.scene_reading.specs.Lines.{Passes, kindsOf, kindOfLine, fieldsOfLine, bytesOfLine}
 use Rattle.scene_reading.specs.Reading.{readingOf}
+use Rattle.scene_table.proofs.SceneBack.{sayable}
 use Rattle.scene_reading.proofs.Run.{putLine, putLines, held-same}
 use Rattle.scene_reading.proofs.Accepts.{passes-run}
 use Rattle.scene_reading.proofs.LineRows.{lineIn, rowOf}
 use Rattle.scene_reading.proofs.PrintLines.{Rows, each-rows}
-use Rattle.scene_reading.proofs.Printed.{row-bytes, scene-holds, scene-prints}
+use Rattle.scene_reading.proofs.Printed.{row-bytes, scene-prints}
 use Rattle.scene_reading.proofs.PrintBack.{reading-ok, lines-back}
 use Rattle.scene_reading.proofs.CountLaws.{counted, counted-behind, counts-set}
 
@@ -85,7 +86,7 @@ module _ (text : List ℕ) (n : ℕ) (p : Passes text n) where
   -- the lines are those of the scene that they say
   said : Rows (p .lines) (kindsOf (length (scene .inputs)) (length (scene .outputs)) (length (scene .deps)) (length (scene .witnesses))) (linesOf scene)
   unfolding scene
-  said = rw (lines-back text n p) at (each-rows (scene-prints scene (scene-holds scene (reading-ok text n p))))
+  said = rw (lines-back text n p) at (each-rows (scene-prints scene (sayable scene (reading-ok text n p))))
 
   bytes-said : joined (map bytesOfLine (p .lines)) ≡ sceneBytes scene
   unfolding sceneBytes
