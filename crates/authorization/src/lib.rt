@@ -8,6 +8,7 @@ mod transaction; // transaction.rt
 pub use self::answer::Sighash;
 pub use self::digest::AuthorizationDigest;
 pub use self::digest::authorization_digest;
+pub use self::transaction::begin_sighash;
 pub use self::transaction::sighash;
 pub use self::witness::CanonicalFed;
 pub use self::witness::feed_canonical_witness;

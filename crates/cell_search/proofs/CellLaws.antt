@@ -2,8 +2,8 @@
 -- Assumes nothing.
 use mathlib.Core.Path.{_≡_, refl, sym, ap, _∙_}
 use mathlib.Core.Bool.{Bool, true, false, cond, not}
-use lib.Dec.{eqb, leb}
-use borrow.Author.Tests.{ne-eqb, le-leb, lt-leb}
+use lib.Dec.{eqb, leb, ltb}
+use borrow.Author.Tests.{ne-eqb, le-leb, lt-leb, ltb-true, ltb-false}
 use mathlib.Core.Logic.{_⊎_, ⊎-elim}
 use mathlib.Core.List.{List, [], _∷_, _++_, map}
 use Prim.Native.Nat.{ℕ, zero, suc, _+_, _≤_, _<_}
@@ -12,6 +12,7 @@ use native.Mathlib.Omega.{arith}
 use lib.ListN.{length, length-map, getD, drop, List·getD-eq-default}
 use denote.Enum.Declared.{tagOf, declared}
 use Rattle.octets.specs.Lists.{same}
+use Rattle.molecule.specs.Bytes.{bytesAt}
 use Rattle.scene_table.specs.Scene.{Cell, Input}
 use Rattle.scene_table.specs.Lent.{lentScene}
 use Rattle.scene_table.specs.Places as places
@@ -22,8 +23,8 @@ use Rattle.cell_search.specs.declared.cells.Source.the-variants as sourc
 use Rattle.cell_search.specs.declared.cells.CellField.{CellField}
 use Rattle.cell_search.specs.declared.search.Search.{Search}
 use Rattle.cell_search.specs.declared.search.Search.the-variants.{Missing, One, Several}
-use Rattle.cell_search.specs.Search.{cellsOf, hashOf, matching, matches, searchOf, isMissing, isOne, isSeveral, cellAt, noCell}
-use Rattle.cell_search.specs.Cells.{cellCount, cellPlaces}
+use Rattle.cell_search.specs.Search.{cellsOf, hashOf, matching, searchOf, isMissing, isOne, isSeveral, cellAt, noCell}
+use Rattle.cell_search.specs.Cells.{cellCount, cellPlaces, noPlaces, placesWithin}
 use Rattle.cell_search.proofs.search.Search.{enum}
 
 map-nth : {A B : Type 0} (f : A → B) (l : List A) (i : ℕ) (d : B) (a : A) → i < length l → getD (map f l) i d ≡ f (getD l i a)
@@ -46,14 +47,26 @@ cells-listed source.Output table store = lent-given table store .outputs
 cells-listed source.CellDep table store = lent-given table store .deps
 
 module _ (from : Source) (table store : List ℕ) (i : ℕ) where
+  -- a cell of the list is the table's row
   pub cell-there : i < cellCount from table
       → cellAt (cellsOf from (lentScene table store)) i ≡ places.cellAt store (cellPlaces from table i)
   unfolding cellAt
   cell-there h = cells-listed from table store .nth i noCell h
 
+  -- behind the last there is none
   pub cell-missing : cellCount from table ≤ i → cellAt (cellsOf from (lentScene table store)) i ≡ noCell
   unfolding cellAt
   cell-missing h = List·getD-eq-default (cellsOf from (lentScene table store)) noCell (rw (cells-listed from table store .long) h)
+
+  -- either way it is what stands at its places
+  pub cell-within : places.cellAt store (placesWithin from table i) ≡ cellAt (cellsOf from (lentScene table store)) i
+  unfolding placesWithin noPlaces noCell places.cellAt bytesAt places.placeOf
+  cell-within = go (ltb i (cellCount from table)) refl
+    where
+      go : (b : Bool) → ltb i (cellCount from table) ≡ b
+          → places.cellAt store (cond b (cellPlaces from table i) noPlaces) ≡ cellAt (cellsOf from (lentScene table store)) i
+      go true e = sym (cell-there (ltb-true i (cellCount from table) e))
+      go false e = sym (cell-missing (ltb-false i (cellCount from table) e))
 
 -- the places of the cells that have the hash, from cell k on
 unfoldable pub matchFrom : CellField → List ℕ → List Cell → ℕ → List ℕ

@@ -1,4 +1,5 @@
 // The cells of a transaction, list by list.
+use molecule::Place;
 use octets::part;
 use scene_table::CellPlaces;
 use scene_table::dep_cell;
@@ -11,7 +12,7 @@ ghost use mathlib.Core.Path.{_≡_};
 ghost use Rattle.scene_table.specs.Lent.{lentScene};
 ghost use Rattle.scene_table.specs.Places as places;
 ghost use Rattle.cell_search.specs.Search.{cellsOf, cellAt, hashOf};
-ghost use Rattle.cell_search.specs.Cells.{cellCount, cellPlaces};
+ghost use Rattle.cell_search.specs.Cells.{cellCount, cellPlaces, placesWithin};
 
 // Which list of the transaction.
 pub enum Source {
@@ -63,14 +64,27 @@ pub(crate) fn cell_hash<'a>(
     }
 }
 
+// The places of a cell's fields, empty ones where the list has no such cell.
+fn places_within(table: &[u32], source: Source, i: u32) -> CellPlaces
+    ensures { λ r. ⌜ r ≡ placesWithin source (now (table .entry)) i ⌝ }
+{
+    if i < cell_count(table, source) {
+        return cell_places(table, source, i);
+    }
+    let none = Place { start: 0, len: 0 };
+    CellPlaces {
+        type_hash: none,
+        data_hash: none,
+        type_script: none,
+        content: none,
+    }
+}
+
 // The data of a cell, nothing where the list has no such cell.
 pub fn cell_content<'a>(table: &[u32], store: &'a [u8], source: Source, i: u32) -> &'a [u8]
     ensures { λ r. ⌜ now r ≡ cellAt (cellsOf source (lentScene (now (table .entry)) (now (store .entry)))) i .content ⌝ }
 {
-    if cell_count(table, source) <= i {
-        return part(store, 0, 0);
-    }
-    let places = cell_places(table, source, i);
+    let places = places_within(table, source, i);
     part(store, places.content.start, places.content.len)
 }
 
@@ -78,9 +92,6 @@ pub fn cell_content<'a>(table: &[u32], store: &'a [u8], source: Source, i: u32) 
 pub fn cell_type_script<'a>(table: &[u32], store: &'a [u8], source: Source, i: u32) -> &'a [u8]
     ensures { λ r. ⌜ now r ≡ cellAt (cellsOf source (lentScene (now (table .entry)) (now (store .entry)))) i .typeScript ⌝ }
 {
-    if cell_count(table, source) <= i {
-        return part(store, 0, 0);
-    }
-    let places = cell_places(table, source, i);
+    let places = places_within(table, source, i);
     part(store, places.type_script.start, places.type_script.len)
 }

@@ -28,7 +28,7 @@ use Rattle.account_witness.specs.Walk as witness
 use Rattle.account_witness.proofs.WalkLaws.{proof-holds}
 use Rattle.verifier_request.specs.Writer.{requestTotal}
 use Rattle.verifier_request.proofs.Form.{length-request}
-use Rattle.decision.specs.Proofs.{Setting, noEntry, entryFor, requestSize, limitRows, entryRows, proofRows, keyField, requestReading, requestOf, requestsOf}
+use Rattle.decision.specs.Proofs.{Setting, noEntry, entryFor, requestSize, limitRows, entryRows, proofRows, requestReading, requestOf, requestsOf}
 use Rattle.decision.specs.Walk.{Outcome, outcome, verdict, earned, weighed, ended, orElse, walk, proofsFrom, walkList, walkLock}
 use Rattle.decision.specs.Decision.{slots}
 use Rattle.decision.proofs.Listed.{listed-stops, listed-goes, listed-rising, Behind}
@@ -82,7 +82,7 @@ aux-named s (e ∷ es) = go (eqb (e .slot) s) refl (aux-named s es)
 module _ (c : Setting) (d : length (c .digest) ≡ 32) where
   -- a request is 96 bytes, then aux and proof
   request-length : (p : ProofReading) → length (requestOf c p) ≡ requestSize (length (entryFor (p .slot) (c .entries) .aux)) (length (p .bytes))
-  unfolding requestOf requestReading requestTotal requestSize keyField
+  unfolding requestOf requestReading requestTotal requestSize
   request-length p =
       length-request (requestReading (c .operation) (c .digest) (entryFor (p .slot) (c .entries)) p)
       (record { digest = d; key = length-sets (replicate 32 0) 0 (entryFor (p .slot) (c .entries) .key) })

@@ -2,14 +2,13 @@
 -- Assumes nothing.
 use mathlib.Core.Path.{_≡_, refl, sym, ap, _∙_}
 use mathlib.Core.Bool.{Bool, true, false, cond, true≢false}
-use mathlib.Core.List.{List, [], _∷_, _++_, map}
-use Prim.Native.Nat.{ℕ, zero, suc, _+_, _-_, _≤_, _<_}
-use native.Mathlib.Nat.{sub-zero}
+use mathlib.Core.List.{List, [], _∷_, _++_}
+use Prim.Native.Nat.{ℕ, _+_, _-_, _≤_, _<_}
 use native.Mathlib.Omega.{arith}
 use lib.ListN.{length, drop, length-drop}
 use lib.Seq.{drop-drop}
 use lib.Dec.{eqb, leb, ltb}
-use borrow.Author.Tests.{le-leb, lt-leb, leb-true, leb-false, ltb-true, ltb-false, lt-ltb, le-ltb}
+use borrow.Author.Tests.{le-leb, lt-leb, leb-true, leb-false, ltb-true, ltb-false}
 use Rattle.octets.specs.Lists.{joined}
 use Rattle.blake2b.specs.declared.Blake2b.{Blake2b}
 use Rattle.blake2b.specs.State.{fedAll}
@@ -23,7 +22,7 @@ use Rattle.scene_table.specs.Valid.{every}
 use Rattle.scene_table.specs.Scene.{Input, Scene}
 use Rattle.scene_table.specs.Lent.{entryAt, lentScene}
 use Rattle.scene_table.specs.Places.{inputGroup}
-use Rattle.scene_table.proofs.PlaceLaws.{lentInput, lent-group, lent-given}
+use Rattle.scene_table.proofs.PlaceLaws.{lent-group, lent-given}
 use Rattle.group_sighash.specs.Witnesses.{groupWitnesses, groupOf, headOf, firstWitness, otherWitnesses, witnessFits, otherRows}
 use Rattle.group_sighash.specs.Hashed.{hashedOf, hashedFrom, groupFrom, witnessAt, isHashed, isInput, Next, FirstOther}
 
@@ -172,6 +171,37 @@ module _ (table store : List ℕ) (r : ℕ) (first : Next table 0 r) where
       let is = lentScene table store .inputs in
       let ws = lentScene table store .witnesses in
       rw (group-missing e) (sym (hashed-split is ws ∙ rw (group-missing e)) ∙ first .hashed store)
+
+-- A loop over the hashed witnesses that stands at witness i: what the loop is to find is a function of those from i on
+pub record Left {A : Type 0} (table store : List ℕ) (count i : ℕ) (whole : A) (of : List (List ℕ) → A) : Type 0 where
+  pub counted : count ≡ entryAt table 6
+  pub hashed : i < count → isHashed table i ≡ true
+  pub left : whole ≡ of (hashedFrom table store i)
+
+module _ {A : Type 0} {table : List ℕ} (store : List ℕ) {count : ℕ} where
+  -- it begins at the first behind the first of the group
+  pub left-first : {from i : ℕ} (of : List (List ℕ) → A) → count ≡ entryAt table 6 → FirstOther table from → Next table from i
+      → Left table store count i (of (otherWitnesses (lentScene table store))) of
+  left-first of e other next = record { counted = e; hashed = λ h. next .hit (rw e at h); left = ap of (other store ∙ next .hashed store) }
+
+  module _ {i : ℕ} {whole : A} {of : List (List ℕ) → A} (l : Left table store count i whole of) where
+    -- the witness at i is the first of those that are left
+    pub left-more : i < count → whole ≡ of (witnessAt table store i ∷ hashedFrom table store (i + 1))
+    left-more h = l .left ∙ ap of (hashed-take table store i (rw (l .counted) at h) (l .hashed h))
+
+    -- a turn takes it, and goes to the next
+    pub left-next : {j : ℕ} (rest : List (List ℕ) → A) → i < count → Next table (i + 1) j
+        → ((ws : List (List ℕ)) → of (witnessAt table store i ∷ ws) ≡ rest ws) → Left table store count j whole rest
+    left-next rest h next turn =
+        record {
+          counted = l .counted;
+          hashed = λ k. next .hit (rw (l .counted) at k);
+          left = left-more h ∙ (turn (hashedFrom table store (i + 1)) ∙ ap rest (next .hashed store));
+        }
+
+    -- at the end none is left
+    pub left-end : count ≤ i → whole ≡ of []
+    left-end h = l .left ∙ ap of (hashed-end table store i (rw (l .counted) at h))
 
 -- each hashed witness fits
 module _ (w : List ℕ) (ws : List (List ℕ)) where

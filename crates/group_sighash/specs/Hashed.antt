@@ -5,7 +5,6 @@ use mathlib.Core.Bool.{Bool, true, false, cond}
 use mathlib.Core.List.{List, [], _∷_}
 use lib.ListN.{drop}
 use lib.Dec.{eqb, leb, ltb}
-use Rattle.octets.specs.Lists.{both}
 use Rattle.scene_table.specs.Scene.{Input}
 use Rattle.scene_table.specs.Lent.{entryAt, lentScene}
 use Rattle.scene_table.specs.Places.{inputGroup, witnessPlace}

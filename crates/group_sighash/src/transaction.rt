@@ -4,11 +4,10 @@ use crate::hashed::next_hashed;
 use crate::hashed::witness_at;
 use crate::witnesses::first_witness;
 use authorization::Sighash;
-use authorization::feed_canonical_witness;
+use authorization::begin_sighash;
 use authorization::feed_witness;
 use blake2b::Blake2b;
 use octets::part;
-use protocol::Check;
 use scene_table::transaction_hash;
 use scene_table::witness_count;
 ghost use mathlib.Core.Path.{_≡_};
@@ -37,24 +36,9 @@ pub fn canonical_group_sighash(table: &[u32], store: &[u8]) -> Sighash
     ensures { λ r. ⌜ r ≡ groupAnswer (lentScene (now (table .entry)) (now (store .entry))) ⌝ }
 {
     let place = transaction_hash(table);
-    let begun = Blake2b::new().update(part(store, place.start, place.len));
-    let canonical = feed_canonical_witness(begun, first_witness(table, store));
+    let transaction = part(store, place.start, place.len);
+    let canonical = begin_sighash(transaction, first_witness(table, store));
     let found = canonical.found;
-    match found {
-        Check::Failed(error) => {
-            let none = [0u8; 32];
-            Sighash {
-                found: Check::Failed(error),
-                hash: none,
-            }
-        }
-        Check::Passed => {
-            let fed = canonical.hash;
-            let hash = feed_others(fed, table, store).finish().digest();
-            Sighash {
-                found: Check::Passed,
-                hash: hash,
-            }
-        }
-    }
+    let fed = canonical.hash;
+    Sighash::of(found, feed_others(fed, table, store))
 }

@@ -14,13 +14,16 @@ use Rattle.scene_line.specs.declared.kind.Kind.{Kind}
 use Rattle.scene_line.specs.Kind.{place, firstForm}
 use Rattle.scene_line.specs.Line.{lineNumbers}
 use Rattle.scene_reader.specs.Reader.{Held, held, seenWith, put, run, start}
-use Rattle.scene_table.specs.Scene.{rowsFrom, sceneBytes, sceneNumbers, padded, storeOf, tableOf}
-use Rattle.scene_reading.specs.Lines.{Passes, kindOfLine, fieldsOfLine, bytesOfLine}
+use Rattle.scene_table.specs.Scene.{Scene, linesOf, countsOf, rowsFrom, sceneBytes, sceneNumbers, padded, storeOf, tableOf}
+use Rattle.scene_reading.specs.Lines.{Passes, kindsOf, kindOfLine, fieldsOfLine, bytesOfLine}
 use Rattle.scene_reading.specs.Reading.{readingOf}
+use Rattle.scene_table.proofs.SceneBack.{sayable}
 use Rattle.scene_reading.proofs.Run.{putLine, putLines, held-same}
 use Rattle.scene_reading.proofs.Accepts.{passes-run}
-use Rattle.scene_reading.proofs.LineRows.{putOf, rowOf}
-use Rattle.scene_reading.proofs.Says.{Says, says, says-bytes}
+use Rattle.scene_reading.proofs.LineRows.{lineIn, rowOf}
+use Rattle.scene_reading.proofs.PrintLines.{Rows, each-rows}
+use Rattle.scene_reading.proofs.Printed.{row-bytes, scene-prints}
+use Rattle.scene_reading.proofs.PrintBack.{reading-ok, lines-back}
 use Rattle.scene_reading.proofs.CountLaws.{counted, counted-behind, counts-set}
 
 -- ---- what the lines put down, one behind another
@@ -33,7 +36,7 @@ module _ (h : Held) (l : List ℕ) where
   table-line : (ks : List Kind) (rs : List ℕ) → 8 ≤ h .filled
       → sets (counted (putLine h l .table) (putLine h l .last) (putLine h l .seen) ks) (putLine h l .filled) rs
       ≡ sets (counted (h .table) (h .last) (h .seen) (kindOfLine l ∷ ks)) (h .filled) ((h .used ∷ rowOf l .numbers) ++ rs)
-  unfolding putLine put counted rowOf putOf
+  unfolding putLine put counted rowOf lineIn
   table-line ks rs e =
       let k = kindOfLine l in
       let s = seenWith (h .last) (h .seen) (place k) in
@@ -52,7 +55,7 @@ store-lines [] h = refl
 store-lines (l ∷ ls) h = store-lines ls (putLine h l) ∙ store-line h l (joined (map bytesOfLine ls))
 
 used-line : (h : Held) (l : List ℕ) → putLine h l .used ≡ h .used + length (rowOf l .bytes)
-unfolding putLine put rowOf putOf
+unfolding putLine put rowOf lineIn
 used-line h l = refl
 
 table-lines : (ls : List (List ℕ)) (h : Held) → 8 ≤ h .filled
@@ -77,48 +80,53 @@ front-padded xs n h = sets-front (replicate n 0) xs (rw (length-replicate {A = �
 -- ---- a whole text
 
 module _ (text : List ℕ) (n : ℕ) (p : Passes text n) where
-  said-by : Says (p .lines) (p .inputs) (p .outputs) (p .deps) (p .witnesses)
-  said-by = says (p .lines) (p .inputs) (p .outputs) (p .deps) (p .witnesses) (p .ordered) (p .counted)
+  scene : Scene
+  scene = readingOf (p .lines)
 
-  bytes-said : joined (map bytesOfLine (p .lines)) ≡ sceneBytes (readingOf (p .lines))
-  bytes-said = says-bytes (p .lines) (p .inputs) (p .outputs) (p .deps) (p .witnesses) said-by
+  -- the lines are those of the scene that they say
+  said : Rows (p .lines) (kindsOf (length (scene .inputs)) (length (scene .outputs)) (length (scene .deps)) (length (scene .witnesses))) (linesOf scene)
+  unfolding scene
+  said = rw (lines-back text n p) at (each-rows (scene-prints scene (sayable scene (reading-ok text n p))))
 
-  counts : List ℕ
-  counts = 0 ∷ 1 ∷ 1 ∷ p .inputs ∷ p .outputs ∷ p .deps ∷ p .witnesses ∷ 1 ∷ []
+  bytes-said : joined (map bytesOfLine (p .lines)) ≡ sceneBytes scene
+  unfolding sceneBytes
+  bytes-said = rw (row-bytes (p .lines), said .rows)
 
-  numbers-said : counts ++ rowsFrom 0 (map rowOf (p .lines)) ≡ sceneNumbers (readingOf (p .lines))
-  unfolding sceneNumbers counts
-  numbers-said = rw (said-by .counts, said-by .rows)
+  numbers-said : countsOf scene ++ rowsFrom 0 (map rowOf (p .lines)) ≡ sceneNumbers scene
+  unfolding sceneNumbers
+  numbers-said = rw (said .rows)
 
   -- the store holds the scene's bytes
   pub bytes-fit : length (sceneBytes (readingOf (p .lines))) ≤ n
+  unfolding scene
   bytes-fit = rw bytes-said at (p .room)
 
   module _ (m : ℕ) where
     store-left : putLines (start n m) (p .lines) .store ≡ storeOf (readingOf (p .lines)) n
-    unfolding start storeOf
-    store-left = store-lines (p .lines) (start n m) ∙ rw bytes-said (front-padded (sceneBytes (readingOf (p .lines))) n bytes-fit)
+    unfolding start storeOf scene
+    store-left = store-lines (p .lines) (start n m) ∙ rw bytes-said (front-padded (sceneBytes scene) n bytes-fit)
 
-    counts-left : 8 ≤ m → counted (replicate m 0) 0 0 (map kindOfLine (p .lines)) ≡ sets (replicate m 0) 0 counts
-    unfolding counts
-    counts-left h = rw (p .ordered) (counts-set m (p .inputs) (p .outputs) (p .deps) (p .witnesses) h)
+    counts-left : 8 ≤ m → counted (replicate m 0) 0 0 (map kindOfLine (p .lines)) ≡ sets (replicate m 0) 0 (countsOf scene)
+    unfolding countsOf
+    counts-left h = rw (said .ordered) (counts-set m (length (scene .inputs)) (length (scene .outputs)) (length (scene .deps)) (length (scene .witnesses)) h)
 
-    counts-room : length (sceneNumbers (readingOf (p .lines))) ≤ m → 8 ≤ m
-    unfolding counts
+    counts-room : length (sceneNumbers scene) ≤ m → 8 ≤ m
+    unfolding countsOf
     counts-room h = let e = ap length numbers-said in omega arith
 
-    table-left : length (sceneNumbers (readingOf (p .lines))) ≤ m → putLines (start n m) (p .lines) .table ≡ tableOf (readingOf (p .lines)) m
-    unfolding start tableOf counts
+    table-left : length (sceneNumbers scene) ≤ m → putLines (start n m) (p .lines) .table ≡ tableOf scene m
+    unfolding start tableOf countsOf
     table-left h =
         table-lines (p .lines) (start n m) (omega arith)
         ∙ (ap (λ (t : List ℕ). sets t 8 (rowsFrom 0 (map rowOf (p .lines)))) (counts-left (counts-room h))
-        ∙ (sets-append (replicate m 0) 0 counts (rowsFrom 0 (map rowOf (p .lines))) 8 refl
-        ∙ rw numbers-said (front-padded (sceneNumbers (readingOf (p .lines))) m h)))
+        ∙ (sets-append (replicate m 0) 0 (countsOf scene) (rowsFrom 0 (map rowOf (p .lines))) 8 refl
+        ∙ rw numbers-said (front-padded (sceneNumbers scene) m h)))
 
     -- what the run holds at the end
     pub passes-leaves : (g : Held) → run (start n m) (pieces 10 text) ≡ held g
         → (g .store ≡ storeOf (readingOf (p .lines)) n)
         × (length (sceneNumbers (readingOf (p .lines))) ≤ m → g .table ≡ tableOf (readingOf (p .lines)) m)
+    unfolding scene
     passes-leaves g e =
         let same : g ≡ putLines (start n m) (p .lines) = held-same g _ (sym e ∙ passes-run text n m p) in
         (rw same store-left, λ h. rw same (table-left h))

@@ -3,7 +3,6 @@ pub mod Ordered
 pub mod Run
 pub mod Accepts
 pub mod LineRows
-pub mod Says
 pub mod CountLaws
 pub mod Leaves
 pub mod Theorem

@@ -6,7 +6,7 @@ use mathlib.Core.Path.{_≡_, refl}
 use mathlib.Core.List.{List, [], _∷_}
 use native.Mathlib.Omega.{arith}
 use lib.Dec.{ltb, leb, eqb}
-use borrow.Author.Tests.{leb-true, eqb-true, eqb-false, le-leb, le-ltb, lt-ltb, eq-eqb, ne-eqb, not-true}
+use borrow.Author.Tests.{leb-true, eqb-true, eqb-false, le-leb, le-ltb, eq-eqb, ne-eqb, not-true}
 use Rattle.scene_line.specs.declared.kind.Kind.{Kind}
 use Rattle.scene_line.specs.Kind.{place, follows}
 use Rattle.scene_reader.specs.Reader.{seenWith}
@@ -23,10 +23,6 @@ unfoldable pub left : ℕ → ℕ → ℕ → ℕ
 left last seen p = cond (ltb p last) 0 (cond (eqb p last) (64 - seen) 64)
 
 module _ (last seen p : ℕ) where
-  pub left-past : p < last → left last seen p ≡ 0
-  unfolding left
-  left-past h = rw (lt-ltb p last h)
-
   pub left-here : p ≡ last → left last seen p ≡ 64 - seen
   unfolding left
   left-here e = rw (le-ltb p last (omega arith), eq-eqb p last e)

@@ -3,7 +3,7 @@
 use Prim.Native.Nat.{ℕ, zero, suc, _+_, _≤_, _<_, zero-le}
 use mathlib.Core.Bool.{Bool, true, false, cond}
 use mathlib.Core.Path.{_≡_, refl, sym, ap, _∙_}
-use mathlib.Core.List.{List, [], _∷_, _++_, append-assoc}
+use mathlib.Core.List.{List, [], _∷_, _++_}
 use native.Mathlib.Nat.{le-refl}
 use native.Mathlib.Omega.{arith}
 use lib.Dec.{eqb}
@@ -13,6 +13,7 @@ use Rattle.scene_line.specs.declared.kind.Kind.the-variants.{Script, Tx, Input,
 use Rattle.scene_line.specs.Kind.{place, follows}
 use Rattle.scene_line.proofs.KindLaws.{place-small}
 use Rattle.scene_reader.specs.Reader.{seenWith}
+use Rattle.scene_table.proofs.Lines.{right-nested}
 use Rattle.scene_reading.specs.Lines.{times, kindsOf}
 use Rattle.scene_reading.proofs.Order.{Order, left, left-next, follows-body, body-follows, left-before, left-behind}
 
@@ -22,7 +23,7 @@ bodyKinds a b c d = times a Input ++ times b Output ++ times c Dep ++ times d Wi
 
 pub body-right : (a b c d : ℕ) → bodyKinds a b c d ≡ times a Input ++ (times b Output ++ (times c Dep ++ (times d Witness ++ (Verdicts ∷ []))))
 unfolding bodyKinds
-body-right a b c d = simp append-assoc
+body-right a b c d = right-nested (times a Input) (times b Output) (times c Dep) (times d Witness) (Verdicts ∷ [])
 
 -- ---- a place tells the kind
 

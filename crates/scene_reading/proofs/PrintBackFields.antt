@@ -1,6 +1,6 @@
 -- Fields that have their forms are the print of what they say.
 -- Assumes nothing.
-use Prim.Native.Nat.{ℕ, _+_, _*_, _^_}
+use Prim.Native.Nat.{ℕ, zero, suc, _+_, _*_, _^_}
 use mathlib.Core.Path.{_≡_, refl, sym, ap, _∙_}
 use mathlib.Core.Bool.{Bool, true, false, cond, _&&_, _||_}
 use mathlib.Core.List.{List, [], _∷_}
@@ -15,7 +15,6 @@ use Rattle.scene_line.specs.Line.{formsOk, isNumber}
 use Rattle.scene_table.specs.Valid.{every, bytesOk, hashOk, cellOk, inputOk}
 use Rattle.scene_reading.specs.Print.{hexText, digitsText, cellFields, inputFields}
 use Rattle.scene_reading.specs.Reading.{cellOf, inputOf, fieldAt, numberIn}
-use Rattle.scene_reading.proofs.LineRows.{fieldsFrom, fields-from}
 use Rattle.scene_reading.proofs.PrintDigits.{hex-length}
 use Rattle.scene_reading.proofs.PrintBackDigits.{HexPrint, hex-print, since-print, DigitsPrint, digits-print}
 
@@ -64,10 +63,22 @@ type-print a c false e h k =
     let some : length (hexBytes c) ≡ 0 → ⊥ = λ z. omega arith in
     record { ok = rw (ne-eqb (length (hexBytes c)) 0 some, x .ok); hash = x .text; script = y }
 
+-- the fields of a line by their places
+unfoldable pub fieldsFrom : (ℕ → List ℕ) → ℕ → List (List ℕ)
+fieldsFrom f zero = []
+fieldsFrom f (suc n) = f 0 ∷ fieldsFrom (λ (i : ℕ). f (suc i)) n
+
+pub fields-from : (fs : List (List ℕ)) (n : ℕ) → length fs ≡ n → fs ≡ fieldsFrom (fieldAt fs) n
+unfolding fieldsFrom fieldAt
+fields-from [] zero e = refl
+fields-from [] (suc n) e = absurd (omega arith)
+fields-from (f ∷ fs) zero e = absurd (omega arith)
+fields-from (f ∷ fs) (suc n) e = ap (λ (r : List (List ℕ)). f ∷ r) (fields-from fs n (omega arith))
+
 -- a cell
 pub record CellPrint (fs : List (List ℕ)) : Type 0 where
-  pub ok : cellOk (cellOf fs 0) ≡ true
-  pub text : cellFields (cellOf fs 0) ≡ fs
+  pub ok : cellOk (cellOf 0 fs) ≡ true
+  pub text : cellFields (cellOf 0 fs) ≡ fs
 
 four-print : (a b c d : List ℕ) → formsOk true TypeHash (a ∷ b ∷ c ∷ d ∷ []) ≡ true → CellPrint (a ∷ b ∷ c ∷ d ∷ [])
 unfolding formsOk cellOk cellFields cellOf fieldAt

@@ -1,13 +1,13 @@
 -- A line that no row refuses is the print of what it says.
 -- Assumes nothing.
-use Prim.Native.Nat.{ℕ}
+use Prim.Native.Nat.{ℕ, _<_}
 use mathlib.Core.Path.{_≡_, refl, sym, ap, ap₂, _∙_}
 use mathlib.Core.Bool.{Bool, true, false, cond, _&&_}
 use mathlib.Core.List.{List, [], _∷_, _++_, map}
 use native.Mathlib.Omega.{arith}
 use borrow.Author.Tests.{eqb-true}
 use lib.ListN.{length, length-map}
-use lib.Dec.{eqb, leb}
+use lib.Dec.{lit<, eqb, leb}
 use Rattle.octets.specs.Lists.{same}
 use Rattle.octets.proofs.Same.{same-eq}
 use Rattle.scene_text.specs.Text.{all, between, before, pieces, hexOk, hexVal, hexBytes}
@@ -16,17 +16,16 @@ use Rattle.scene_text.proofs.Pieces.{before-none}
 use Rattle.scene_line.specs.declared.kind.Kind.{Kind}
 use Rattle.scene_line.specs.declared.kind.Kind.the-variants as kind
 use Rattle.scene_line.specs.declared.form.Form.the-variants.{TypeHash, Hex}
-use Rattle.scene_line.specs.Kind.{kindOf, fieldCount, firstForm, fieldsOf, script, tx, input, output, dep, witness, verdicts}
+use Rattle.scene_line.specs.Kind.{place, kindOf, fieldCount, firstForm, fieldsOf, script, tx, input, output, dep, witness, verdicts}
 use Rattle.scene_line.specs.Line.{formsOk}
 use Rattle.scene_table.specs.Scene.{Input}
 use Rattle.scene_table.specs.Valid.{bytesOk, hashOk, cellOk, inputOk, digitsOk}
 use Rattle.scene_reading.specs.Lines.{wordOf, kindOfLine, fieldsOfLine, countOk, formOk}
 use Rattle.scene_reading.specs.Print.{commaed, lineText, digitsText, cellFields, inputFields, inputText, cellText, bytesText, endedLines}
 use Rattle.scene_reading.specs.Reading.{cellOf, inputOf, fieldAt}
-use Rattle.scene_reading.proofs.LineRows as rows
-use Rattle.scene_reading.proofs.LineRows.{fieldsFrom, fields-from}
+use Rattle.scene_reading.proofs.PrintLines.{kindWord}
 use Rattle.scene_reading.proofs.PrintBackDigits.{hex-print, digits-print}
-use Rattle.scene_reading.proofs.PrintBackFields.{hash-print, cell-print, input-print}
+use Rattle.scene_reading.proofs.PrintBackFields.{fieldsFrom, fields-from, hash-print, cell-print, input-print}
 
 -- pieces with c before each
 parted : ℕ → List (List ℕ) → List ℕ
@@ -77,31 +76,24 @@ unfolding lineText wordOf fieldsOf rejoined commaed
 line-rejoined [] = refl
 line-rejoined (w ∷ fs) = rw (commaed-parted fs)
 
--- the word of each kind
-Named : List ℕ → Kind → Type 0
-Named w kind.Script = w ≡ script
-Named w kind.Tx = w ≡ tx
-Named w kind.Input = w ≡ input
-Named w kind.Output = w ≡ output
-Named w kind.Dep = w ≡ dep
-Named w kind.Witness = w ≡ witness
-Named w kind.Verdicts = w ≡ verdicts
-Named w kind.Unknown = Unit {0}
-
+-- a word names the kind whose word it is, or none
 module _ (w : List ℕ) where
-  pick : (b : Bool) (k other : Kind) → (b ≡ true → Named w k) → Named w other → Named w (cond b k other)
-  pick true k other h o = h refl
+  abbrev Named : Kind → Type 0
+  Named k = 0 < place k → w ≡ kindWord k
+
+  pick : (b : Bool) (k other : Kind) → (b ≡ true → w ≡ kindWord k) → Named other → Named (cond b k other)
+  pick true k other h o = λ n. h refl
   pick false k other h o = o
 
-  kind-named : Named w (kindOf w)
-  unfolding kindOf Named
+  kind-named : Named (kindOf w)
+  unfolding kindOf
   kind-named =
       pick (same w script) kind.Script _ (same-eq w script)
       (pick (same w tx) kind.Tx _ (same-eq w tx)
       (pick (same w input) kind.Input _ (same-eq w input)
       (pick (same w output) kind.Output _ (same-eq w output)
       (pick (same w dep) kind.Dep _ (same-eq w dep)
-      (pick (same w witness) kind.Witness _ (same-eq w witness) (pick (same w verdicts) kind.Verdicts kind.Unknown (same-eq w verdicts) tt))))))
+      (pick (same w witness) kind.Witness _ (same-eq w witness) (pick (same w verdicts) kind.Verdicts kind.Unknown (same-eq w verdicts) (λ n. absurd (omega arith))))))))
 
 -- what a line l is the print of
 pub record PrintOf {A : Type 0} (ok : A → Bool) (text : A → List ℕ) (l : List ℕ) : Type 0 where
@@ -116,12 +108,13 @@ pub record LinePasses (l : List ℕ) (k : Kind) : Type 0 where
   pub formed : formOk l ≡ true
 
 module _ (l : List ℕ) (k : Kind) (p : LinePasses l k) where
-  named : Named (wordOf (pieces 44 l)) k
+  named : 0 < place k → wordOf (pieces 44 l) ≡ kindWord k
   unfolding kindOfLine
   named = rw (p .is) at (kind-named (wordOf (pieces 44 l)))
 
   field-count : length (fieldsOfLine l) ≡ fieldCount k
-  field-count = rw (p .is) at (rows.field-count l (p .counted))
+  unfolding countOk
+  field-count = rw (p .is) at (eqb-true (length (fieldsOfLine l)) (fieldCount (kindOfLine l)) (p .counted))
 
   field-forms : formsOk true (firstForm k) (fieldsOfLine l) ≡ true
   unfolding formOk
@@ -148,46 +141,42 @@ module _ (l : List ℕ) (k : Kind) (p : LinePasses l k) where
   unfolding cellText
   cell-line word w n f =
       let c = cell-print (fieldsOfLine l) (field-count ∙ n) (rw f at field-forms) in
-      record { value = cellOf (fieldsOfLine l) 0; fits = c .ok; print = line-whole word (cellFields (cellOf (fieldsOfLine l) 0)) w (c .text) }
+      record { value = cellOf 0 (fieldsOfLine l); fits = c .ok; print = line-whole word (cellFields (cellOf 0 (fieldsOfLine l))) w (c .text) }
 
 module _ (l : List ℕ) where
   pub script-line : LinePasses l kind.Script → PrintOf bytesOk (bytesText script) l
-  unfolding Named
-  script-line p = bytes-line l kind.Script p script (named l kind.Script p) refl refl
+  script-line p = bytes-line l kind.Script p script (named l kind.Script p (lit< tt)) refl refl
 
   pub tx-line : LinePasses l kind.Tx → PrintOf hashOk (bytesText tx) l
-  unfolding Named bytesText formsOk
+  unfolding bytesText formsOk
   tx-line p =
       let e = one-field l kind.Tx p refl in
       let field = fieldAt (fieldsOfLine l) 0 in
       let h : (eqb (length field) 64 && hexOk field && true) ≡ true = rw e at (field-forms l kind.Tx p) in
       let x = hash-print field (and-left (eqb (length field) 64 && hexOk field) true h) in
-      record { value = hexBytes field; fits = x .ok; print = rw (x .text) (line-whole l kind.Tx p tx (field ∷ []) (named l kind.Tx p) (sym e)) }
+      record { value = hexBytes field; fits = x .ok; print = rw (x .text) (line-whole l kind.Tx p tx (field ∷ []) (named l kind.Tx p (lit< tt)) (sym e)) }
 
   pub input-line : LinePasses l kind.Input → PrintOf inputOk inputText l
-  unfolding Named inputText
+  unfolding inputText
   input-line p =
       let i = input-print (fieldsOfLine l) (field-count l kind.Input p) (field-forms l kind.Input p) in
       record {
         value = inputOf (fieldsOfLine l);
         fits = i .ok;
-        print = line-whole l kind.Input p input (inputFields (inputOf (fieldsOfLine l))) (named l kind.Input p) (i .text);
+        print = line-whole l kind.Input p input (inputFields (inputOf (fieldsOfLine l))) (named l kind.Input p (lit< tt)) (i .text);
       }
 
   pub output-line : LinePasses l kind.Output → PrintOf cellOk (cellText output) l
-  unfolding Named
-  output-line p = cell-line l kind.Output p output (named l kind.Output p) refl refl
+  output-line p = cell-line l kind.Output p output (named l kind.Output p (lit< tt)) refl refl
 
   pub dep-line : LinePasses l kind.Dep → PrintOf cellOk (cellText dep) l
-  unfolding Named
-  dep-line p = cell-line l kind.Dep p dep (named l kind.Dep p) refl refl
+  dep-line p = cell-line l kind.Dep p dep (named l kind.Dep p (lit< tt)) refl refl
 
   pub witness-line : LinePasses l kind.Witness → PrintOf bytesOk (bytesText witness) l
-  unfolding Named
-  witness-line p = bytes-line l kind.Witness p witness (named l kind.Witness p) refl refl
+  witness-line p = bytes-line l kind.Witness p witness (named l kind.Witness p (lit< tt)) refl refl
 
   pub verdicts-line : LinePasses l kind.Verdicts → PrintOf digitsOk (λ (ds : List ℕ). lineText verdicts (digitsText ds ∷ [])) l
-  unfolding Named formsOk digitsOk
+  unfolding formsOk digitsOk
   verdicts-line p =
       let e = one-field l kind.Verdicts p refl in
       let field = fieldAt (fieldsOfLine l) 0 in
@@ -199,5 +188,5 @@ module _ (l : List ℕ) where
       record {
         value = map hexVal field;
         fits = rw (length-map field hexVal, and-left few digits h₁) (x .each);
-        print = rw (x .text) (line-whole l kind.Verdicts p verdicts (field ∷ []) (named l kind.Verdicts p) (sym e));
+        print = rw (x .text) (line-whole l kind.Verdicts p verdicts (field ∷ []) (named l kind.Verdicts p (lit< tt)) (sym e));
       }

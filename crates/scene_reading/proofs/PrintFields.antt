@@ -3,7 +3,7 @@
 use Prim.Native.Nat.{ℕ, _+_, _*_, _^_, _<_}
 use mathlib.Core.Path.{_≡_, refl, ap}
 use mathlib.Core.Bool.{Bool, true, false, cond, _&&_}
-use mathlib.Core.List.{List, [], _∷_, append-assoc, append-nil}
+use mathlib.Core.List.{List, [], _∷_}
 use native.Mathlib.Omega.{arith}
 use borrow.Author.Tests.{ltb-true, eqb-true, eqb-false, lt-ltb}
 use lib.ListN.{length, getD}
@@ -11,8 +11,8 @@ use lib.Dec.{ltb, leb, eqb}
 use Rattle.scene_text.specs.Text.{all, hexOk, hexVal}
 use Rattle.scene_text.proofs.Tests.{and-left, and-right}
 use Rattle.scene_line.specs.declared.form.Form.the-variants.{Group, TypeHash}
-use Rattle.scene_line.specs.Line.{formsOk, fieldBytes, lineBytes}
-use Rattle.scene_table.specs.Scene.{Cell, Input, cellBytes}
+use Rattle.scene_line.specs.Line.{formsOk}
+use Rattle.scene_table.specs.Scene.{Cell, Input}
 use Rattle.scene_table.specs.Valid.{every, bytesOk, hashOk, cellOk, inputOk}
 use Rattle.scene_reading.specs.Print.{hexText, digitsText, cellFields, inputFields}
 use Rattle.scene_reading.specs.Reading.{cellOf, inputOf, fieldAt, numberIn}
@@ -105,7 +105,7 @@ module _ (c : Cell) (h : CellHolds c) where
   pub cell-form : formsOk true TypeHash (cellFields c) ≡ true
   cell-form = cell-form-by (h .type)
 
-  pub cell-back : cellOf (cellFields c) 0 ≡ c
+  pub cell-back : cellOf 0 (cellFields c) ≡ c
   unfolding cellFields cellOf fieldAt
   cell-back =
       rw (
@@ -114,13 +114,6 @@ module _ (c : Cell) (h : CellHolds c) where
         hex-back (c .typeScript) (h .script),
         hex-back (c .content) (h .content),
       )
-
-  -- the line's bytes are those of the cell that its fields say
-  pub cell-bytes : lineBytes TypeHash (cellFields c) ≡ cellBytes c
-  unfolding cellFields lineBytes fieldBytes cellBytes cellOf fieldAt
-  cell-bytes =
-      let e : cellBytes (cellOf (cellFields c) 0) ≡ cellBytes c = ap cellBytes cell-back in
-      simp (append-nil, append-assoc) (simp append-assoc at e)
 
 pub record InputHolds (i : Input) : Type 0 where
   pub group : every (λ (d : ℕ). ltb d 2) (i .group ∷ []) ≡ true
@@ -151,13 +144,9 @@ module _ (i : Input) (h : InputHolds i) where
   input-form =
       rw (digits-form 2 (omega arith) (i .group ∷ []) (h .group), decimal-back (i .since) (h .since)) (cell-form (i .cell) (h .cell))
 
-  pub input-bytes : lineBytes Group (inputFields i) ≡ cellBytes (i .cell)
-  unfolding inputFields lineBytes fieldBytes
-  input-bytes = cell-bytes (i .cell) (h .cell)
-
   pub input-back : inputOf (inputFields i) ≡ i
   unfolding inputFields inputOf cellOf fieldAt numberIn digitsText
   input-back =
       let g : hexVal (48 + i .group) ≡ i .group = ap (λ (ds : List ℕ). getD ds 0 0) (digits-back 2 (omega arith) (i .group ∷ []) (h .group)) in
-      let e : cellOf (cellFields (i .cell)) 0 ≡ i .cell = cell-back (i .cell) (h .cell) in
+      let e : cellOf 0 (cellFields (i .cell)) ≡ i .cell = cell-back (i .cell) (h .cell) in
       rw (g, decimal-back (i .since) (h .since), e)

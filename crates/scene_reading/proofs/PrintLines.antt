@@ -1,7 +1,7 @@
 -- The printed lines of a scene: each has its kind, its fields and its bytes.
 -- Assumes nothing.
 use Prim.Native.Nat.{ℕ, _≤_, _<_}
-use mathlib.Core.Path.{_≡_, refl}
+use mathlib.Core.Path.{_≡_, refl, ap, _∙_}
 use mathlib.Core.Bool.{Bool, true, not}
 use mathlib.Core.List.{List, [], _∷_, _++_, map, append-nil}
 use native.Mathlib.Omega.{arith}
@@ -15,15 +15,16 @@ use Rattle.scene_line.specs.declared.form.Form.the-variants.{TypeHash, Hex}
 use Rattle.scene_line.specs.declared.kind.Kind.{Kind}
 use Rattle.scene_line.specs.declared.kind.Kind.the-variants as kind
 use Rattle.scene_line.specs.Kind.{kindOf, fieldCount, firstForm, fieldsOf, script, tx, input, output, dep, witness, verdicts}
-use Rattle.scene_line.specs.Line.{formsOk, fieldBytes, lineBytes}
+use Rattle.scene_line.specs.Line.{formsOk}
 use Rattle.scene_table.specs.Scene.{Cell, Input, Line, bytesLine, hashLine, inputLine, cellLine, digitsLine}
-use Rattle.scene_table.specs.Valid.{every, bytesOk, digitsOk}
-use Rattle.scene_reading.specs.Lines.{wordOf, kindOfLine, fieldsOfLine, times, countOk, formOk, bytesOfLine}
+use Rattle.scene_table.specs.Valid.{every, bytesOk}
+use Rattle.scene_reading.specs.Lines.{wordOf, kindOfLine, fieldsOfLine, times, countOk, formOk}
 use Rattle.scene_reading.specs.Print.{commaed, lineText, hexText, digitsText, cellFields, inputFields, inputText, cellText, bytesText}
+use Rattle.scene_reading.proofs.LineRows.{lineIn, rowOf, hex-row, hash-row, digits-row, cell-row, input-row}
 use Rattle.scene_reading.proofs.PrintLists.{all-append, all-more}
 use Rattle.scene_reading.proofs.PrintPieces.{without, line-pieces}
-use Rattle.scene_reading.proofs.PrintDigits.{hex-back, hex-ok, hex-high, digits-form, digits-high, digits-length}
-use Rattle.scene_reading.proofs.PrintFields.{HashHolds, hash-form, CellHolds, cell-high, cell-form, cell-bytes, InputHolds, input-high, input-form, input-bytes}
+use Rattle.scene_reading.proofs.PrintDigits.{hex-back, hex-ok, hex-high, digits-form, digits-high, digits-length, digits-back}
+use Rattle.scene_reading.proofs.PrintFields.{HashHolds, hash-form, CellHolds, cell-high, cell-form, cell-back, InputHolds, input-high, input-form, input-back}
 
 -- A text all of whose bytes are 48 or more holds no separator
 module _ (c : ℕ) (low : c < 48) where
@@ -51,121 +52,120 @@ pub record Says (l : List ℕ) (k : Kind) (fs : List (List ℕ)) : Type 0 where
   pub kind : kindOfLine l ≡ k
   pub fields : fieldsOfLine l ≡ fs
 
--- the word of a kind of lines
-pub record Word (word : List ℕ) (k : Kind) : Type 0 where
-  pub names : kindOf word ≡ k
-  pub high : all (leb 48) word ≡ true
+-- the word of each kind of lines, none for Unknown
+abbrev pub kindWord : Kind → List ℕ
+kindWord kind.Script = script
+kindWord kind.Tx = tx
+kindWord kind.Input = input
+kindWord kind.Output = output
+kindWord kind.Dep = dep
+kindWord kind.Witness = witness
+kindWord kind.Verdicts = verdicts
+kindWord kind.Unknown = []
 
-pub script-word : Word script kind.Script
+-- it names the kind, and its bytes are 48 or more
+word-of : (k : Kind) → (kindOf (kindWord k) ≡ k) × (all (leb 48) (kindWord k) ≡ true)
 unfolding kindOf same all
-script-word = record { names = refl; high = refl }
+word-of kind.Script = (refl, refl)
+word-of kind.Tx = (refl, refl)
+word-of kind.Input = (refl, refl)
+word-of kind.Output = (refl, refl)
+word-of kind.Dep = (refl, refl)
+word-of kind.Witness = (refl, refl)
+word-of kind.Verdicts = (refl, refl)
+word-of kind.Unknown = (refl, refl)
 
-pub tx-word : Word tx kind.Tx
-unfolding kindOf same all
-tx-word = record { names = refl; high = refl }
-
-pub input-word : Word input kind.Input
-unfolding kindOf same all
-input-word = record { names = refl; high = refl }
-
-pub output-word : Word output kind.Output
-unfolding kindOf same all
-output-word = record { names = refl; high = refl }
-
-pub dep-word : Word dep kind.Dep
-unfolding kindOf same all
-dep-word = record { names = refl; high = refl }
-
-pub witness-word : Word witness kind.Witness
-unfolding kindOf same all
-witness-word = record { names = refl; high = refl }
-
-pub verdicts-word : Word verdicts kind.Verdicts
-unfolding kindOf same all
-verdicts-word = record { names = refl; high = refl }
-
-line-says : (word : List ℕ) (k : Kind) (fs : List (List ℕ)) → Word word k → every (all (leb 48)) fs ≡ true → Says (lineText word fs) k fs
+-- a line has the kind of its word, and its fields
+line-says : (k : Kind) (fs : List (List ℕ)) → every (all (leb 48)) fs ≡ true → Says (lineText (kindWord k) fs) k fs
 unfolding kindOfLine fieldsOfLine wordOf fieldsOf
-line-says word k fs w h =
-    let e = line-pieces word fs (high-without 44 (omega arith) word (w .high)) (fields-without 44 (omega arith) fs h) in
-    record { ended = line-without word fs (w .high) h; kind = rw e (w .names); fields = rw e }
+line-says k fs h =
+    let w = word-of k in
+    let e = line-pieces (kindWord k) fs (high-without 44 (omega arith) (kindWord k) (w .1)) (fields-without 44 (omega arith) fs h) in
+    record { ended = line-without (kindWord k) fs (w .1) h; kind = rw e (w .0); fields = rw e }
 
--- and that no line row refuses it, and which bytes it holds
+-- and that no line row refuses it, and what the reader puts down of it
 pub record Prints (l : List ℕ) (k : Kind) (line : Line) : Type 0 where
   pub fields : List (List ℕ)
   pub says : Says l k fields
   pub counted : eqb (length fields) (fieldCount k) ≡ true
   pub formed : formsOk true (firstForm k) fields ≡ true
-  pub bytes : lineBytes (firstForm k) fields ≡ line .bytes
+  pub row : lineIn (firstForm k) fields ≡ line
 
 -- lines of bytes and of cells
-module _ (word : List ℕ) (k : Kind) (w : Word word k) where
-  pub bytes-says : (bs : List ℕ) → bytesOk bs ≡ true → Says (bytesText word bs) k (hexText bs ∷ [])
+module _ (k : Kind) where
+  pub bytes-says : (bs : List ℕ) → bytesOk bs ≡ true → Says (bytesText (kindWord k) bs) k (hexText bs ∷ [])
   unfolding bytesText every
-  bytes-says bs h = line-says word k (hexText bs ∷ []) w (rw (hex-high bs h))
+  bytes-says bs h = line-says k (hexText bs ∷ []) (rw (hex-high bs h))
 
-  pub cell-says : (c : Cell) → CellHolds c → Says (cellText word c) k (cellFields c)
+  pub cell-says : (c : Cell) → CellHolds c → Says (cellText (kindWord k) c) k (cellFields c)
   unfolding cellText
-  cell-says c h = line-says word k (cellFields c) w (cell-high c h)
+  cell-says c h = line-says k (cellFields c) (cell-high c h)
 
-  pub bytes-prints : firstForm k ≡ Hex → fieldCount k ≡ 1 → (bs : List ℕ) → bytesOk bs ≡ true → Prints (bytesText word bs) k (bytesLine bs)
-  unfolding bytesLine formsOk lineBytes fieldBytes
+  pub bytes-prints : firstForm k ≡ Hex → fieldCount k ≡ 1 → (bs : List ℕ) → bytesOk bs ≡ true → Prints (bytesText (kindWord k) bs) k (bytesLine bs)
+  unfolding formsOk
   bytes-prints f n bs h =
       record {
         fields = hexText bs ∷ [];
         says = bytes-says bs h;
         counted = rw n;
         formed = rw (f, hex-ok bs h);
-        bytes = rw (f, hex-back bs h, append-nil bs);
+        row = rw f (hex-row (hexText bs) ∙ rw (hex-back bs h));
       }
 
-  pub cell-prints : firstForm k ≡ TypeHash → fieldCount k ≡ 4 → (c : Cell) → CellHolds c → Prints (cellText word c) k (cellLine c)
-  unfolding cellLine cellFields
+  pub cell-prints : firstForm k ≡ TypeHash → fieldCount k ≡ 4 → (c : Cell) → CellHolds c → Prints (cellText (kindWord k) c) k (cellLine c)
+  unfolding cellFields
   cell-prints f n c h =
-      record { fields = cellFields c; says = cell-says c h; counted = rw n; formed = rw f (cell-form c h); bytes = rw f (cell-bytes c h) }
+      record {
+        fields = cellFields c;
+        says = cell-says c h;
+        counted = rw n;
+        formed = rw f (cell-form c h);
+        row = rw f (cell-row _ _ _ _ ∙ ap cellLine (cell-back c h));
+      }
 
 pub hash-prints : (hash : List ℕ) → HashHolds hash → Prints (bytesText tx hash) kind.Tx (hashLine hash)
-unfolding hashLine formsOk lineBytes fieldBytes
+unfolding formsOk
 hash-prints hash h =
     record {
       fields = hexText hash ∷ [];
-      says = bytes-says tx kind.Tx tx-word hash (h .bytes);
+      says = bytes-says kind.Tx hash (h .bytes);
       counted = refl;
       formed = rw (hash-form hash h);
-      bytes = rw (hex-back hash (h .bytes), append-nil hash);
+      row = hash-row (hexText hash) ∙ rw (hex-back hash (h .bytes));
     }
 
 pub input-says : (i : Input) → InputHolds i → Says (inputText i) kind.Input (inputFields i)
 unfolding inputText
-input-says i h = line-says input kind.Input (inputFields i) input-word (input-high i h)
+input-says i h = line-says kind.Input (inputFields i) (input-high i h)
 
 pub input-prints : (i : Input) → InputHolds i → Prints (inputText i) kind.Input (inputLine i)
-unfolding inputLine inputFields cellFields
-input-prints i h = record { fields = inputFields i; says = input-says i h; counted = refl; formed = input-form i h; bytes = input-bytes i h }
+unfolding inputFields cellFields
+input-prints i h =
+    record {
+      fields = inputFields i;
+      says = input-says i h;
+      counted = refl;
+      formed = input-form i h;
+      row = input-row _ _ _ _ _ _ ∙ ap inputLine (input-back i h);
+    }
 
 pub record DigitsHold (ds : List ℕ) : Type 0 where
   pub few : length ds ≤ 16
   pub each : every (λ (d : ℕ). ltb d 3) ds ≡ true
 
-pub digits-hold : (ds : List ℕ) → digitsOk ds ≡ true → DigitsHold ds
-unfolding digitsOk
-digits-hold ds h =
-    let p = every (λ (d : ℕ). ltb d 3) ds in
-    record { few = leb-true (length ds) 16 (and-left (leb (length ds) 16) p h); each = and-right (leb (length ds) 16) p h }
-
 pub digits-says : (ds : List ℕ) → DigitsHold ds → Says (lineText verdicts (digitsText ds ∷ [])) kind.Verdicts (digitsText ds ∷ [])
 unfolding every
-digits-says ds h = line-says verdicts kind.Verdicts (digitsText ds ∷ []) verdicts-word (rw (digits-high 3 (omega arith) ds (h .each)))
+digits-says ds h = line-says kind.Verdicts (digitsText ds ∷ []) (rw (digits-high 3 (omega arith) ds (h .each)))
 
 pub digits-prints : (ds : List ℕ) → DigitsHold ds → Prints (lineText verdicts (digitsText ds ∷ [])) kind.Verdicts (digitsLine ds)
-unfolding digitsLine formsOk lineBytes fieldBytes
+unfolding formsOk
 digits-prints ds h =
     record {
       fields = digitsText ds ∷ [];
       says = digits-says ds h;
       counted = refl;
       formed = rw (digits-length ds, le-leb (length ds) 16 (h .few), digits-form 3 (omega arith) ds (h .each));
-      bytes = refl;
+      row = digits-row (digitsText ds) ∙ rw (digits-back 3 (omega arith) ds (h .each));
     }
 
 -- lines one by one, with their kinds and with what they hold
@@ -187,17 +187,17 @@ each-map ok text k line p [] h = none
 each-map ok text k line p (x ∷ xs) h =
     more (p x (and-left (ok x) (every ok xs) h)) (each-map ok text k line p xs (and-right (ok x) (every ok xs) h))
 
--- what the line rows ask of all of them
+-- what the line rows ask of all of them, and what the reader puts down of them
 pub record Rows (ls : List (List ℕ)) (ks : List Kind) (lines : List Line) : Type 0 where
   pub ended : every (without 10) ls ≡ true
   pub ordered : map kindOfLine ls ≡ ks
   pub counted : every countOk ls ≡ true
   pub formed : every formOk ls ≡ true
-  pub bytes : map bytesOfLine ls ≡ map (λ (x : Line). x .bytes) lines
+  pub rows : map rowOf ls ≡ lines
 
 pub each-rows : {ls : List (List ℕ)} {ks : List Kind} {lines : List Line} → EachPrints ls ks lines → Rows ls ks lines
-unfolding every countOk formOk bytesOfLine
-each-rows none = record { ended = refl; ordered = refl; counted = refl; formed = refl; bytes = refl }
+unfolding every countOk formOk rowOf
+each-rows none = record { ended = refl; ordered = refl; counted = refl; formed = refl; rows = refl }
 each-rows (more p r) =
     let h = each-rows r in
     let k = p .says .kind in
@@ -207,5 +207,5 @@ each-rows (more p r) =
       ordered = rw (k, h .ordered);
       counted = rw (k, f, p .counted, h .counted);
       formed = rw (k, f, p .formed, h .formed);
-      bytes = rw (k, f, p .bytes, h .bytes);
+      rows = rw (k, f, p .row, h .rows);
     }

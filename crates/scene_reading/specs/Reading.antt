@@ -1,12 +1,15 @@
 -- What a text says: the scene that its lines hold, each line read by its kind, as 01, "The scene, added by the port", lists them.
 use Prim.Native.Nat.{ℕ, zero, suc, _+_}
+use mathlib.Core.Bool.{cond}
 use mathlib.Core.List.{List, [], _∷_, map}
 use lib.ListN.{getD}
+use lib.Dec.{eqb}
 use Rattle.scene_text.specs.declared.decimal.Number.{Number}
 use Rattle.scene_text.specs.declared.decimal.Number.the-variants.{Is, Bad}
 use Rattle.scene_text.specs.Text.{hexBytes, hexVal, sinceOf}
 use Rattle.scene_line.specs.declared.kind.Kind.{Kind}
 use Rattle.scene_line.specs.declared.kind.Kind.the-variants as kind
+use Rattle.scene_line.specs.Kind.{place}
 use Rattle.scene_table.specs.Scene.{Cell, Input, Scene}
 use Rattle.scene_reading.specs.Lines.{kindOfLine, fieldsOfLine}
 
@@ -22,8 +25,8 @@ numberIn (Is v) = v
 numberIn Bad = 0
 
 -- "TYPEHASH,DATAHASH,TYPESCRIPT,DATA", the first of them at a place
-unfoldable pub cellOf : List (List ℕ) → ℕ → Cell
-cellOf fs at = record {
+unfoldable pub cellOf : ℕ → List (List ℕ) → Cell
+cellOf at fs = record {
   typeHash = hexBytes (fieldAt fs at);
   dataHash = hexBytes (fieldAt fs (at + 1));
   typeScript = hexBytes (fieldAt fs (at + 2));
@@ -35,82 +38,32 @@ unfoldable pub inputOf : List (List ℕ) → Input
 inputOf fs = record {
   group = hexVal (getD (fieldAt fs 0) 0 0);
   since = numberIn (sinceOf (fieldAt fs 1));
-  cell = cellOf fs 2;
+  cell = cellOf 2 fs;
 }
 
--- no line says anything
-unfoldable pub nothing : Scene
-nothing = record { script = []; transaction = []; inputs = []; outputs = []; deps = []; witnesses = []; digits = [] }
+-- "`witness,HEX`"
+unfoldable pub bytesOf : List (List ℕ) → List ℕ
+bytesOf fs = hexBytes (fieldAt fs 0)
 
--- a line of each kind, and what the lines behind it say: "`script,HEX`; `tx,HASH`; `input,..`"; "`output,` and `dep,` each with the
--- last four; `witness,HEX`; `verdicts,DIGITS`"
-unfoldable pub withLine : Kind → List (List ℕ) → Scene → Scene
-withLine kind.Script fs s = record {
-  script = hexBytes (fieldAt fs 0);
-  transaction = s .transaction;
-  inputs = s .inputs;
-  outputs = s .outputs;
-  deps = s .deps;
-  witnesses = s .witnesses;
-  digits = s .digits;
-}
-withLine kind.Tx fs s = record {
-  script = s .script;
-  transaction = hexBytes (fieldAt fs 0);
-  inputs = s .inputs;
-  outputs = s .outputs;
-  deps = s .deps;
-  witnesses = s .witnesses;
-  digits = s .digits;
-}
-withLine kind.Input fs s = record {
-  script = s .script;
-  transaction = s .transaction;
-  inputs = inputOf fs ∷ s .inputs;
-  outputs = s .outputs;
-  deps = s .deps;
-  witnesses = s .witnesses;
-  digits = s .digits;
-}
-withLine kind.Output fs s = record {
-  script = s .script;
-  transaction = s .transaction;
-  inputs = s .inputs;
-  outputs = cellOf fs 0 ∷ s .outputs;
-  deps = s .deps;
-  witnesses = s .witnesses;
-  digits = s .digits;
-}
-withLine kind.Dep fs s = record {
-  script = s .script;
-  transaction = s .transaction;
-  inputs = s .inputs;
-  outputs = s .outputs;
-  deps = cellOf fs 0 ∷ s .deps;
-  witnesses = s .witnesses;
-  digits = s .digits;
-}
-withLine kind.Witness fs s = record {
-  script = s .script;
-  transaction = s .transaction;
-  inputs = s .inputs;
-  outputs = s .outputs;
-  deps = s .deps;
-  witnesses = hexBytes (fieldAt fs 0) ∷ s .witnesses;
-  digits = s .digits;
-}
-withLine kind.Verdicts fs s = record {
-  script = s .script;
-  transaction = s .transaction;
-  inputs = s .inputs;
-  outputs = s .outputs;
-  deps = s .deps;
-  witnesses = s .witnesses;
-  digits = map hexVal (fieldAt fs 0);
-}
-withLine kind.Unknown fs s = s
+-- the fields of the lines of a kind, line by line
+unfoldable pub fieldsOfKind : Kind → List (List ℕ) → List (List (List ℕ))
+fieldsOfKind k [] = []
+fieldsOfKind k (l ∷ ls) = cond (eqb (place (kindOfLine l)) (place k)) (fieldsOfLine l ∷ fieldsOfKind k ls) (fieldsOfKind k ls)
 
--- the lines from first to last
+-- the field of the only line of a kind: the first of the first line, nothing where there is no line
+unfoldable pub onlyField : List (List (List ℕ)) → List ℕ
+onlyField [] = []
+onlyField (fs ∷ more) = fieldAt fs 0
+
+-- "`script,HEX`; `tx,HASH`; `input,..`; `output,` and `dep,` each with the last four; `witness,HEX`; `verdicts,DIGITS`"; "Script,
+-- tx and verdicts stand once"
 unfoldable pub readingOf : List (List ℕ) → Scene
-readingOf [] = nothing
-readingOf (l ∷ ls) = withLine (kindOfLine l) (fieldsOfLine l) (readingOf ls)
+readingOf ls = record {
+  script = hexBytes (onlyField (fieldsOfKind kind.Script ls));
+  transaction = hexBytes (onlyField (fieldsOfKind kind.Tx ls));
+  inputs = map inputOf (fieldsOfKind kind.Input ls);
+  outputs = map (cellOf 0) (fieldsOfKind kind.Output ls);
+  deps = map (cellOf 0) (fieldsOfKind kind.Dep ls);
+  witnesses = map bytesOf (fieldsOfKind kind.Witness ls);
+  digits = map hexVal (onlyField (fieldsOfKind kind.Verdicts ls));
+}

@@ -1,7 +1,7 @@
 -- The scene of a table alone: it is one that a text can say exactly where its counts, groups and digits are in range.
 -- Assumes nothing.
 use mathlib.Core.Path.{_≡_, refl}
-use mathlib.Core.Bool.{Bool, true, false, cond, _&&_}
+use mathlib.Core.Bool.{Bool, true, false, cond, _&&_, and-true}
 use mathlib.Core.List.{List}
 use Prim.Native.Nat.{ℕ, zero, suc, _+_, _*_, _^_, _<_}
 use native.Mathlib.Omega.{arith}
@@ -13,7 +13,6 @@ use Rattle.scene_table.specs.Places.{digitCount}
 use Rattle.scene_table.specs.Valid.{every, bytesOk, hashOk, cellOk, inputOk, fewOf, digitsOk, sceneOk}
 use Rattle.scene_table.specs.Walk.{groupOk}
 use Rattle.scene_table.proofs.Rows.{length-rows}
-use Rattle.scene_table.proofs.Truth.{and-true}
 use Rattle.scene_table.proofs.WholeWalk.{blank}
 
 pub blank-bytes : (n : ℕ) → bytesOk (replicate n 0) ≡ true

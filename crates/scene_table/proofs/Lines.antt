@@ -82,13 +82,14 @@ fromOutputs s = map cellLine (s .outputs) ++ fromDeps s
 unfoldable pub fromInputs : Scene → List Line
 fromInputs s = map inputLine (s .inputs) ++ fromOutputs s
 
-regroup : (a b c d e : List Line) → a ++ b ++ c ++ d ++ e ≡ a ++ (b ++ (c ++ (d ++ e)))
-regroup a b c d e = simp append-assoc
+-- five lists end to end
+pub right-nested : {A : Type 0} (a b c d e : List A) → a ++ b ++ c ++ d ++ e ≡ a ++ (b ++ (c ++ (d ++ e)))
+right-nested a b c d e = simp append-assoc
 
 pub lines-by-kind : (s : Scene) → linesOf s ≡ bytesLine (s .script) ∷ hashLine (s .transaction) ∷ fromInputs s
 unfolding linesOf fromInputs fromOutputs fromDeps fromWitnesses
 lines-by-kind s =
-    regroup
+    right-nested
     (bytesLine (s .script) ∷ hashLine (s .transaction) ∷ map inputLine (s .inputs))
     (map cellLine (s .outputs))
     (map cellLine (s .deps))

@@ -49,15 +49,6 @@ module _ {A : Type 0} (read : ℕ → A) (w : ℕ) where
   row-past (suc n) at zero d h = absurd (not-suc-le-zero h)
   row-past (suc n) at (suc i) d h = row-past n (at + w) i d (le-of-suc-le-suc h)
 
-  -- a turn of a loop over rows: row i, and the rest
-  pub rows-turn : (n at i : ℕ) → i < n → rowsAt read w (n - i) (at + w * i) ≡ read (at + w * i) ∷ rowsAt read w (n - (i + 1)) (at + w * (i + 1))
-  unfolding rowsAt
-  rows-turn n at i h =
-      let e : n - i ≡ suc (n - (i + 1)) = omega arith in
-      let k : i + 1 ≡ suc i = omega arith in
-      let f : at + w * suc i ≡ at + w * i + w = rw mul-suc (omega arith) in
-      rw (e, k, f)
-
   -- after the last turn nothing is left
   pub rows-end : (n at i : ℕ) → n ≤ i → rowsAt read w (n - i) at ≡ []
   unfolding rowsAt

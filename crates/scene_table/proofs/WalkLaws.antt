@@ -1,7 +1,7 @@
 -- The walk's laws: its turns, and the turns of the loops over digits and over the entries behind them.
 -- Assumes nothing.
 use mathlib.Core.Path.{_≡_}
-use mathlib.Core.Bool.{Bool, true, _&&_}
+use mathlib.Core.Bool.{Bool, true, _&&_, and-true}
 use mathlib.Core.List.{List}
 use Prim.Native.Nat.{ℕ, suc, _+_, _-_, _≤_, _<_}
 use native.Mathlib.Numerals.{add-one}
@@ -13,7 +13,6 @@ use Rattle.scene_table.specs.Valid.{every}
 use Rattle.scene_table.specs.Walk.{need, rowStep, walkRows}
 use Rattle.scene_table.specs.declared.validity.Walk.{Walk}
 use Rattle.scene_table.proofs.Rows.{rows-end}
-use Rattle.scene_table.proofs.Truth.{and-true}
 
 -- a test that passes changes nothing
 pub need-true : (k : Walk) → need k true ≡ k

@@ -1,10 +1,10 @@
 -- 01, the row for 7: "a table that the reader, scene length aside, leaves for no accepted scene with a store this long".
-use Prim.Native.Nat.{ℕ, _+_, _*_, _^_}
-use mathlib.Core.Bool.{Bool, true, false, cond, _&&_, _||_}
+use Prim.Native.Nat.{ℕ, _^_}
+use mathlib.Core.Bool.{Bool, true, cond, _&&_}
 use mathlib.Core.List.{List, [], _∷_}
 use lib.ListN.{length}
 use lib.Dec.{leb, ltb, eqb}
-use Rattle.octets.specs.Lists.{both, same}
+use Rattle.octets.specs.Lists.{same}
 use Rattle.scene_table.specs.Scene.{Cell, Input, Scene, sceneBytes, tableOf}
 use Rattle.scene_table.specs.Lent.{blankScene}
 

@@ -8,6 +8,8 @@ use Rattle.scene_table.specs.Lent.{entryAt, inputsAt, outputsAt, depsAt,
 use Rattle.scene_table.specs.Places.{digitCount}
 use Rattle.scene_table.specs.Valid.{every}
 use Rattle.scene_table.specs.declared.validity.Walk.{Walk}
+use Rattle.scene_table.specs.declared.validity.RowForm.{RowForm}
+use Rattle.scene_table.specs.declared.validity.RowForm.the-variants as form
 
 -- one test more
 unfoldable pub need : Walk → Bool → Walk
@@ -43,6 +45,22 @@ cellRowSize table at = cellSize (entryAt table (at + 1)) (entryAt table (at + 2)
 
 unfoldable pub inputSize : List ℕ → ℕ → ℕ
 inputSize table at = cellSize (entryAt table (at + 4)) (entryAt table (at + 5))
+
+-- the test, the bytes and the entries of a row by its form
+abbrev pub rowOk : List ℕ → RowForm → ℕ → Bool
+rowOk table form.Bytes = anyRow
+rowOk table form.Cell = anyRow
+rowOk table form.Input = groupOk table
+
+abbrev pub rowSize : List ℕ → RowForm → ℕ → ℕ
+rowSize table form.Bytes = bytesSize table
+rowSize table form.Cell = cellRowSize table
+rowSize table form.Input = inputSize table
+
+abbrev pub rowWidth : RowForm → ℕ
+rowWidth form.Bytes = 2
+rowWidth form.Cell = 3
+rowWidth form.Input = 6
 
 unfoldable pub startWalk : Walk
 startWalk = record { good = true; used = 0 }

@@ -7,12 +7,12 @@ use crate::places::outputs_at;
 use crate::places::verdicts_at;
 use crate::places::witnesses_at;
 ghost use mathlib.Core.Path.{_≡_};
-ghost use Prim.Native.Nat.{_<_, _^_};
+ghost use Prim.Native.Nat.{_≤_, _<_, _^_};
 ghost use lib.Dec.{ltb, eqb};
 ghost use lib.ListN.{drop};
-ghost use Rattle.scene_table.specs.Lent.{entryAt, rowsAt, inputsAt, witnessesAt};
+ghost use Rattle.scene_table.specs.Lent.{entryAt, rowsAt};
 ghost use Rattle.scene_table.specs.Valid.{every, validTable};
-ghost use Rattle.scene_table.specs.Walk.{need, placed, cellSize, rowStep, walkRows, anyRow, groupOk, bytesSize, cellRowSize, inputSize, countsOk, walkLines, restOk};
+ghost use Rattle.scene_table.specs.Walk.{need, placed, cellSize, rowStep, walkRows, anyRow, groupOk, bytesSize, cellRowSize, inputSize, rowOk, rowSize, rowWidth, countsOk, walkLines, restOk};
 
 // Whether the rows so far are good, and where their bytes end.
 pub(crate) struct Walk {
@@ -46,6 +46,13 @@ impl Walk {
             used: start as u64 + size,
         }
     }
+}
+
+// What a row is of: bytes, an output or a dep, an input.
+pub(crate) enum RowForm {
+    Bytes,
+    Cell,
+    Input,
 }
 
 // How many bytes a cell has.
@@ -83,47 +90,41 @@ fn input_row(table: &[u32], at: usize, walk: Walk) -> Walk
     )
 }
 
-fn walk_inputs(table: &[u32], walk: Walk) -> Walk
-    ensures { λ r. ⌜ r ≡ walkRows (now (table .entry)) (groupOk (now (table .entry))) (inputSize (now (table .entry))) 6 (entryAt (now (table .entry)) 3) inputsAt walk ⌝ }
+// How many entries a row of a form has.
+fn row_width(form: RowForm) -> usize
+    ensures { λ r. ⌜ r ≡ rowWidth form ⌝ }
+    ensures { λ r. ⌜ r ≤ 6 ⌝ }
 {
-    let n = entry_at(table, 3);
-    let mut at: usize = 11;
-    let mut i: u32 = 0;
-    let mut walked = walk;
-    while i < n {
-        walked = input_row(table, at, walked);
-        at += 6;
-        i += 1;
+    match form {
+        RowForm::Bytes => 2,
+        RowForm::Cell => 3,
+        RowForm::Input => 6,
     }
-    walked
 }
 
-// The outputs, or the deps: `n` rows from `first` on.
-fn walk_cells(table: &[u32], first: usize, n: u32, walk: Walk) -> Walk
-    requires { ⌜ first < 2 ^ 38 ⌝ }
-    ensures { λ r. ⌜ r ≡ walkRows (now (table .entry)) anyRow (cellRowSize (now (table .entry))) 3 n first walk ⌝ }
+fn row_of(table: &[u32], form: RowForm, at: usize, walk: Walk) -> Walk
+    requires { ⌜ at < 2 ^ 40 ⌝ }
+    ensures { λ r. ⌜ r ≡ rowStep (now (table .entry)) (rowOk (now (table .entry)) form) (rowSize (now (table .entry)) form) walk at ⌝ }
 {
+    match form {
+        RowForm::Bytes => bytes_row(table, at, walk),
+        RowForm::Cell => cell_row(table, at, walk),
+        RowForm::Input => input_row(table, at, walk),
+    }
+}
+
+// `n` rows of a form, from `first` on.
+fn walk_rows(table: &[u32], form: RowForm, first: usize, n: u32, walk: Walk) -> Walk
+    requires { ⌜ first < 2 ^ 38 ⌝ }
+    ensures { λ r. ⌜ r ≡ walkRows (now (table .entry)) (rowOk (now (table .entry)) form) (rowSize (now (table .entry)) form) (rowWidth form) n first walk ⌝ }
+{
+    let width = row_width(form);
     let mut at = first;
     let mut i: u32 = 0;
     let mut walked = walk;
     while i < n {
-        walked = cell_row(table, at, walked);
-        at += 3;
-        i += 1;
-    }
-    walked
-}
-
-fn walk_witnesses(table: &[u32], walk: Walk) -> Walk
-    ensures { λ r. ⌜ r ≡ walkRows (now (table .entry)) anyRow (bytesSize (now (table .entry))) 2 (entryAt (now (table .entry)) 6) (witnessesAt (now (table .entry))) walk ⌝ }
-{
-    let n = entry_at(table, 6);
-    let mut at = witnesses_at(table);
-    let mut i: u32 = 0;
-    let mut walked = walk;
-    while i < n {
-        walked = bytes_row(table, at, walked);
-        at += 2;
+        walked = row_of(table, form, at, walked);
+        at += width;
         i += 1;
     }
     walked
@@ -138,10 +139,28 @@ fn walk_lines(table: &[u32]) -> Walk
         used: 0,
     };
     let head = bytes_row(table, 8, start).row(entry_at(table, 10), 32);
-    let inputs = walk_inputs(table, head);
-    let outputs = walk_cells(table, outputs_at(table), entry_at(table, 4), inputs);
-    let deps = walk_cells(table, deps_at(table), entry_at(table, 5), outputs);
-    walk_witnesses(table, deps).row(entry_at(table, verdicts_at(table)), 0)
+    let inputs = walk_rows(table, RowForm::Input, 11, entry_at(table, 3), head);
+    let outputs = walk_rows(
+        table,
+        RowForm::Cell,
+        outputs_at(table),
+        entry_at(table, 4),
+        inputs,
+    );
+    let deps = walk_rows(
+        table,
+        RowForm::Cell,
+        deps_at(table),
+        entry_at(table, 5),
+        outputs,
+    );
+    walk_rows(
+        table,
+        RowForm::Bytes,
+        witnesses_at(table),
+        entry_at(table, 6),
+        deps,
+    ).row(entry_at(table, verdicts_at(table)), 0)
 }
 
 // Enough entries, and as many lines of each kind and digits as a scene may have.

@@ -1,9 +1,8 @@
 -- `group_sighash::hashed::first_other` meets its contract. Assumes nothing.
-use mathlib.Core.Path.{_≡_, refl, sym, ap, _∙_}
+use mathlib.Core.Path.{sym, _∙_}
 use native.Mathlib.Omega.{arith}
 use denote.Ref.{now}
-use Rattle.scene_table.specs.Lent.{lentScene, entryAt}
-use Rattle.group_sighash.specs.Hashed.{isInput, FirstOther}
+use Rattle.scene_table.specs.Lent.{entryAt}
 use Rattle.group_sighash.proofs.HashedLaws.{input-both, other-there, other-missing}
 use borrow.Author.Needs.{needs}
 use Rattle.group_sighash.proofs.hashed.first_other.Statement.{statement}

@@ -1,5 +1,4 @@
 -- `group_sighash::hashed::is_hashed` meets its contract. Assumes nothing.
-use mathlib.Core.Path.{_≡_, refl, sym, ap, _∙_}
 use Rattle.group_sighash.specs.Hashed.{isHashed}
 use borrow.Author.Tests.{le-leb, lt-leb}
 use borrow.Author.Needs.{needs}

@@ -1,12 +1,12 @@
 -- `group_sighash::hashed::next_hashed` meets its contract. Assumes nothing.
-use mathlib.Core.Path.{_≡_, refl, sym, ap, _∙_}
+use mathlib.Core.Path.{_≡_, refl, sym, _∙_}
 use native.Mathlib.Omega.{arith}
 use denote.Ref.{now}
 use borrow.Author.Needs.{needs}
 use mathlib.Core.List.{List}
-use Prim.Native.Nat.{ℕ, _-_, _+_, _≤_}
+use Prim.Native.Nat.{ℕ, _-_, _≤_}
 use Rattle.scene_table.specs.Lent.{entryAt}
-use Rattle.group_sighash.specs.Hashed.{hashedFrom, groupFrom, isHashed, Next}
+use Rattle.group_sighash.specs.Hashed.{hashedFrom, groupFrom}
 use Rattle.group_sighash.proofs.HashedLaws.{hashed-skip, group-skip}
 use Rattle.group_sighash.proofs.hashed.next_hashed.Statement.{statement}
 use Rattle.group_sighash.proofs.hashed.next_hashed.Tie as tie

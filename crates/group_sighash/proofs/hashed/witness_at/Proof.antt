@@ -1,5 +1,4 @@
 -- `group_sighash::hashed::witness_at` meets its contract. Assumes nothing.
-use mathlib.Core.Path.{_≡_, refl, sym, ap, _∙_}
 use Rattle.group_sighash.specs.Hashed.{witnessAt}
 use Rattle.octets.specs.Places.{bytesAt}
 use borrow.Author.Needs.{needs}

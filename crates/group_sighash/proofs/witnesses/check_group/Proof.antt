@@ -1,10 +1,8 @@
 -- `group_sighash::witnesses::check_group` meets its contract. Assumes nothing.
-use mathlib.Core.Path.{_≡_, refl, sym, ap, _∙_}
+use mathlib.Core.Path.{sym}
 use denote.Ref.{now}
-use Rattle.protocol.specs.Rows.{decide, _▷_, _then_}
-use Rattle.protocol.proofs.Hold.{decide-append, decide-then}
-use Rattle.protocol.specs.declared.check.Check.the-variants.{Passed}
-use Rattle.scene_table.specs.Lent.{lentScene, entryAt}
+use Rattle.protocol.specs.Rows.{decide, _then_}
+use Rattle.protocol.proofs.Hold.{decide-then}
 use Rattle.group_sighash.specs.Witnesses.{groupRows, witnessRows}
 use Rattle.group_sighash.proofs.HashedLaws.{group-count}
 use borrow.Author.Needs.{needs}

@@ -1,5 +1,5 @@
 -- `group_sighash::witnesses::check_header` meets its contract. Assumes nothing.
-use mathlib.Core.Path.{_≡_, refl, sym, ap, _∙_}
+use mathlib.Core.Path.{sym, ap, _∙_}
 use denote.Ref.{now}
 use Rattle.account_witness.proofs.Accepted.{headerFound, header-found}
 use borrow.Author.Needs.{needs}

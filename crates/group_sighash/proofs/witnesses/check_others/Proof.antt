@@ -1,42 +1,34 @@
 -- `group_sighash::witnesses::check_others` meets its contract. Assumes nothing.
-use mathlib.Core.Path.{_≡_, refl, sym, ap, _∙_}
+use mathlib.Core.Path.{sym, _∙_}
+use Prim.Native.Nat.{_-_}
 use native.Mathlib.Omega.{arith}
 use denote.Ref.{now}
 use borrow.Author.Needs.{needs}
-use mathlib.Core.Bool.{true}
-use mathlib.Core.List.{List, _∷_}
-use Prim.Native.Nat.{ℕ, _-_, _+_, _<_}
-use Rattle.scene_table.specs.Lent.{lentScene, entryAt}
+use Rattle.scene_table.specs.Lent.{lentScene}
 use Rattle.scene_table.specs.Valid.{every}
 use Rattle.group_sighash.specs.Witnesses.{otherWitnesses, witnessFits}
-use Rattle.group_sighash.specs.Hashed.{hashedFrom, witnessAt, isHashed}
-use Rattle.group_sighash.proofs.HashedLaws.{hashed-take, hashed-end, fits-more, fits-not, fits-none, others-pass, others-fail}
+use Rattle.group_sighash.specs.Hashed.{witnessAt}
+use Rattle.group_sighash.proofs.HashedLaws.{Left, left-first, left-more, left-next, left-end, fits-more, fits-not, fits-none, others-pass, others-fail}
 use Rattle.group_sighash.proofs.witnesses.check_others.Statement.{statement}
 use Rattle.group_sighash.proofs.witnesses.check_others.Tie as tie
 
 abbrev Inv-loop : tie.InvT-loop
 Inv-loop table store count i₀ i =
-    (count ≡ entryAt table 6)
-    × (i < entryAt table 6 → isHashed table i ≡ true)
-    × (every witnessFits (otherWitnesses (lentScene table store)) ≡ every witnessFits (hashedFrom table store i))
+    Left table store count i (every witnessFits (otherWitnesses (lentScene table store))) (every witnessFits)
 
 abbrev μ-loop : tie.MeasureT-loop
 μ-loop table store count i₀ i = count - i
 
 loop-holds : tie.Need-loop-holds Inv-loop μ-loop
 loop-holds c =
-    let a = c .before .before .before .before .before .args in (
-      c .before .before .witness-count .ensures,
-      c .next-hashed .ensures .hit,
-      ap (every witnessFits) (c .before .first-other .ensures (now (a .store)) ∙ c .next-hashed .ensures .hashed (now (a .store))),
-    )
+    left-first (now (c .before .before .before .before .before .args .store)) (every witnessFits) (c .before .before .witness-count .ensures) (c .before .first-other .ensures) (c .next-hashed .ensures)
 
 returns : tie.Need-returns Inv-loop μ-loop
 returns c =
     let l = c .before .before .before .loop in
     let a = c .before .before .before .before .before .before .before .before .before .args in
-    let more = rw (l .inv .0) at (c .before .before .loop-test .taken) in
-    sym (others-fail (lentScene (now (a .table)) (now (a .store))) (l .inv .2 ∙ rw (hashed-take (now (a .table)) (now (a .store)) (l .i) more (l .inv .1 more)) (fits-not (witnessAt (now (a .table)) (now (a .store)) (l .i)) _ (rw (c .before .witness-at .ensures) at (c .if1 .taken)))))
+    let long = rw (c .before .witness-at .ensures) at (c .if1 .taken) in
+    sym (others-fail (lentScene (now (a .table)) (now (a .store))) (left-more (now (a .store)) (l .inv) (c .before .before .loop-test .taken) ∙ fits-not (witnessAt (now (a .table)) (now (a .store)) (l .i)) _ long))
 
 loop-less : tie.Need-loop-less Inv-loop μ-loop
 loop-less c = omega (arith, c .next-hashed2 .ensures .behind)
@@ -45,19 +37,14 @@ loop-again : tie.Need-loop-again Inv-loop μ-loop
 loop-again c =
     let l = c .before .before .before .before .loop in
     let a = c .before .before .before .before .before .before .before .before .before .before .args in
-    let more = rw (l .inv .0) at (c .before .before .before .loop-test .taken) in (
-      l .inv .0,
-      c .next-hashed2 .ensures .hit,
-      l .inv .2
-          ∙ rw (hashed-take (now (a .table)) (now (a .store)) (l .i) more (l .inv .1 more)) (fits-more (witnessAt (now (a .table)) (now (a .store)) (l .i)) _ (rw (c .before .before .witness-at .ensures) at (c .before .if1 .left)))
-          ∙ ap (every witnessFits) (c .next-hashed2 .ensures .hashed (now (a .store))),
-    )
+    let fits = rw (c .before .before .witness-at .ensures) at (c .before .if1 .left) in
+    left-next (now (a .store)) (l .inv) (every witnessFits) (c .before .before .before .loop-test .taken) (c .next-hashed2 .ensures)
+    (λ ws. fits-more (witnessAt (now (a .table)) (now (a .store)) (l .i)) ws fits)
 
 returns-2 : tie.Need-returns-2 Inv-loop μ-loop
 returns-2 c =
-    let l = c .before .loop in
     let a = c .before .before .before .before .before .before .before .args in
-    sym (others-pass (lentScene (now (a .table)) (now (a .store))) (l .inv .2 ∙ rw (hashed-end (now (a .table)) (now (a .store)) (l .i) (rw (l .inv .0) at (c .loop-test .left))) fits-none))
+    sym (others-pass (lentScene (now (a .table)) (now (a .store))) (left-end (now (a .store)) (c .before .loop .inv) (c .loop-test .left) ∙ fits-none))
 
 pub check-others-spec : {M : Type 1} → statement M
 check-others-spec =

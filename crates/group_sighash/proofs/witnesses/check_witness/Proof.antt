@@ -1,9 +1,8 @@
 -- `group_sighash::witnesses::check_witness` meets its contract. Assumes nothing.
-use mathlib.Core.Path.{_≡_, refl, sym, ap, _∙_}
+use mathlib.Core.Path.{sym, _∙_}
 use denote.Ref.{now}
-use Rattle.protocol.specs.Rows.{decide, _▷_, _then_}
+use Rattle.protocol.specs.Rows.{decide, _then_}
 use Rattle.protocol.proofs.Hold.{decide-append, decide-then}
-use Rattle.protocol.specs.declared.check.Check.the-variants.{Passed}
 use Rattle.group_sighash.specs.Witnesses.{witnessRows, countRows, lockIn}
 use Rattle.molecule.specs.Bytes.{lockRows}
 use Rattle.account_witness.specs.Header.{headerRows}

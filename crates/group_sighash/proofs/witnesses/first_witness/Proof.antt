@@ -1,5 +1,5 @@
 -- `group_sighash::witnesses::first_witness` meets its contract. Assumes nothing.
-use mathlib.Core.Path.{_≡_, refl, sym, ap, _∙_}
+use mathlib.Core.Path.{sym, _∙_}
 use denote.Ref.{now}
 use Rattle.group_sighash.proofs.HashedLaws.{first-there, first-missing}
 use borrow.Author.Needs.{needs}

@@ -1,5 +1,4 @@
 -- `group_sighash::witnesses::lock_in` meets its contract. Assumes nothing.
-use mathlib.Core.Path.{_≡_, refl, sym, ap, _∙_}
 use Rattle.group_sighash.specs.Witnesses.{lockIn}
 use borrow.Author.Needs.{needs}
 use Rattle.group_sighash.proofs.witnesses.lock_in.Statement.{statement}

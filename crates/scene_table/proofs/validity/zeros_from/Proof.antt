@@ -1,6 +1,6 @@
 -- `scene_table::validity::zeros_from` meets its contract: what was found of the entries passed, and the rest. Assumes nothing.
 use mathlib.Core.Path.{_≡_, refl, sym, _∙_}
-use mathlib.Core.Bool.{Bool, true, false, _&&_}
+use mathlib.Core.Bool.{Bool, _&&_, and-true, and-false}
 use mathlib.Core.Logic.{⊎-elim}
 use Prim.Native.Nat.{ℕ, _-_}
 use native.Mathlib.Omega.{arith}
@@ -8,7 +8,6 @@ use borrow.Author.Tests.{eq-eqb, ne-eqb}
 use lib.Dec.{eqb}
 use lib.ListN.{length, drop, getD}
 use Rattle.scene_table.specs.Valid.{every}
-use Rattle.scene_table.proofs.Truth.{and-true, and-false}
 use Rattle.scene_table.proofs.WalkLaws.{every-turn, every-end}
 use Rattle.scene_table.proofs.validity.zeros_from.Statement.{statement}
 use Rattle.scene_table.proofs.validity.zeros_from.Tie as tie

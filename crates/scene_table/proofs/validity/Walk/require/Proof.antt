@@ -1,6 +1,6 @@
 -- `scene_table::validity::Walk::require` meets its contract. Assumes nothing.
+use mathlib.Core.Bool.{and-true, and-false}
 use Rattle.scene_table.specs.Walk.{need}
-use Rattle.scene_table.proofs.Truth.{and-true, and-false}
 use Rattle.scene_table.proofs.validity.Walk.require.Statement.{statement}
 use Rattle.scene_table.proofs.validity.Walk.require.Tie as tie
 
