@@ -12,7 +12,7 @@ use native.Mathlib.Omega.{arith}
 use lib.ListN.{length, length-map, getD, drop, List·getD-eq-default}
 use denote.Enum.Declared.{tagOf, declared}
 use Rattle.octets.specs.Lists.{same}
-use Rattle.molecule.specs.Bytes.{bytesAt}
+use Rattle.octets.specs.Places.{bytesAt}
 use Rattle.scene_table.specs.Scene.{Cell, Input}
 use Rattle.scene_table.specs.Lent.{lentScene}
 use Rattle.scene_table.specs.Places as places

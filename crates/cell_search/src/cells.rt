@@ -1,5 +1,5 @@
 // The cells of a transaction, list by list.
-use molecule::Place;
+use octets::Place;
 use octets::part;
 use scene_table::CellPlaces;
 use scene_table::dep_cell;

@@ -9,11 +9,11 @@ use mathlib.Core.List.{List, [], _∷_, _++_}
 use Prim.Native.Nat.{ℕ, zero, suc, _+_, _*_, _-_, _≤_}
 use native.Mathlib.Omega.{arith}
 use lib.Dec.{eqb, leb, ltb}
-use lib.ListN.{length, drop, replicate, length-append, length-take, length-drop}
-use lib.Seq.{length-sets}
+use lib.ListN.{length, drop, length-append, length-take, length-drop}
 use borrow.Author.Tests.{leb-true, leb-false, eqb-true, le-leb, lt-leb}
 use Rattle.octets.specs.Le.{numberAt}
 use Rattle.octets.specs.Lists.{Rising}
+use Rattle.octets.proofs.Arrays.{length-array}
 use Rattle.protocol.specs.Errors.{errorNumber}
 use Rattle.protocol.specs.Rows.{Row, decide, Hold, First, checkNumber}
 use Rattle.protocol.specs.declared.error.ProtocolError.{ProtocolError}
@@ -85,7 +85,7 @@ module _ (c : Setting) (d : length (c .digest) ≡ 32) where
   unfolding requestOf requestReading requestTotal requestSize
   request-length p =
       length-request (requestReading (c .operation) (c .digest) (entryFor (p .slot) (c .entries)) p)
-      (record { digest = d; key = length-sets (replicate 32 0) 0 (entryFor (p .slot) (c .entries) .key) })
+      (record { digest = d; key = length-array 32 (entryFor (p .slot) (c .entries) .key) })
 
   -- the requests of proofs whose slots rise: 96 bytes each, their proofs, and the aux of distinct entries
   pub requests-length : (ps : List ProofReading) (least : ℕ) → Rising least (slots ps)

@@ -11,7 +11,6 @@ pub use self::compare::same_bytes;
 pub use self::place::Place;
 pub use self::place::part_at;
 pub use self::read::fits;
-pub use self::read::number_at;
 pub use self::read::part;
 pub use self::read::rest;
 pub use self::read::u8_at;

@@ -1,6 +1,6 @@
 // Reads of numbers and of parts.
 ghost use mathlib.Core.Path.{_≡_};
-ghost use Prim.Native.Nat.{_+_, _-_, _≤_, min};
+ghost use Prim.Native.Nat.{_+_, _-_, _≤_};
 ghost use lib.Dec.{leb};
 ghost use lib.ListN.{length, take, drop};
 ghost use Rattle.octets.specs.Le.{numberAt};
@@ -45,17 +45,7 @@ fn read_present(s: &[u8], at: usize, width: usize) -> u64
     }
 }
 
-// The number in the `width` bytes from `at` on; a width above 8 counts as 8.
-pub fn number_at(s: &[u8], at: usize, width: usize) -> u64
-    ensures { λ r. ⌜ r ≡ numberAt (now (s .entry)) at (min width 8) ⌝ }
-{
-    if width <= 8 {
-        read_present(s, at, width)
-    } else {
-        read_present(s, at, 8)
-    }
-}
-
+// The number in one byte, and in two, four and eight.
 pub fn u8_at(s: &[u8], at: usize) -> u8
     ensures { λ r. ⌜ r ≡ numberAt (now (s .entry)) at 1 ⌝ }
 {
