@@ -47,6 +47,7 @@ pub(crate) fn header_at(witness: &[u8]) -> AccountWitnessHeader
     }
 }
 
+// The header of a witness lock, or 22.
 pub fn parse_witness_header(witness: &[u8]) -> WitnessHeaderAnswer
     ensures { λ r. ⌜ r ≡ readHeader (now (witness .entry)) ⌝ }
 {

@@ -2,6 +2,7 @@
 use Prim.Native.Nat.{ℕ, _/_, _%_}
 use mathlib.Core.Bool.{Bool, true, false, cond}
 use lib.Dec.{eqb}
+use Rattle.protocol.specs.Errors.{errorNumber}
 use Rattle.protocol.specs.declared.error.ProtocolError.the-variants.{InvalidOperation}
 use Rattle.protocol.specs.declared.policy.OperationCapability.{OperationCapability}
 use Rattle.protocol.specs.declared.policy.OperationCapability.the-variants.{Capability, Refused}
@@ -24,6 +25,11 @@ unfoldable pub capabilityFor : ℕ → OperationCapability
 capabilityFor o =
     cond (eqb o 1) (Capability 1) (cond (eqb o 2) (Capability 2) (cond (eqb o 3) (Capability 4) (Refused InvalidOperation)))
 
--- the capabilities have this bit
+-- document 01's number of the answer
+abbrev pub capabilityNumber : OperationCapability → ℕ
+capabilityNumber (Capability bit) = 0
+capabilityNumber (Refused e) = errorNumber e
+
+-- the capabilities have this bit; 0 is no bit
 unfoldable pub hasCapability : ℕ → ℕ → Bool
 hasCapability capabilities bit = eqb (capabilities / bit % 2) 1

@@ -1,4 +1,4 @@
--- Demand 3, for every format: "each accepted input has exactly one reading, and writing it back gives the same bytes (or 5)".
+-- Demand 3, for every format: each accepted input has exactly one reading, and writing it back gives the same bytes, or 5.
 -- A reading holds every field but fixed bytes, lengths and counts; its written form is the layout filled from it.
 use Prim.Native.Nat.{ℕ, _≤_, _<_}
 use mathlib.Core.List.{List, _++_}

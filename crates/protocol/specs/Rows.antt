@@ -1,4 +1,4 @@
--- A row of checks, in the document's order: the first that fails decides.
+-- Checks in the document's order, a row for each: the first that fails decides.
 use Prim.Native.Nat.{ℕ}
 use mathlib.Core.Bool.{Bool, true, false, cond}
 use mathlib.Core.List.{List, [], _∷_}
@@ -24,7 +24,7 @@ unfoldable pub _▷_ : Check → Row → Check
 Passed ▷ r = cond (r .test) Passed (Failed (r .error))
 Failed e ▷ r = Failed e
 
--- what a later row of checks finds counts where the first one passed
+-- what later checks find counts where the first ones passed
 unfoldable pub _then_ : Check → Check → Check
 Passed then later = later
 Failed e then later = Failed e

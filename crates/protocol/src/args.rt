@@ -34,6 +34,7 @@ fn check_args(data: &[u8]) -> Check
 }
 
 impl AccountLockArgs {
+    // The version and the place of the account, or 20 or 32.
     pub fn parse(data: &[u8]) -> ArgsAnswer
         ensures { λ r. ⌜ r ≡ readArgs (now («data» .entry)) ⌝ }
     {

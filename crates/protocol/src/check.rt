@@ -1,10 +1,10 @@
-// Rows of checks: the first that fails decides.
+// Checks in order: the first that fails decides.
 use crate::error::ProtocolError;
 use crate::error::error_number;
 ghost use mathlib.Core.Path.{_≡_};
 ghost use Rattle.protocol.specs.Rows.{_▷_, row, _then_, checkNumber};
 
-// What a row of checks finds.
+// What the checks find.
 pub enum Check {
     Passed,
     Failed(ProtocolError),
@@ -33,7 +33,7 @@ impl Check {
         }
     }
 
-    // What a later row of checks finds counts where this one passed.
+    // What later checks find counts where these passed.
     pub fn and(self, later: Check) -> Check
         ensures { λ r. ⌜ r ≡ self then later ⌝ }
     {

@@ -20,6 +20,7 @@ pub enum OperationCapability {
     Refused(ProtocolError),
 }
 
+// Whether the lock knows the algorithm of an entry.
 pub fn is_supported_algorithm(algorithm: u16) -> bool
     ensures { λ r. ⌜ r ≡ isSupportedAlgorithm algorithm ⌝ }
 {
@@ -33,6 +34,7 @@ pub fn is_supported_algorithm(algorithm: u16) -> bool
     }
 }
 
+// The capability that a proof of this operation needs.
 pub fn capability_for_operation(operation: u8) -> OperationCapability
     ensures { λ r. ⌜ r ≡ capabilityFor operation ⌝ }
 {
