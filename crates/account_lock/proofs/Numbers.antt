@@ -33,6 +33,7 @@ use Rattle.state_transition.specs.Transition as transition
 use Rattle.decision.specs.Proofs.{Setting, limitRows, entryRows, proofRows, requestOf}
 use Rattle.decision.specs.Walk.{Outcome, outcome, verdict, earned, weighed, ended, orElse, walk, walkList, walkLock}
 use Rattle.account_lock.specs.Lock as lock
+use Rattle.account_lock.specs.Decides.{LockNumber}
 
 -- 01: "Error numbers are 20 to 39": a refusal of the original
 abbrev pub Original : ProtocolError → Type 0
@@ -137,11 +138,6 @@ pub early-number : (s : Scene) (e : ProtocolError) → decide Passed (lock.early
 early-number s e f = each-failed Original (lock.earlyRows s) e (early-original s) f .0
 
 -- ---- the proofs
-
--- the numbers that the lock gives; 01, "Where each refusal is raised": its own are "answer buffer too short for this request", 5,
--- and "a table that the reader, scene length aside, leaves for no accepted scene with a store this long", 7
-abbrev pub LockNumber : ℕ → Type 0
-LockNumber n = (n ≡ 0) ⊎ (n ≡ 5) ⊎ (n ≡ 7) ⊎ ((20 ≤ n) × (n ≤ 39))
 
 -- a refusal with such a number
 abbrev LockRefusal : ProtocolError → Type 0

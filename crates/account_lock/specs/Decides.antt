@@ -1,6 +1,7 @@
--- Demand 3 for the lock: what an acceptance follows from, and what its answer then holds.
-use Prim.Native.Nat.{ℕ}
+-- Demand 3 for the lock: what an acceptance follows from, and what its answer then holds; and the numbers that it gives.
+use Prim.Native.Nat.{ℕ, _≤_}
 use mathlib.Core.Path.{_≡_}
+use mathlib.Core.Logic.{_⊎_}
 use mathlib.Core.Bool.{true}
 use mathlib.Core.List.{List, _++_}
 use lib.ListN.{length, drop}
@@ -44,3 +45,8 @@ pub record Answers (table store before : List ℕ) : Type 0 where
   pub digest : lockOf table store (length before) .digest
       ≡ ckbHash (digestInput (operation (lentScene table store)) (account (lentScene table store)) (sequenceOf (current (lentScene table store))) (current (lentScene table store))
       (ckbHash (sighashInput (lentScene table store .transaction) (canonicalOf (firstWitness (lentScene table store))) (otherWitnesses (lentScene table store)))))
+
+-- the numbers that the lock gives; 01, "Where each refusal is raised": its own are "answer buffer too short for this request", 5,
+-- and "a table that the reader, scene length aside, leaves for no accepted scene with a store this long", 7
+abbrev pub LockNumber : ℕ → Type 0
+LockNumber n = (n ≡ 0) ⊎ (n ≡ 5) ⊎ (n ≡ 7) ⊎ ((20 ≤ n) × (n ≤ 39))
