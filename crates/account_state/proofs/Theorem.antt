@@ -24,6 +24,7 @@ use Rattle.account_state.specs.State.{stateRows, stateFault, headerOf, s
 use Rattle.account_state.specs.declared.header.StateHeader.{StateHeader}
 use Rattle.account_state.specs.declared.header.StateHeaderAnswer.the-variants.{Header}
 use Rattle.account_state.specs.declared.walk.StateSummary.{StateSummary}
+use Rattle.account_state.specs.declared.StateAnswer.{StateAnswer}
 use Rattle.account_state.specs.declared.StateAnswer.the-variants.{Valid, Refused}
 use Rattle.account_state.proofs.Inverse.{state-back, state-typed, length-entries, parts}
 use Rattle.account_state.proofs.Unique.{state-read}
