@@ -80,6 +80,7 @@ front-padded xs n h = sets-front (replicate n 0) xs (rw (length-replicate {A = �
 -- ---- a whole text
 
 module _ (text : List ℕ) (n : ℕ) (p : Passes text n) where
+  -- what the text says
   scene : Scene
   scene = readingOf (p .lines)
 
@@ -88,10 +89,12 @@ module _ (text : List ℕ) (n : ℕ) (p : Passes text n) where
   unfolding scene
   said = rw (lines-back text n p) at (each-rows (scene-prints scene (sayable scene (reading-ok text n p))))
 
+  -- their bytes are the scene's
   bytes-said : joined (map bytesOfLine (p .lines)) ≡ sceneBytes scene
   unfolding sceneBytes
   bytes-said = rw (row-bytes (p .lines), said .rows)
 
+  -- and their rows
   numbers-said : countsOf scene ++ rowsFrom 0 (map rowOf (p .lines)) ≡ sceneNumbers scene
   unfolding sceneNumbers
   numbers-said = rw (said .rows)
@@ -102,18 +105,22 @@ module _ (text : List ℕ) (n : ℕ) (p : Passes text n) where
   bytes-fit = rw bytes-said at (p .room)
 
   module _ (m : ℕ) where
+    -- the store that they leave
     store-left : putLines (start n m) (p .lines) .store ≡ storeOf (readingOf (p .lines)) n
     unfolding start storeOf scene
     store-left = store-lines (p .lines) (start n m) ∙ rw bytes-said (front-padded (sceneBytes scene) n bytes-fit)
 
+    -- the counts that they leave in the table
     counts-left : 8 ≤ m → counted (replicate m 0) 0 0 (map kindOfLine (p .lines)) ≡ sets (replicate m 0) 0 (countsOf scene)
     unfolding countsOf
     counts-left h = rw (said .ordered) (counts-set m (length (scene .inputs)) (length (scene .outputs)) (length (scene .deps)) (length (scene .witnesses)) h)
 
+    -- a table with room for the scene has room for the counts
     counts-room : length (sceneNumbers scene) ≤ m → 8 ≤ m
     unfolding countsOf
     counts-room h = let e = ap length numbers-said in omega arith
 
+    -- the table that they leave
     table-left : length (sceneNumbers scene) ≤ m → putLines (start n m) (p .lines) .table ≡ tableOf scene m
     unfolding start tableOf countsOf
     table-left h =

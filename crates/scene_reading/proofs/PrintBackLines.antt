@@ -78,13 +78,16 @@ line-rejoined (w ∷ fs) = rw (commaed-parted fs)
 
 -- a word names the kind whose word it is, or none
 module _ (w : List ℕ) where
+  -- w is the word of a kind, if that has one
   abbrev Named : Kind → Type 0
   Named k = 0 < place k → w ≡ kindWord k
 
+  -- one word tested
   pick : (b : Bool) (k other : Kind) → (b ≡ true → w ≡ kindWord k) → Named other → Named (cond b k other)
   pick true k other h o = λ n. h refl
   pick false k other h o = o
 
+  -- all words tested
   kind-named : Named (kindOf w)
   unfolding kindOf
   kind-named =

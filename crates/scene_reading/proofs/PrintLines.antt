@@ -1,4 +1,4 @@
--- The printed lines of a scene: each has its kind, its fields and its bytes.
+-- The printed lines of a scene: each has its kind and its fields, and the reader puts down of it what the scene says.
 -- Assumes nothing.
 use Prim.Native.Nat.{ℕ, _≤_, _<_}
 use mathlib.Core.Path.{_≡_, refl, ap, _∙_}

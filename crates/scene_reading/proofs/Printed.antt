@@ -142,6 +142,7 @@ values-back ok fields value back [] h = refl
 values-back ok fields value back (x ∷ xs) h =
     rw (back x (and-left (ok x) (every ok xs) h), values-back ok fields value back xs (and-right (ok x) (every ok xs) h))
 
+-- the cells of printed fields
 cells-back : (cs : List Cell) → every cellOk cs ≡ true → map (cellOf 0) (map cellFields cs ++ []) ≡ cs
 cells-back = values-back cellOk cellFields (cellOf 0) (λ c e. cell-back c (cell-holds c e))
 
