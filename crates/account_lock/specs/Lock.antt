@@ -60,10 +60,11 @@ stateRowsOf s =
     dataRows (current s) (successor s)
     ++ transitionRows (operation s) (witnessSequence s) (stateSince (operation s) (account s) s) (current s) (successor s)
 
--- every row behind the table's and before the proofs': of the script and the group's witness, and of what they name
+-- the rows of what the script and the group's witness name: the account's states and the other witnesses
 unfoldable pub lateRows : Scene → List Row
 lateRows s = resolveRows (operation s) (account s) s ++ (stateRowsOf s ++ otherRows s)
 
+-- every row behind the table's and before the proofs'
 unfoldable pub earlyRows : Scene → List Row
 earlyRows s = scriptRows (s .script) ++ (groupRows s ++ lateRows s)
 

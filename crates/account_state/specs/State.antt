@@ -91,11 +91,12 @@ endRows s tail spend rotate recovery =
     ∷ row (leb (numberAt s 18 2) rotate) UnsatisfiableThreshold
     ∷ recoveryRows s recovery
 
--- all checks of a state; spend, rotate and recovery are capability bits 1, 2 and 4
+-- the checks after the last entry; spend, rotate and recovery are capability bits 1, 2 and 4
 unfoldable pub tailRows : List ℕ → ℕ → List ℕ → List Row
 tailRows s n e =
     endRows s (length (behind n e)) (weightOf 1 (entriesOf n e)) (weightOf 2 (entriesOf n e)) (weightOf 4 (entriesOf n e))
 
+-- all checks of a state
 unfoldable pub stateRows : List ℕ → List Row
 stateRows s = headRows s ++ (entriesRows (numberAt s 22 1) (drop 32 s) 0 ++ tailRows s (numberAt s 22 1) (drop 32 s))
 

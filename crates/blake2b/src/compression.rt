@@ -102,7 +102,7 @@ fn mix_round(v: &mut [u64; 16], m: &[u64; 16], s: &[u8; 16])
     mix_at(v, m, s, 14, 3, 4, 9, 14);
 }
 
-// The row of the round after one by row i.
+// The row that follows row i; after the last, the first.
 fn next_row(i: usize) -> usize
     requires { ⌜ i < 10 ⌝ }
     ensures { λ r. ⌜ r ≡ (i + 1) % 10 ⌝ }

@@ -1,4 +1,4 @@
-// The lock for programs in other languages.
+// The lock, and a scene read and decided, for programs in other languages.
 use account_lock::LockAnswer;
 use account_lock::lock;
 use decide_scene::decide_scene;

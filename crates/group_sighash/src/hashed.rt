@@ -29,7 +29,7 @@ pub(crate) fn is_input(table: &[u32], i: u32) -> bool
     }
 }
 
-// The first hashed witness from one on, or none at the end of the witnesses.
+// The place of the first hashed witness from `from` on; at or past the number of witnesses where there is none.
 pub(crate) fn next_hashed(table: &[u32], from: u32) -> u32
     ensures { λ r. ⌜ Next (now (table .entry)) from r ⌝ }
 {

@@ -1,4 +1,4 @@
-// The constants of the original's constants.rs. A magic is the little-endian number of its four bytes.
+// Those constants of the original's constants.rs that the port uses. A magic is the little-endian number of its four bytes.
 pub const ACCOUNT_LOCK_VERSION: u8 = 0x01;
 
 pub const ACCOUNT_LOCK_ARGS_LEN: usize = 33;

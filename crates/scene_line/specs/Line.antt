@@ -81,7 +81,8 @@ abbrev pub halves : Number → List ℕ
 halves (Is v) = v % 2 ^ 32 ∷ v / 2 ^ 32 ∷ []
 halves Bad = 0 ∷ 0 ∷ []
 
--- 01: "the rest into a lent u32 table, whose layout the team writes in docs/": of a field a group or a length, the halves of SINCE, the count of DIGITS and each digit
+-- 01: "the rest into a lent u32 table, whose layout the team writes in docs/": of a field a group or a length, the halves of SINCE,
+-- the count of DIGITS and each digit
 abbrev pub fieldNumbers : Form → List ℕ → List ℕ
 fieldNumbers Group f = hexVal (getD f 0 0) ∷ []
 fieldNumbers Since f = halves (sinceOf f)

@@ -16,7 +16,7 @@ ghost use lib.ListN.{length, replicate};
 ghost use Rattle.scene_reader.specs.Reader.{readOf, answerOf, storeOf, tableOf};
 ghost use Rattle.scene_reader.specs.Room.{leaves};
 
-// A scene within its limits, into a store and a table that are all zero.
+// The limits, then the lines, into a store and a table that are all zero.
 fn read_checked(scene: &[u8], store: &mut [u8], table: &mut [u32]) -> Step
     requires { ⌜ (now store ≡ replicate (length (now store)) 0) × (now table ≡ replicate (length (now table)) 0) ⌝ }
     ensures { λ r. ⌜ leaves r (now (store .exit)) (now (table .exit)) ≡ readOf (now (scene .entry)) (length (now (store .entry))) (length (now (table .entry))) ⌝ }

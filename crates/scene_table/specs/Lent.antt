@@ -1,4 +1,5 @@
--- The scene that a lent table and store hold. Past the end of either there is nothing.
+-- The scene that a lent table and store hold, laid out as docs/LAYOUTS.md, "The lent table and store", says. Past the end of either
+-- there is nothing.
 use Prim.Native.Nat.{ℕ, zero, suc, _+_, _*_, _^_}
 use mathlib.Core.Bool.{cond}
 use mathlib.Core.List.{List, [], _∷_}

@@ -19,7 +19,7 @@ use Rattle.verifier_request.specs.declared.reader.RequestAnswer.the-vari
 abbrev pub verifierMagic : ℕ
 verifierMagic = 0x52564b43
 
--- 01, Request: "Order: length 96 to 69,728 (35), magic (35), ABI (32), byte 5 and header length (35),
+-- 01, Request: "Order: length 96 to 69,728 (35), magic (35), ABI (32), byte 5 and header length (35)"
 unfoldable pub headRows : List ℕ → List Row
 headRows s =
     row (leb 96 (length s)) InvalidRequest
@@ -30,7 +30,7 @@ headRows s =
     ∷ row (eqb (numberAt s 6 2) 96) InvalidRequest
     ∷ []
 
--- operation (37), zeros (35), aux above 4,096 or proof above 65,536 (35), total (35)."
+-- "operation (37), zeros (35), aux above 4,096 or proof above 65,536 (35), total (35)."
 unfoldable pub fieldRows : List ℕ → List Row
 fieldRows s =
     row (isOperation (numberAt s 12 1)) InvalidOperation
