@@ -4,7 +4,9 @@ use mathlib.Core.Bool.{true}
 use mathlib.Core.Path.{_≡_, sym, ap, _∙_}
 use mathlib.Core.List.{List}
 use native.Mathlib.Omega.{arith}
-use lib.ListN.{length}
+use native.Mathlib.Numerals.{add-one}
+use lib.ListN.{length, set}
+use lib.Seq.{sets}
 use Rattle.protocol.specs.Rows.{decide}
 use Rattle.protocol.specs.declared.check.Check.{Check}
 use Rattle.protocol.specs.declared.check.Check.the-variants.{Passed}
@@ -16,10 +18,10 @@ use Rattle.scene_line.specs.Kind.{place, fieldCount, firstForm, follows}
 use Rattle.scene_line.proofs.KindLaws.{place-small}
 use Rattle.scene_reader.specs.declared.state.State.{State}
 use Rattle.scene_reader.specs.declared.state.Step.the-variants.{Next}
-use Rattle.scene_reader.specs.Reader.{Held, Outcome, held, seenWith, put, stepAs}
+use Rattle.scene_reader.specs.Reader.{Held, held, seenWith, put, stepAs}
 use Rattle.scene_reader.specs.Room.{lineRows, holding, limit, Ready, Kept}
 use Rattle.scene_reader.proofs.Bounds.{fits, limit-small}
-use Rattle.scene_reader.proofs.LineRows.{rowsOf, Passes, step-passed}
+use Rattle.scene_reader.proofs.LineRows.{rowsOf, Passes}
 
 module _ (s : State) (st tb : List ℕ) (k : Kind) (fs : List (List ℕ)) where
   -- the rows over what was found of the line are the line's rows
@@ -28,6 +30,15 @@ module _ (s : State) (st tb : List ℕ) (k : Kind) (fs : List (List ℕ)) where
       → c ≡ decide Passed (rowsOf (holding s st tb) k fs)
   unfolding fieldsFound
   checked p n t f c hp hn ht hf hc = hc ∙ rw (hf, ht, hn, hp)
+
+  -- the state and the lists after the line, part by part, are the line put down
+  pub is-put : (p n end m : ℕ) (t : Form) (st′ tb′ : List ℕ) → p ≡ place k → n ≡ seenWith (s .last) (s .seen) p → t ≡ firstForm k
+      → m ≡ length (lineBytes (firstForm k) fs) → end ≡ s .filled + 1 + length (lineNumbers t fs)
+      → st′ ≡ sets st (s .used) (lineBytes t fs)
+      → tb′ ≡ sets (set (set tb p n) (s .filled) (s .used)) (s .filled + 1) (lineNumbers t fs)
+      → holding (record { last = p; seen = n; used = s .used + m; filled = end }) st′ tb′ ≡ put (holding s st tb) k fs
+  unfolding put
+  is-put p n end m t st′ tb′ hp hn ht hm he hs hb = rw (he, hs, hb, hm, hn, hp, ht, add-one (s .filled))
 
   -- the count of bytes that was found is the line's
   pub counted : (t : Form) (f : FieldsFound) → t ≡ firstForm k → f ≡ fieldsFound t fs → f .bytes ≡ length (lineBytes (firstForm k) fs)
@@ -49,6 +60,10 @@ module _ (s : State) (st tb : List ℕ) (k : Kind) (fs : List (List ℕ)) where
         let least = ready .enough in
         let small = limit-small (place k) (seenWith (s .last) (s .seen) (place k)) (place-small k) (z .few) in
         (omega (arith, least, place-small k), omega (arith, least, small, within))
+
+    -- what the line's step gives
+    pub stepped : (r : State) (st′ tb′ : List ℕ) → holding r st′ tb′ ≡ put (holding s st tb) k fs → held (holding r st′ tb′) ≡ stepAs (holding s st tb) k fs
+    stepped r st′ tb′ e = rw e (sym (z .put-down))
 
     -- the state after the line is ready
     pub kept : (r : State) (st′ tb′ : List ℕ) → length (lineBytes (firstForm k) fs) ≤ n → holding r st′ tb′ ≡ put (holding s st tb) k fs

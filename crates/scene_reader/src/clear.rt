@@ -2,7 +2,7 @@
 ghost use mathlib.Core.Path.{_≡_};
 ghost use lib.ListN.{length, replicate};
 
-fn clear_bytes(bytes: &mut [u8])
+pub(crate) fn clear_bytes(bytes: &mut [u8])
     ensures { λ _. ⌜ now (bytes .exit) ≡ replicate (length (now (bytes .entry))) 0 ⌝ }
 {
     let mut i = 0;
@@ -12,7 +12,7 @@ fn clear_bytes(bytes: &mut [u8])
     }
 }
 
-fn clear_words(words: &mut [u32])
+pub(crate) fn clear_words(words: &mut [u32])
     ensures { λ _. ⌜ now (words .exit) ≡ replicate (length (now (words .entry))) 0 ⌝ }
 {
     let mut i = 0;
@@ -20,13 +20,4 @@ fn clear_words(words: &mut [u32])
         words[i] = 0;
         i += 1;
     }
-}
-
-// Zeroes the store and the table.
-pub(crate) fn clear(store: &mut [u8], table: &mut [u32])
-    ensures { λ _. ⌜ now (store .exit) ≡ replicate (length (now (store .entry))) 0 ⌝ }
-    ensures { λ _. ⌜ now (table .exit) ≡ replicate (length (now (table .entry))) 0 ⌝ }
-{
-    clear_bytes(store);
-    clear_words(table);
 }

@@ -5,7 +5,8 @@ mod numbers; // numbers.rt
 mod put; // put.rt
 mod lines; // lines.rt
 
-use crate::clear::clear;
+use crate::clear::clear_bytes;
+use crate::clear::clear_words;
 use crate::lines::read_lines;
 use crate::state::Step;
 use protocol::Check;
@@ -35,12 +36,14 @@ pub fn read_scene(scene: &[u8], store: &mut [u8], table: &mut [u32]) -> Check
     ensures { λ _. ⌜ now (store .exit) ≡ storeOf (length (now (store .entry))) (readOf (now (scene .entry)) (length (now (store .entry))) (length (now (table .entry)))) ⌝ }
     ensures { λ _. ⌜ now (table .exit) ≡ tableOf (length (now (table .entry))) (readOf (now (scene .entry)) (length (now (store .entry))) (length (now (table .entry)))) ⌝ }
 {
-    clear(store, table);
+    clear_bytes(store);
+    clear_words(table);
     let step = read_checked(scene, store, table);
     match step {
         Step::Next(_) => Check::Passed,
         Step::Refused(error) => {
-            clear(store, table);
+            clear_bytes(store);
+            clear_words(table);
             Check::Failed(error)
         }
     }

@@ -10,16 +10,16 @@ use Rattle.scene_reader.proofs.read_scene.Statement.{statement}
 use Rattle.scene_reader.proofs.read_scene.Tie as tie
 
 read-checked-requires : tie.Need-read-checked-requires
-read-checked-requires c κs =
-    let e = c .before .before .before .before .before .before .clear .ensures in
-    let k = c .before .before .before .before .before .before .clear .kept in
-    (e .0 ∙ ap (λ (n : ℕ). replicate n 0) (sym (k .0)), e .1 ∙ ap (λ (n : ℕ). replicate n 0) (sym (k .1 .0)))
+read-checked-requires c κs = (
+  c .before .before .before .before .before .before .before .before .clear-bytes .ensures ∙ ap (λ (n : ℕ). replicate n 0) (sym (c .before .before .before .before .before .before .before .before .clear-bytes .kept .0)),
+  c .before .before .before .before .clear-words .ensures ∙ ap (λ (n : ℕ). replicate n 0) (sym (c .before .before .before .before .clear-words .kept .0)),
+)
 
 returns : tie.Need-returns
 returns c =
-    let a = c .before .before .before .before .before .before .before .before .before .before .before .before .before .before .before .before .before .before .before .args in
-    let n : length (c .before .before .before .before .before .before .before .before .before .before .before .before .before .clear .last .0) ≡ length (a .store .now) = c .before .before .before .before .before .before .before .before .before .before .before .before .before .clear .kept .0 in
-    let m : length (c .before .before .before .before .before .before .before .before .before .before .before .before .before .clear .last .1 .0) ≡ length (a .table .now) = c .before .before .before .before .before .before .before .before .before .before .before .before .before .clear .kept .1 .0 in
+    let a = c .before .before .before .before .before .before .before .before .before .before .before .before .before .before .before .before .before .before .before .before .args in
+    let n : length (c .before .before .before .before .before .before .before .before .before .before .before .before .before .before .before .clear-bytes .last .0) ≡ length (a .store .now) = c .before .before .before .before .before .before .before .before .before .before .before .before .before .before .before .clear-bytes .kept .0 in
+    let m : length (c .before .before .before .before .before .before .before .before .before .before .before .clear-words .last .0) ≡ length (a .table .now) = c .before .before .before .before .before .before .before .before .before .before .before .clear-words .kept .0 in
     let st = c .before .before .before .before .before .before .read-checked .last .1 .0 in
     let tb = c .before .before .before .before .before .before .read-checked .last .1 .1 .0 in
     let done : leaves (c .before .before .before .before .before .before .read-checked .result) st tb ≡ readOf (a .scene .now) (length (a .store .now)) (length (a .table .now)) = rw (n, m) at (c .before .before .before .before .before .before .read-checked .ensures) in
@@ -28,19 +28,18 @@ returns c =
 
 returns-2 : tie.Need-returns-2
 returns-2 c =
-    let a = c .before .before .before .before .before .before .before .before .before .before .before .before .before .before .before .before .before .before .before .before .before .before .before .before .before .before .before .args in
-    let n : length (c .before .before .before .before .before .before .before .before .before .before .before .before .before .before .before .before .before .before .before .before .before .clear .last .0) ≡ length (a .store .now) = c .before .before .before .before .before .before .before .before .before .before .before .before .before .before .before .before .before .before .before .before .before .clear .kept .0 in
-    let m : length (c .before .before .before .before .before .before .before .before .before .before .before .before .before .before .before .before .before .before .before .before .before .clear .last .1 .0) ≡ length (a .table .now) = c .before .before .before .before .before .before .before .before .before .before .before .before .before .before .before .before .before .before .before .before .before .clear .kept .1 .0 in
-    let st = c .before .before .before .before .before .before .before .before .before .before .before .before .before .before .read-checked .last .1 .0 in
-    let tb = c .before .before .before .before .before .before .before .before .before .before .before .before .before .before .read-checked .last .1 .1 .0 in
-    let done : leaves (c .before .before .before .before .before .before .before .before .before .before .before .before .before .before .read-checked .result) st tb ≡ readOf (a .scene .now) (length (a .store .now)) (length (a .table .now)) = rw (n, m) at (c .before .before .before .before .before .before .before .before .before .before .before .before .before .before .read-checked .ensures) in
-    let is = sym done ∙ ap (λ (x : Step). leaves x st tb) (c .before .before .before .before .before .before .before .before .step .given .1) in
-    let k = c .before .before .before .before .before .before .before .before .before .before .before .before .before .before .read-checked .kept in
-    let e = c .before .before .before .before .clear2 .ensures in (
+    let a = c .before .before .before .before .before .before .before .before .before .before .before .before .before .before .before .before .before .before .before .before .before .before .before .before .before .before .before .before .before .args in
+    let n : length (c .before .before .before .before .before .before .before .before .before .before .before .before .before .before .before .before .before .before .before .before .before .before .before .before .clear-bytes .last .0) ≡ length (a .store .now) = c .before .before .before .before .before .before .before .before .before .before .before .before .before .before .before .before .before .before .before .before .before .before .before .before .clear-bytes .kept .0 in
+    let m : length (c .before .before .before .before .before .before .before .before .before .before .before .before .before .before .before .before .before .before .before .before .clear-words .last .0) ≡ length (a .table .now) = c .before .before .before .before .before .before .before .before .before .before .before .before .before .before .before .before .before .before .before .before .clear-words .kept .0 in
+    let st = c .before .before .before .before .before .before .before .before .before .before .before .before .before .before .before .read-checked .last .1 .0 in
+    let tb = c .before .before .before .before .before .before .before .before .before .before .before .before .before .before .before .read-checked .last .1 .1 .0 in
+    let done : leaves (c .before .before .before .before .before .before .before .before .before .before .before .before .before .before .before .read-checked .result) st tb ≡ readOf (a .scene .now) (length (a .store .now)) (length (a .table .now)) = rw (n, m) at (c .before .before .before .before .before .before .before .before .before .before .before .before .before .before .before .read-checked .ensures) in
+    let is = sym done ∙ ap (λ (x : Step). leaves x st tb) (c .before .before .before .before .before .before .before .before .before .step .given .1) in
+    let k = c .before .before .before .before .before .before .before .before .before .before .before .before .before .before .before .read-checked .kept in (
       rw is,
       (
-        rw is (e .0 ∙ ap (λ (n : ℕ). replicate n 0) (k .1 .0 ∙ n)),
-        rw is (e .1 ∙ ap (λ (n : ℕ). replicate n 0) (k .1 .1 .0 ∙ m)),
+        rw is (c .before .before .before .before .before .before .clear-bytes2 .ensures ∙ ap (λ (n : ℕ). replicate n 0) (k .1 .0 ∙ n)),
+        rw is (c .before .before .clear-words2 .ensures ∙ ap (λ (n : ℕ). replicate n 0) (k .1 .1 .0 ∙ m)),
       ),
     )
 
@@ -49,9 +48,11 @@ read-scene-spec =
     tie.close
     (tie.spec
     (λ c κs. search needs)
+    (λ c κs. search needs)
     read-checked-requires
     (λ c. search needs)
     (λ c. search needs)
+    (λ c κs. search needs)
     (λ c κs. search needs)
     (λ c. search needs)
     (λ c. search needs)

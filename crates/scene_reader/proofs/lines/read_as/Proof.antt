@@ -1,15 +1,12 @@
 -- `scene_reader::lines::read_as` meets its contract. Assumes nothing.
-use mathlib.Core.Path.{_≡_, sym, ap, _∙_}
+use mathlib.Core.Path.{sym, _∙_}
 use native.Mathlib.Omega.{arith}
 use borrow.Author.Needs.{needs}
 use lib.ListN.{length}
 use Rattle.scene_text.specs.Text.{pieces}
-use Rattle.scene_line.specs.Line.{lineBytes}
-use Rattle.scene_line.specs.Kind.{firstForm}
-use Rattle.scene_reader.specs.Reader.{held}
 use Rattle.scene_reader.specs.Room.{holding}
 use Rattle.scene_reader.proofs.LineRows.{step-failed, step-passed}
-use Rattle.scene_reader.proofs.PutDown.{checked, counted, room, kept}
+use Rattle.scene_reader.proofs.PutDown.{checked, counted, room, stepped, kept}
 use Rattle.scene_reader.proofs.lines.read_as.Statement.{statement}
 use Rattle.scene_reader.proofs.lines.read_as.Tie as tie
 
@@ -48,7 +45,10 @@ returns-2 c =
     let size = counted (a .s) st tb (a .k) fs _ _ (c .before .before .before .before .before .before .before .before .before .before .before .before .before .first-form .ensures) (c .before .before .before .before .before .before .before .before .before .before .before .before .check-fields .ensures .0) in
     let short = c .before .before .before .before .before .before .before .before .before .before .before .before .check-fields .ensures .1 in
     let e = c .before .before .before .before .put-line .ensures in
-    (ap held e ∙ sym (z .put-down), kept (a .s) st tb (a .k) fs (length (a .fields .now)) (p .0) (p .1) z (c .before .before .before .before .put-line .result) _ _ (omega (arith, size, short)) e)
+    let r = c .before .before .before .before .put-line .result in (
+      stepped (a .s) st tb (a .k) fs (length (a .fields .now)) (p .0) (p .1) z r _ _ e,
+      kept (a .s) st tb (a .k) fs (length (a .fields .now)) (p .0) (p .1) z r _ _ (omega (arith, size, short)) e,
+    )
 
 pub read-as-spec : {M : Type 1} → statement M
 read-as-spec =
