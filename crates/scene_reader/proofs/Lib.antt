@@ -3,3 +3,5 @@ pub mod NumberLaws
 pub mod Bounds
 pub mod Runs
 pub mod LineRows
+pub mod PutDown
+pub mod FieldsPut

@@ -15,16 +15,8 @@ use Rattle.protocol.proofs.Hold.{passed-hold}
 use Rattle.scene_line.specs.declared.kind.Kind.{Kind}
 use Rattle.scene_line.specs.Line.{formsOk, lineBytes}
 use Rattle.scene_line.specs.Kind.{place, firstForm}
+use Rattle.scene_reader.specs.Room.{lineRows}
 use Rattle.scene_reader.specs.Reader.{Held, Outcome, refused, held, seenWith, put, stepAs}
-
--- the rows of one line, in the order of document 01's table
-unfoldable pub lineRows : Held → Kind → List (List ℕ) → List Row
-lineRows h k fs =
-    row (not (eqb (place k) 0)) InvalidLine
-    ∷ row (leb (seenWith (h .last) (h .seen) (place k)) 64) TooManyLines
-    ∷ row (formsOk true (firstForm k) fs) InvalidField
-    ∷ row (leb (h .used + length (lineBytes (firstForm k) fs)) (length (h .store))) StoreTooShort
-    ∷ []
 
 -- what checks of a line give
 abbrev outcome : Check → Held → Outcome
@@ -49,8 +41,18 @@ first false true true false g = refl
 first false true true true g = refl
 
 module _ (h : Held) (k : Kind) (fs : List (List ℕ)) where
+  -- the rows of a line of kind k with the fields fs
+  abbrev pub rowsOf : List Row
+  rowsOf =
+      lineRows
+      (place k)
+      (seenWith (h .last) (h .seen) (place k))
+      (formsOk true (firstForm k) fs)
+      (h .used + length (lineBytes (firstForm k) fs))
+      (length (h .store))
+
   -- a line's step by its rows
-  pub step-rows : stepAs h k fs ≡ outcome (decide Passed (lineRows h k fs)) (put h k fs)
+  pub step-rows : stepAs h k fs ≡ outcome (decide Passed rowsOf) (put h k fs)
   unfolding stepAs lineRows
   step-rows =
       let n = seenWith (h .last) (h .seen) (place k) in
@@ -58,7 +60,7 @@ module _ (h : Held) (k : Kind) (fs : List (List ℕ)) where
       rw (ltb-not 64 n, ltb-not (length (h .store)) u)
       (first (eqb (place k) 0) (leb n 64) (formsOk true (firstForm k) fs) (leb u (length (h .store))) (put h k fs))
 
-  pub step-failed : (e : ProtocolError) → decide Passed (lineRows h k fs) ≡ Failed e → stepAs h k fs ≡ refused e
+  pub step-failed : (e : ProtocolError) → decide Passed rowsOf ≡ Failed e → stepAs h k fs ≡ refused e
   step-failed e q = step-rows ∙ rw q
 
   -- a line that every row passes
@@ -69,10 +71,10 @@ module _ (h : Held) (k : Kind) (fs : List (List ℕ)) where
     pub room : h .used + length (lineBytes (firstForm k) fs) ≤ length (h .store)
     pub put-down : stepAs h k fs ≡ held (put h k fs)
 
-  pub step-passed : decide Passed (lineRows h k fs) ≡ Passed → Passes
+  pub step-passed : decide Passed rowsOf ≡ Passed → Passes
   unfolding lineRows
   step-passed q =
-      let z = passed-hold (lineRows h k fs) q in
+      let z = passed-hold rowsOf q in
       record {
         real = eqb-false (place k) 0 (not-true (eqb (place k) 0) (z .0));
         few = leb-true (seenWith (h .last) (h .seen) (place k)) 64 (z .1 .0);

@@ -1,16 +1,18 @@
 -- Laws of a run over the lines. Assumes nothing.
-use Prim.Native.Nat.{ℕ, _≤_}
+use Prim.Native.Nat.{ℕ, _+_, _≤_, _<_}
 use mathlib.Core.Bool.{Bool, true, false, cond}
 use mathlib.Core.Path.{_≡_, refl, ap, _∙_}
 use mathlib.Core.List.{List, [], _∷_}
 use native.Mathlib.Omega.{arith}
-use lib.ListN.{length, replicate}
+use lib.ListN.{length, take, drop, replicate}
 use Rattle.protocol.specs.declared.error.ProtocolError.{ProtocolError}
 use Rattle.scene_reader.specs.declared.state.State.{State}
 use Rattle.scene_reader.specs.declared.state.Step.{Step}
 use Rattle.scene_reader.specs.declared.state.Step.the-variants.{Next, Refused}
-use Rattle.scene_text.specs.Text.{pieces, before}
-use Rattle.scene_reader.specs.Reader.{Held, Outcome, held, refused, step, finish, isLast, andThen, run, start}
+use Rattle.scene_text.specs.Text.{pieces, before, Cut}
+use Rattle.scene_line.specs.declared.kind.Kind.{Kind}
+use Rattle.scene_line.specs.Kind.{lineKind, fieldsOf}
+use Rattle.scene_reader.specs.Reader.{Held, Outcome, held, refused, stepAs, step, finish, isLast, andThen, run, start}
 use Rattle.scene_reader.specs.Room.{leaves, Kept}
 use Rattle.scene_text.proofs.Pieces.{before-none}
 
@@ -48,3 +50,9 @@ module _ (h : Held) (l s : List ℕ) (P : List (List ℕ)) where
   pub run-off : (a : ProtocolError) → P ≡ l ∷ pieces 10 s → step h l ≡ refused a → run h P ≡ refused a
   unfolding andThen
   run-off a e q = run-more e ∙ ap (λ (o : Outcome). andThen o (λ (g : Held). run g (pieces 10 s))) q
+
+-- a line's step by the word before its first comma and the fields behind it
+pub step-cut : (h : Held) (line w fields : List ℕ) (e : ℕ) (k : Kind) (o : Outcome) → Cut 44 line e → e < length line → w ≡ take e line → fields ≡ drop (e + 1) line
+    → k ≡ lineKind (h .last) (w ∷ pieces 44 fields) → o ≡ stepAs h k (pieces 44 fields) → o ≡ step h line
+unfolding step fieldsOf
+step-cut h line w fields e k o cut more hw hf hk ho = ho ∙ rw (hk, hw, hf, cut .cut more)

@@ -17,11 +17,13 @@ ghost use mathlib.Core.Bool.{true, cond, _&&_};
 ghost use Prim.Native.Nat.{_≤_};
 ghost use lib.Dec.{eqb};
 ghost use lib.ListN.{length, replicate};
+ghost use Rattle.protocol.specs.Rows.{decide};
+ghost use Rattle.protocol.specs.declared.check.Check.the-variants.{Passed};
 ghost use Rattle.protocol.specs.declared.error.ProtocolError.the-variants.{InvalidLine};
 ghost use Rattle.scene_text.specs.Text.{pieces};
 ghost use Rattle.scene_line.specs.Kind.{place, fieldCount, follows};
 ghost use Rattle.scene_reader.specs.Reader.{seenWith, stepAs, step, run, start};
-ghost use Rattle.scene_reader.specs.Room.{Ready, Kept, holding, leaves};
+ghost use Rattle.scene_reader.specs.Room.{lineRows, Ready, Kept, holding, leaves};
 
 // How many lines of the kind at place k were read, with this one.
 pub(crate) fn seen_with(last: usize, seen: usize, k: usize) -> usize
@@ -34,6 +36,18 @@ pub(crate) fn seen_with(last: usize, seen: usize, k: usize) -> usize
     1
 }
 
+// What the rows of a line find: its kind's place, how many lines of the kind were read, whether its fields have their forms, where its
+// bytes end in a store of room bytes.
+fn check_line(place: usize, seen: usize, ok: bool, end: usize, room: usize) -> Check
+    ensures { λ r. ⌜ r ≡ decide Passed (lineRows place seen ok end room) ⌝ }
+{
+    Check::Passed
+        .require(place != 0, ProtocolError::InvalidLine)
+        .require(seen <= 64, ProtocolError::TooManyLines)
+        .require(ok, ProtocolError::InvalidField)
+        .require(end <= room, ProtocolError::StoreTooShort)
+}
+
 // A line of kind k: its rows, and then it is put down.
 fn read_as(k: Kind, fields: &[u8], s: State, store: &mut [u8], table: &mut [u32]) -> Step
     requires { ⌜ Ready s (length (now fields)) (length (now store)) (length (now table)) ⌝ }
@@ -44,15 +58,7 @@ fn read_as(k: Kind, fields: &[u8], s: State, store: &mut [u8], table: &mut [u32]
     let p = place_of(k);
     let seen = seen_with(s.last, s.seen, p);
     let found = check_fields(first_form(k), fields);
-    let check = Check::Passed
-        .require(p != 0, ProtocolError::InvalidLine)
-        .require(seen <= 64, ProtocolError::TooManyLines)
-        .require(found.ok, ProtocolError::InvalidField)
-        .require(
-            s.used + found.bytes <= store.len(),
-            ProtocolError::StoreTooShort,
-        );
-    match check {
+    match check_line(p, seen, found.ok, s.used + found.bytes, store.len()) {
         Check::Failed(error) => Step::Refused(error),
         Check::Passed => Step::Next(put_line(k, fields, s, found.bytes, store, table)),
     }

@@ -1,14 +1,14 @@
 -- `scene_reader::lines::read_line` meets its contract. Assumes nothing.
 use native.Mathlib.Omega.{arith}
-use mathlib.Core.Path.{_∙_}
 use lib.ListN.{length, take}
 use borrow.Author.Needs.{needs}
 use mathlib.Core.Bool.{and-false}
-use Rattle.scene_reader.proofs.Runs.{kept-more}
+use Rattle.scene_reader.proofs.Runs.{kept-more, step-cut}
 use Rattle.scene_text.specs.Text.{pieces}
 use Rattle.scene_line.proofs.KindLaws.{shape, counted}
 use Rattle.scene_line.specs.Kind.{lineKind, kindOf, fieldsOf}
 use Rattle.scene_reader.specs.Reader.{stepAs, step}
+use Rattle.scene_reader.specs.Room.{holding}
 use Rattle.scene_reader.proofs.lines.read_line.Statement.{statement}
 use Rattle.scene_reader.proofs.lines.read_line.Tie as tie
 
@@ -24,11 +24,12 @@ read-as-requires c κs =
     )
 
 returns-2 : tie.Need-returns-2
-unfolding step fieldsOf
 returns-2 c =
-    let a = c .before .before .before .before .before .before .before .before .before .before .before .before .before .before .before .args in (
-      c .before .before .before .before .read-as .ensures .0 ∙ rw (c .before .before .before .before .before .before .before .line-kind .ensures, c .before .before .before .before .before .before .before .before .head .ensures .0, c .before .before .before .before .before .before .before .before .before .tail .ensures .0, c .before .before .before .before .before .before .before .before .before .before .before .find .ensures .cut (omega arith)),
-      kept-more (a .s) (length (c .before .before .before .before .before .before .before .before .before .tail .result .now)) (length (a .line .now)) (length (a .store .now)) (length (a .table .now)) (omega arith) (c .before .before .before .before .read-as .result) (c .before .before .before .before .read-as .ensures .1),
+    let a = c .before .before .before .before .before .before .before .before .before .before .before .before .before .before .before .args in
+    let h = holding (a .s) (a .store .now) (a .table .now) in
+    let e = c .before .before .before .before .read-as .ensures in (
+      step-cut h (a .line .now) (c .before .before .before .before .before .before .before .before .head .result .now) (c .before .before .before .before .before .before .before .before .before .tail .result .now) _ (c .before .before .before .before .before .before .before .line-kind .result) _ (c .before .before .before .before .before .before .before .before .before .before .before .find .ensures) (omega arith) (c .before .before .before .before .before .before .before .before .head .ensures .0) (c .before .before .before .before .before .before .before .before .before .tail .ensures .0) (c .before .before .before .before .before .before .before .line-kind .ensures) (e .0),
+      kept-more (a .s) (length (c .before .before .before .before .before .before .before .before .before .tail .result .now)) (length (a .line .now)) (length (a .store .now)) (length (a .table .now)) (omega arith) (c .before .before .before .before .read-as .result) (e .1),
     )
 
 pub read-line-spec : {M : Type 1} → statement M

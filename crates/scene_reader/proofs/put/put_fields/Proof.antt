@@ -1,15 +1,14 @@
 -- `scene_reader::put::put_fields` meets its contract: what is left to put down gives the whole. Assumes nothing.
-use Prim.Native.Nat.{_+_, _≤_}
+use Prim.Native.Nat.{_+_, _≤_, _<_}
 use mathlib.Core.Path.{_≡_, refl, sym, _∙_}
-use mathlib.Core.List.{[]}
 use native.Mathlib.Omega.{arith}
 use borrow.Author.Needs.{needs}
-use lib.ListN.{length, take}
+use lib.ListN.{length}
 use lib.Seq.{sets}
 use Rattle.scene_text.specs.Text.{pieces}
-use Rattle.scene_text.proofs.Pieces.{cut-first}
 use Rattle.scene_line.specs.Line.{fieldBytes, lineBytes, fieldNumbers, lineNumbers}
-use Rattle.scene_line.proofs.FieldLaws.{fields-length, fields-put, bytes-on, numbers-on}
+use Rattle.scene_line.proofs.FieldLaws.{bytes-on, numbers-on}
+use Rattle.scene_reader.proofs.FieldsPut.{bytes-none, numbers-none, put-within, put-on, put-end}
 use Rattle.scene_reader.proofs.put.put_fields.Statement.{statement}
 use Rattle.scene_reader.proofs.put.put_fields.Tie as tie
 
@@ -32,50 +31,39 @@ loop-holds c = (search needs, search needs, search needs, search needs, search n
 put-number-requires : tie.Need-put-number-requires Inv-loop μ-loop
 put-number-requires c κs =
     let l = c .before .before .before .loop in
-    let k = cut-first 44 (l .rest .now) _ (c .before .before .find .ensures) in
-    (rw (c .before .head .ensures .0) (omega (arith, fields-length fieldNumbers lineNumbers numbers-on (l .t) _ (k .0) _ (k .1))), omega arith)
+    let few = put-within fieldNumbers lineNumbers numbers-on numbers-none (l .t) (l .rest .now) (c .before .head .result .now) (c .before .before .find .result) (c .before .before .find .ensures) (c .before .head .ensures .0) in
+    (omega (arith, few), omega arith)
 
 add-entry : tie.Need-add-entry Inv-loop μ-loop
 add-entry c =
     let l = c .before .before .before .before .before .before .loop in
-    let k = cut-first 44 (l .rest .now) _ (c .before .before .before .before .before .find .ensures) in
-    let n : c .before .before .put-number .result ≡ length (fieldNumbers (l .t) (take (c .before .before .before .before .before .find .result) (l .rest .now))) = rw (c .before .before .before .before .head .ensures .0) at (c .before .before .put-number .ensures .0) in
-    omega (arith, fields-length fieldNumbers lineNumbers numbers-on (l .t) _ (k .0) _ (k .1))
+    let few = put-within fieldNumbers lineNumbers numbers-on numbers-none (l .t) (l .rest .now) (c .before .before .before .before .head .result .now) (c .before .before .before .before .before .find .result) (c .before .before .before .before .before .find .ensures) (c .before .before .before .before .head .ensures .0) in
+    omega (arith, few)
 
 returns : tie.Need-returns Inv-loop μ-loop
-unfolding lineNumbers lineBytes
 returns c =
     let l = c .before .before .before .before .before .before .before .before .before .before .before .loop in
-    let f = take (c .before .before .before .before .before .before .before .before .before .before .find .result) (l .rest .now) in
-    let cut = c .before .before .before .before .before .before .before .before .before .before .find .ensures .whole (c .if1 .taken) in
-    let h = c .before .before .before .before .before .before .before .before .before .head .ensures .0 in
-    let n : c .before .before .before .before .before .before .before .put-number .result ≡ length (fieldNumbers (l .t) f) = rw h at (c .before .before .before .before .before .before .before .put-number .ensures .0) in
-    let table : c .before .before .before .before .before .before .before .put-number .last .1 .1 .0 ≡ sets (l .table) (l .entry) (fieldNumbers (l .t) f) = rw h at (c .before .before .before .before .before .before .before .put-number .ensures .1) in
-    let store : c .before .before .before .put-bytes .last .1 .1 .0 ≡ sets (l .store) (l .at) (fieldBytes (l .t) f) = rw h at (c .before .before .before .put-bytes .ensures .1 .1) in (
-      omega (arith, fields-length fieldNumbers lineNumbers numbers-on (l .t) _ [] _ cut),
-      (
-        store ∙ sym (l .inv .5 ∙ fields-put fieldBytes lineBytes bytes-on (l .t) _ [] _ cut (l .store) (l .at)),
-        table ∙ sym (l .inv .6 ∙ fields-put fieldNumbers lineNumbers numbers-on (l .t) _ [] _ cut (l .table) (l .entry)),
-      ),
-    )
+    let f = c .before .before .before .before .before .before .before .before .before .head .result .now in
+    let e = c .before .before .before .before .before .before .before .before .before .before .find .result in
+    let n = put-end fieldNumbers lineNumbers numbers-on numbers-none (l .t) (l .rest .now) f e (c .before .before .before .before .before .before .before .before .before .before .find .ensures) (c .before .before .before .before .before .before .before .before .before .head .ensures .0) (l .table) _ (l .entry) _ (c .before .before .before .before .before .before .before .put-number .ensures .0) (c .before .before .before .before .before .before .before .put-number .ensures .1) (c .if1 .taken) in
+    let b = put-end fieldBytes lineBytes bytes-on bytes-none (l .t) (l .rest .now) f e (c .before .before .before .before .before .before .before .before .before .before .find .ensures) (c .before .before .before .before .before .before .before .before .before .head .ensures .0) (l .store) _ (l .at) _ (c .before .before .before .put-bytes .ensures .0) (c .before .before .before .put-bytes .ensures .1 .1) (c .if1 .taken) in
+    (sym (n .0) ∙ l .inv .4, (sym (l .inv .5 ∙ b .1), sym (l .inv .6 ∙ n .1)))
 
 loop-again : tie.Need-loop-again Inv-loop μ-loop
 loop-again c =
     let l = c .before .before .before .before .before .before .before .before .before .before .before .before .before .loop in
-    let f = take (c .before .before .before .before .before .before .before .before .before .before .before .before .find .result) (l .rest .now) in
-    let cut = c .before .before .before .before .before .before .before .before .before .before .before .before .find .ensures .cut (omega arith) in
-    let h = c .before .before .before .before .before .before .before .before .before .before .before .head .ensures .0 in
-    let n : c .before .before .before .before .before .before .before .before .before .put-number .result ≡ length (fieldNumbers (l .t) f) = rw h at (c .before .before .before .before .before .before .before .before .before .put-number .ensures .0) in
-    let table : c .before .before .before .before .before .before .before .before .before .put-number .last .1 .1 .0 ≡ sets (l .table) (l .entry) (fieldNumbers (l .t) f) = rw h at (c .before .before .before .before .before .before .before .before .before .put-number .ensures .1) in
-    let m : c .before .before .before .before .before .put-bytes .result ≡ length (fieldBytes (l .t) f) = rw h at (c .before .before .before .before .before .put-bytes .ensures .0) in
-    let store : c .before .before .before .before .before .put-bytes .last .1 .1 .0 ≡ sets (l .store) (l .at) (fieldBytes (l .t) f) = rw h at (c .before .before .before .before .before .put-bytes .ensures .1 .1) in (
+    let f = c .before .before .before .before .before .before .before .before .before .before .before .head .result .now in
+    let e = c .before .before .before .before .before .before .before .before .before .before .before .before .find .result in
+    let more : e < length (l .rest .now) = omega arith in
+    let n = put-on fieldNumbers lineNumbers numbers-on numbers-none (l .t) (l .rest .now) f e (c .before .before .before .before .before .before .before .before .before .before .before .before .find .ensures) (c .before .before .before .before .before .before .before .before .before .before .before .head .ensures .0) (l .table) _ (l .entry) _ (c .before .before .before .before .before .before .before .before .before .put-number .ensures .0) (c .before .before .before .before .before .before .before .before .before .put-number .ensures .1) _ _ more (c .before .next-form .ensures) (c .tail .ensures .0) in
+    let b = put-on fieldBytes lineBytes bytes-on bytes-none (l .t) (l .rest .now) f e (c .before .before .before .before .before .before .before .before .before .before .before .before .find .ensures) (c .before .before .before .before .before .before .before .before .before .before .before .head .ensures .0) (l .store) _ (l .at) _ (c .before .before .before .before .before .put-bytes .ensures .0) (c .before .before .before .before .before .put-bytes .ensures .1 .1) _ _ more (c .before .next-form .ensures) (c .tail .ensures .0) in (
       c .before .before .before .before .before .put-bytes .kept .1 .1 .0 ∙ l .inv .0,
       c .before .before .before .before .before .before .before .before .before .put-number .kept .1 .1 .0 ∙ l .inv .1,
       omega arith,
       omega arith,
-      rw (c .before .next-form .ensures, c .tail .ensures .0) (omega (arith, fields-length fieldNumbers lineNumbers numbers-on (l .t) _ _ _ cut)),
-      l .inv .5 ∙ fields-put fieldBytes lineBytes bytes-on (l .t) _ _ _ cut (l .store) (l .at) ∙ rw (store, m, c .before .next-form .ensures, c .tail .ensures .0),
-      l .inv .6 ∙ fields-put fieldNumbers lineNumbers numbers-on (l .t) _ _ _ cut (l .table) (l .entry) ∙ rw (table, n, c .before .next-form .ensures, c .tail .ensures .0),
+      sym (n .0) ∙ l .inv .4,
+      l .inv .5 ∙ b .1,
+      l .inv .6 ∙ n .1,
     )
 
 pub put-fields-spec : {M : Type 1} → statement M

@@ -1,11 +1,11 @@
 -- `scene_reader::put::put_line` meets its contract. Assumes nothing.
 use mathlib.Core.Path.{_∙_}
-use native.Mathlib.Numerals.{add-one}
 use native.Mathlib.Omega.{arith}
 use borrow.Author.Needs.{needs}
 use lib.ListN.{length-set}
-use Rattle.scene_reader.specs.Reader.{put}
+use Rattle.scene_text.specs.Text.{pieces}
 use Rattle.scene_reader.proofs.Bounds.{seen-few}
+use Rattle.scene_reader.proofs.PutDown.{is-put}
 use Rattle.scene_reader.proofs.put.put_line.Statement.{statement}
 use Rattle.scene_reader.proofs.put.put_line.Tie as tie
 
@@ -24,10 +24,10 @@ same-length-2 : tie.Need-same-length-2
 same-length-2 c = c .before .before .before .before .put-fields .kept .1 .1 .1 .1 .0 ∙ simp length-set
 
 returns : tie.Need-returns
-unfolding put
 returns c =
+    let a = c .before .before .before .before .before .before .before .before .before .before .before .before .before .args in
     let e = c .before .before .before .before .put-fields .ensures in
-    rw (e .0, e .1 .0, e .1 .1, c .before .before .before .before .before .before .before .before .before .before .before .before .before .pre .0, c .before .before .before .before .before .before .before .before .seen-with .ensures, c .before .before .before .before .before .before .before .before .before .place-of .ensures, c .before .before .before .before .before .before .before .first-form .ensures, add-one (c .before .before .before .before .before .before .before .before .before .before .before .before .before .args .s .filled))
+    is-put (a .s) (a .store .now) (a .table .now) (a .k) (pieces 44 (a .fields .now)) _ _ _ _ _ _ _ (c .before .before .before .before .before .before .before .before .before .place-of .ensures) (c .before .before .before .before .before .before .before .before .seen-with .ensures) (c .before .before .before .before .before .before .before .first-form .ensures) (c .before .before .before .before .before .before .before .before .before .before .before .before .before .pre .0) (e .0) (e .1 .0) (e .1 .1)
 
 pub put-line-spec : {M : Type 1} → statement M
 put-line-spec =
