@@ -11,11 +11,12 @@ use Rattle.scene_line.specs.declared.form.Form.{Form}
 use Rattle.scene_line.specs.Line.{after, lineBytes, lineNumbers}
 use Rattle.scene_line.proofs.FieldLaws.{fields-length, fields-put}
 
--- no field gives nothing
+-- no fields, no bytes
 pub bytes-none : (t : Form) → lineBytes t [] ≡ []
 unfolding lineBytes
 bytes-none t = refl
 
+-- no fields, no numbers
 pub numbers-none : (t : Form) → lineNumbers t [] ≡ []
 unfolding lineNumbers
 numbers-none t = refl
