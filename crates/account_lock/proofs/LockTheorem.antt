@@ -41,7 +41,7 @@ pub record Thresholds (s : List ℕ) : Type 0 where
   pub recovery : eqb (numberAt s 5 1 % 2) 1 ≡ true → 1 ≤ numberAt s 20 2
 
 state-thresholds : (s : List ℕ) → Hold (state.stateRows s) → Thresholds s
-unfolding state.stateRows state.tailRows state.endRows state.recoveryRows
+unfolding state.stateRows state.tailRows state.endRows state.thresholdRows state.recoveryRows
 state-thresholds s h =
     let e = hold-split (state.entriesRows (numberAt s 22 1) (drop 32 s) 0) _ (hold-split (state.headRows s) _ h .1) .1 in
     record {

@@ -59,13 +59,13 @@ entries-original (suc n) e least =
     each-append Original (state.entryRows e least) _ (entry-original e least) (entries-original n (drop (lengthOf e) e) (slotOf e + 1))
 
 -- its recovery
-recovery-original : (s : List ℕ) (weight : ℕ) → Each Original (state.recoveryRows s weight)
+recovery-original : (flags threshold since weight : ℕ) → Each Original (state.recoveryRows flags threshold since weight)
 unfolding state.recoveryRows
-recovery-original s weight = each-cond Original (eqb (numberAt s 5 1 % 2) 1) _ _ (search arith) (search arith)
+recovery-original flags threshold since weight = each-cond Original (eqb (flags % 2) 1) _ _ (search arith) (search arith)
 
 -- what follows its entries
 tail-original : (s : List ℕ) (n : ℕ) (e : List ℕ) → Each Original (state.tailRows s n e)
-unfolding state.tailRows state.endRows
+unfolding state.tailRows state.endRows state.thresholdRows
 tail-original s n e = search (arith, recovery-original) depth 12
 
 -- the whole state

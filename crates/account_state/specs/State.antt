@@ -75,21 +75,26 @@ behind zero e = e
 behind (suc n) e = behind n (drop (lengthOf e) e)
 
 -- 01: "With flag 1 set the same holds for recovery. With flag 1 clear, a recovery threshold or recovery_since other than 0 is 21."
-unfoldable pub recoveryRows : List ℕ → ℕ → List Row
-recoveryRows s weight =
-    cond (eqb (numberAt s 5 1 % 2) 1)
-    (row (leb 1 (numberAt s 20 2)) UnsatisfiableThreshold ∷ row (leb (numberAt s 20 2) weight) UnsatisfiableThreshold ∷ [])
-    (row (eqb (numberAt s 20 2) 0) InvalidState ∷ row (eqb (numberAt s 24 8) 0) InvalidState ∷ [])
+unfoldable pub recoveryRows : ℕ → ℕ → ℕ → ℕ → List Row
+recoveryRows flags threshold since weight =
+    cond (eqb (flags % 2) 1)
+    (row (leb 1 threshold) UnsatisfiableThreshold ∷ row (leb threshold weight) UnsatisfiableThreshold ∷ [])
+    (row (eqb threshold 0) InvalidState ∷ row (eqb since 0) InvalidState ∷ [])
 
--- 01: "After the last entry no byte follows (21). Then: spend or rotate threshold 0 or above the weight of its holders is 38."
+-- 01: "spend or rotate threshold 0 or above the weight of its holders is 38."
+unfoldable pub thresholdRows : ℕ → ℕ → ℕ → ℕ → ℕ → ℕ → ℕ → ℕ → List Row
+thresholdRows flags spend rotate recovery since spendWeight rotateWeight recoveryWeight =
+    row (leb 1 spend) UnsatisfiableThreshold
+    ∷ row (leb 1 rotate) UnsatisfiableThreshold
+    ∷ row (leb spend spendWeight) UnsatisfiableThreshold
+    ∷ row (leb rotate rotateWeight) UnsatisfiableThreshold
+    ∷ recoveryRows flags recovery since recoveryWeight
+
+-- 01: "After the last entry no byte follows (21). Then:" the thresholds
 unfoldable pub endRows : List ℕ → ℕ → ℕ → ℕ → ℕ → List Row
 endRows s tail spend rotate recovery =
     row (eqb tail 0) InvalidState
-    ∷ row (leb 1 (numberAt s 16 2)) UnsatisfiableThreshold
-    ∷ row (leb 1 (numberAt s 18 2)) UnsatisfiableThreshold
-    ∷ row (leb (numberAt s 16 2) spend) UnsatisfiableThreshold
-    ∷ row (leb (numberAt s 18 2) rotate) UnsatisfiableThreshold
-    ∷ recoveryRows s recovery
+    ∷ thresholdRows (numberAt s 5 1) (numberAt s 16 2) (numberAt s 18 2) (numberAt s 20 2) (numberAt s 24 8) spend rotate recovery
 
 -- the checks after the last entry; spend, rotate and recovery are capability bits 1, 2 and 4
 unfoldable pub tailRows : List ℕ → ℕ → List ℕ → List Row

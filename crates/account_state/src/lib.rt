@@ -2,6 +2,7 @@
 mod header; // header.rt
 mod entry; // entry.rt
 mod walk; // walk.rt
+mod thresholds; // thresholds.rt
 
 use self::header::check_head;
 use self::header::header_at;
@@ -17,7 +18,7 @@ ghost use mathlib.Core.Path.{_≡_};
 ghost use Prim.Native.Nat.{_≤_};
 ghost use lib.ListN.{length};
 ghost use Rattle.protocol.specs.Rows.{decide};
-ghost use Rattle.account_state.specs.State.{recoveryRows, headerOf, stateAnswer, readState};
+ghost use Rattle.account_state.specs.State.{headerOf, stateAnswer, readState};
 ghost use Rattle.account_state.specs.Walk.{endFault};
 pub use self::entry::AuthenticatorEntry;
 pub use self::entry::EntryCursor;
@@ -25,6 +26,7 @@ pub use self::entry::EntryStep;
 pub use self::entry::next_entry;
 pub use self::header::StateHeader;
 pub use self::header::StateHeaderAnswer;
+pub use self::thresholds::check_thresholds;
 pub use self::walk::StateSummary;
 pub use self::walk::share;
 
@@ -33,38 +35,20 @@ pub enum StateAnswer {
     Refused(ProtocolError),
 }
 
-fn check_recovery(state: &[u8], check: Check, weight: u32) -> Check
-    ensures { λ r. ⌜ r ≡ decide check (recoveryRows (now (state .entry)) weight) ⌝ }
-{
-    let unmet = ProtocolError::UnsatisfiableThreshold;
-    let invalid = ProtocolError::InvalidState;
-    let threshold = u16_at(state, 20);
-    if u8_at(state, 5) % 2 == 1 {
-        check
-            .require(1 <= threshold, unmet)
-            .require(threshold as u32 <= weight, unmet)
-    } else {
-        check
-            .require(threshold == 0, invalid)
-            .require(u64_at(state, 24) == 0, invalid)
-    }
-}
-
 // The checks after the last entry.
 fn check_end(state: &[u8], walk: Walk) -> Check
     ensures { λ r. ⌜ r ≡ endFault (now (state .entry)) walk ⌝ }
 {
-    let unmet = ProtocolError::UnsatisfiableThreshold;
-    let spend = u16_at(state, 16);
-    let rotate = u16_at(state, 18);
     let summary = walk.summary;
-    let check = Check::Passed
-        .require(walk.tail == 0, ProtocolError::InvalidState)
-        .require(1 <= spend, unmet)
-        .require(1 <= rotate, unmet)
-        .require(spend as u32 <= summary.spend_weight, unmet)
-        .require(rotate as u32 <= summary.rotate_weight, unmet);
-    check_recovery(state, check, summary.recovery_weight)
+    let check = Check::Passed.require(walk.tail == 0, ProtocolError::InvalidState);
+    check.and(check_thresholds(
+        u8_at(state, 5),
+        u16_at(state, 16),
+        u16_at(state, 18),
+        u16_at(state, 20),
+        u64_at(state, 24),
+        summary,
+    ))
 }
 
 // The answer once every entry passed.

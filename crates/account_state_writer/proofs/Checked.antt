@@ -19,10 +19,10 @@ use Rattle.protocol.specs.declared.check.Check.{Check}
 use Rattle.protocol.specs.declared.check.Check.the-variants.{Passed, Failed}
 use Rattle.protocol.proofs.Hold.{decide-append, decide-failed, decide-then, passed-hold}
 use Rattle.account_state.specs.Reading.{EntryReading, StateReading, EntryTyped, EntriesTyped, StateTyped, stateMagic, entryHead, entryLengths, entryBytes, entriesBytes, headNumbers, stateHead, stateBytes, lengthOf, slotOf, keyLengthOf, auxLengthOf, entryOf, weightOf}
-use Rattle.account_state.specs.State.{headRows, layoutRows, fieldRows, entryRows, entriesRows, behind, recoveryRows, endRows, tailRows, stateRows, stateFault}
+use Rattle.account_state.specs.State.{headRows, layoutRows, fieldRows, entryRows, entriesRows, behind, thresholdRows, endRows, tailRows, stateRows, stateFault}
 use Rattle.account_state.proofs.Inverse.{Keys}
 use Rattle.account_state.proofs.Unique.{lengths-read, size-read, entry-read, entries-read, head-numbers, behind-head}
-use Rattle.account_state_writer.specs.Checks.{headChecks, entryChecks, entriesChecks, recoveryChecks, endChecks, stateChecks, lentWeight}
+use Rattle.account_state_writer.specs.Checks.{headChecks, entryChecks, entriesChecks, stateChecks, lentWeight}
 use Rattle.account_state_writer.specs.Writer.{entriesFrom}
 use Rattle.account_state_writer.proofs.Lent.{length-entries, weight-lent}
 
@@ -123,8 +123,8 @@ module _ (r : StateReading) (y : StateTyped r) (k : Keys (r .entries)) (h : leng
       rw (e₁, e₂, e₃, e₄, e₅, e₆, flags-read, count-read) (simp row-true)
 
   end-checked : (c : Check) → decide c (tailRows b n (entriesBytes (r .entries)))
-      ≡ decide c (endChecks (r .flags) (r .spend) (r .rotate) (r .recovery) (r .since) (weightOf 1 (r .entries)) (weightOf 2 (r .entries)) (weightOf 4 (r .entries)))
-  unfolding tailRows endRows endChecks recoveryRows recoveryChecks stateHead headNumbers numbersAt decide
+      ≡ decide c (thresholdRows (r .flags) (r .spend) (r .rotate) (r .recovery) (r .since) (weightOf 1 (r .entries)) (weightOf 2 (r .entries)) (weightOf 4 (r .entries)))
+  unfolding tailRows endRows stateHead headNumbers numbersAt decide
   end-checked c =
       let m = head-numbers r y in
       let f₁ : numberAt b 16 2 ≡ r .spend = ap (valueOf 5) m in
@@ -132,7 +132,7 @@ module _ (r : StateReading) (y : StateTyped r) (k : Keys (r .entries)) (h : leng
       let f₃ : numberAt b 20 2 ≡ r .recovery = ap (valueOf 7) m in
       let f₄ : numberAt b 24 8 ≡ r .since = ap (valueOf 10) m in
       rw (entries-behind (r .entries) (y .entries), entries-read (r .entries) (y .entries), flags-read, f₁, f₂, f₃, f₄)
-      (ap (λ (x : Check). decide x (endChecks (r .flags) (r .spend) (r .rotate) (r .recovery) (r .since) (weightOf 1 (r .entries)) (weightOf 2 (r .entries)) (weightOf 4 (r .entries)))) (row-true c InvalidState))
+      (ap (λ (x : Check). decide x (thresholdRows (r .flags) (r .spend) (r .rotate) (r .recovery) (r .since) (weightOf 1 (r .entries)) (weightOf 2 (r .entries)) (weightOf 4 (r .entries)))) (row-true c InvalidState))
 
   pub state-checked : stateFault b ≡ decide Passed (stateChecks (r .flags) (r .spend) (r .rotate) (r .recovery) (r .since) (r .entries))
   unfolding stateFault stateRows stateChecks
@@ -159,7 +159,7 @@ module _ (flags spend rotate recovery since count : ℕ) (fields bytes : List �
 
   pub head-passed : decide Passed (headChecks flags count) ≡ Passed
       → decide Passed (stateChecks flags spend rotate recovery since es)
-      ≡ (decide Passed (entriesChecks es 0) then decide Passed (endChecks flags spend rotate recovery since (lentWeight 1 count fields) (lentWeight 2 count fields) (lentWeight 4 count fields)))
+      ≡ (decide Passed (entriesChecks es 0) then decide Passed (thresholdRows flags spend rotate recovery since (lentWeight 1 count fields) (lentWeight 2 count fields) (lentWeight 4 count fields)))
   unfolding stateChecks
   head-passed h =
       decide-append Passed (headChecks flags (length es)) _

@@ -1,14 +1,14 @@
 -- The checks of a state that its writer laid out: those of the state's rows that such a state can fail, in their order, said of
 -- what the slices say. Private to the writer; `state-checked` equates them with the state's own rows.
-use Prim.Native.Nat.{ℕ, zero, suc, _+_, _%_}
-use mathlib.Core.Bool.{cond}
+use Prim.Native.Nat.{ℕ, zero, suc, _+_}
 use mathlib.Core.List.{List, [], _∷_, _++_}
 use lib.Dec.{leb, eqb}
 use lib.ListN.{length, drop, getD}
 use Rattle.protocol.specs.Policy.{isSupportedAlgorithm}
 use Rattle.protocol.specs.Rows.{Row, row}
-use Rattle.protocol.specs.declared.error.ProtocolError.the-variants.{InvalidState, InvalidVerifierRef, UnsupportedAlgorithm, UnsatisfiableThreshold}
+use Rattle.protocol.specs.declared.error.ProtocolError.the-variants.{InvalidState, InvalidVerifierRef, UnsupportedAlgorithm}
 use Rattle.account_state.specs.Reading.{EntryReading, shareOf, weightOf}
+use Rattle.account_state.specs.State.{thresholdRows}
 
 unfoldable pub headChecks : ℕ → ℕ → List Row
 headChecks flags count =
@@ -29,25 +29,10 @@ unfoldable pub entriesChecks : List EntryReading → ℕ → List Row
 entriesChecks [] least = []
 entriesChecks (e ∷ es) least = entryChecks e least ++ entriesChecks es (e .slot + 1)
 
-unfoldable pub recoveryChecks : ℕ → ℕ → ℕ → ℕ → List Row
-recoveryChecks flags recovery since weight =
-    cond (eqb (flags % 2) 1)
-    (row (leb 1 recovery) UnsatisfiableThreshold ∷ row (leb recovery weight) UnsatisfiableThreshold ∷ [])
-    (row (eqb recovery 0) InvalidState ∷ row (eqb since 0) InvalidState ∷ [])
-
--- the thresholds, beside the weights of the holders of spend, rotate and recovery
-unfoldable pub endChecks : ℕ → ℕ → ℕ → ℕ → ℕ → ℕ → ℕ → ℕ → List Row
-endChecks flags spend rotate recovery since spendWeight rotateWeight recoveryWeight =
-    row (leb 1 spend) UnsatisfiableThreshold
-    ∷ row (leb 1 rotate) UnsatisfiableThreshold
-    ∷ row (leb spend spendWeight) UnsatisfiableThreshold
-    ∷ row (leb rotate rotateWeight) UnsatisfiableThreshold
-    ∷ recoveryChecks flags recovery since recoveryWeight
-
 unfoldable pub stateChecks : ℕ → ℕ → ℕ → ℕ → ℕ → List EntryReading → List Row
 stateChecks flags spend rotate recovery since es =
     headChecks flags (length es)
-    ++ (entriesChecks es 0 ++ endChecks flags spend rotate recovery since (weightOf 1 es) (weightOf 2 es) (weightOf 4 es))
+    ++ (entriesChecks es 0 ++ thresholdRows flags spend rotate recovery since (weightOf 1 es) (weightOf 2 es) (weightOf 4 es))
 
 -- the weight of n entries that have a capability
 unfoldable pub lentWeight : ℕ → ℕ → List ℕ → ℕ

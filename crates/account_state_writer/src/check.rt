@@ -1,4 +1,6 @@
 // The checks of the state that the slices say, before a byte of it is written.
+use account_state::StateSummary;
+use account_state::check_thresholds;
 use account_state::share;
 use protocol::AUTHENTICATOR_MAX_COUNT;
 use protocol::CAP_KNOWN_MASK;
@@ -15,8 +17,9 @@ ghost use Prim.Native.Nat.{_+_, _*_, _≤_};
 ghost use lib.ListN.{length};
 ghost use Rattle.protocol.specs.Rows.{decide};
 ghost use Rattle.protocol.specs.declared.check.Check.the-variants.{Passed};
+ghost use Rattle.account_state.specs.State.{thresholdRows};
 ghost use Rattle.account_state_writer.specs.Writer.{auxOf, entryFrom, entriesFrom, neededBytes, entryCount};
-ghost use Rattle.account_state_writer.specs.Checks.{headChecks, entryChecks, entriesChecks, recoveryChecks, endChecks, stateChecks, lentWeight};
+ghost use Rattle.account_state_writer.specs.Checks.{headChecks, entryChecks, entriesChecks, stateChecks, lentWeight};
 
 fn check_head(flags: u8, count: usize) -> Check
     ensures { λ r. ⌜ r ≡ decide Passed (headChecks flags count) ⌝ }
@@ -84,23 +87,7 @@ fn weight_of(bit: u16, fields: &[u16], count: usize) -> u32
     sum
 }
 
-fn check_recovery(check: Check, flags: u8, recovery: u16, since: u64, weight: u32) -> Check
-    ensures { λ r. ⌜ r ≡ decide check (recoveryChecks flags recovery since weight) ⌝ }
-{
-    let unmet = ProtocolError::UnsatisfiableThreshold;
-    let invalid = ProtocolError::InvalidState;
-    if flags % 2 == 1 {
-        check
-            .require(1 <= recovery, unmet)
-            .require(recovery as u32 <= weight, unmet)
-    } else {
-        check
-            .require(recovery == 0, invalid)
-            .require(since == 0, invalid)
-    }
-}
-
-// The thresholds.
+// The thresholds, beside the weights that the fields say.
 fn check_end(
     flags: u8,
     spend: u16,
@@ -111,16 +98,14 @@ fn check_end(
     count: usize,
 ) -> Check
     requires { ⌜ (5 * count ≤ length (now fields)) × (count ≤ 16) ⌝ }
-    ensures { λ r. ⌜ r ≡ decide Passed (endChecks flags spend rotate recovery since (lentWeight 1 count (now (fields .entry))) (lentWeight 2 count (now (fields .entry))) (lentWeight 4 count (now (fields .entry)))) ⌝ }
+    ensures { λ r. ⌜ r ≡ decide Passed (thresholdRows flags spend rotate recovery since (lentWeight 1 count (now (fields .entry))) (lentWeight 2 count (now (fields .entry))) (lentWeight 4 count (now (fields .entry)))) ⌝ }
 {
-    let unmet = ProtocolError::UnsatisfiableThreshold;
-    let check = Check::Passed
-        .require(1 <= spend, unmet)
-        .require(1 <= rotate, unmet)
-        .require(spend as u32 <= weight_of(CAP_SPEND, fields, count), unmet)
-        .require(rotate as u32 <= weight_of(CAP_ROTATE, fields, count), unmet);
-    let weight = weight_of(CAP_RECOVERY, fields, count);
-    check_recovery(check, flags, recovery, since, weight)
+    let summary = StateSummary {
+        spend_weight: weight_of(CAP_SPEND, fields, count),
+        rotate_weight: weight_of(CAP_ROTATE, fields, count),
+        recovery_weight: weight_of(CAP_RECOVERY, fields, count),
+    };
+    check_thresholds(flags, spend, rotate, recovery, since, summary)
 }
 
 // All checks of the state.

@@ -15,7 +15,7 @@ use Rattle.protocol.specs.Rows.{_▷_, decide}
 use Rattle.protocol.specs.Policy.{isSupportedAlgorithm, isOperation, hasCapability}
 use Rattle.protocol.specs.Args.{argsRows, argsFault, argsAnswer, readArgs, argsNumber}
 use Rattle.account_state.specs.Reading.{entryOf, entriesOf, shareOf, weightOf}
-use Rattle.account_state.specs.State.{headRows, layoutRows, fieldRows, entryRows, entriesRows, behind, recoveryRows, endRows, tailRows, stateRows, stateFault, headerOf, summaryOf, stateAnswer, readState, stateNumber}
+use Rattle.account_state.specs.State.{headRows, layoutRows, fieldRows, entryRows, entriesRows, behind, recoveryRows, thresholdRows, endRows, tailRows, stateRows, stateFault, headerOf, summaryOf, stateAnswer, readState, stateNumber}
 use Rattle.account_witness.specs.Header.{headerRows, headerAt}
 use Rattle.account_witness.specs.Walk.{proofRows, proofsRows}
 use Rattle.account_witness.specs.Witness.{witnessRows, witnessFault, witnessAnswer, readWitness, witnessNumber}
@@ -74,7 +74,7 @@ pub record MarkedRows : Type 0 where
   pub canonical-bytes : canonicalStored lockOfOne (replicate 20 0xff) ≡ lockOfNone
 
 pub marked-rows : MarkedRows
-unfolding fromLe numberAt _▷_ decide isSupportedAlgorithm isOperation hasCapability argsRows argsFault argsAnswer readArgs entryOf entriesOf shareOf weightOf headRows layoutRows fieldRows entryRows entriesRows behind recoveryRows endRows tailRows stateRows stateFault headerOf summaryOf stateAnswer readState headerRows headerAt proofRows proofsRows witnessRows witnessFault witnessAnswer readWitness keyProofRows proofFault placesAt proofAnswer readProof smallestState emptyWitness toLe numbers joined bytesVector offsetsFrom headSize tableHead tableBytes tableRows between field2 field3 canonicalOf writeFault writeAnswer afterWrite canonicalRoom canonicalWritten canonicalStored lockOfOne lockOfNone
+unfolding fromLe numberAt _▷_ decide isSupportedAlgorithm isOperation hasCapability argsRows argsFault argsAnswer readArgs entryOf entriesOf shareOf weightOf headRows layoutRows fieldRows entryRows entriesRows behind recoveryRows thresholdRows endRows tailRows stateRows stateFault headerOf summaryOf stateAnswer readState headerRows headerAt proofRows proofsRows witnessRows witnessFault witnessAnswer readWitness keyProofRows proofFault placesAt proofAnswer readProof smallestState emptyWitness toLe numbers joined bytesVector offsetsFrom headSize tableHead tableBytes tableRows between field2 field3 canonicalOf writeFault writeAnswer afterWrite canonicalRoom canonicalWritten canonicalStored lockOfOne lockOfNone
 marked-rows =
     record {
       args-of-32 = refl;

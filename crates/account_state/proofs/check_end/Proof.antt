@@ -1,7 +1,11 @@
--- `account_state::check_end` meets its contract: the rows, last to first. Assumes nothing.
-use Rattle.account_state.specs.Walk.{endFault}
-use Rattle.account_state.specs.State.{endRows}
+-- `account_state::check_end` meets its contract: no byte follows, then the thresholds. Assumes nothing.
+use mathlib.Core.Path.{sym}
+use denote.Ref.{now}
+use Rattle.octets.specs.Le.{numberAt}
 use Rattle.protocol.specs.Rows.{decide}
+use Rattle.protocol.proofs.Hold.{decide-then}
+use Rattle.account_state.specs.State.{thresholdRows, endRows}
+use Rattle.account_state.specs.Walk.{endFault}
 use borrow.Author.Needs.{needs}
 use Rattle.account_state.proofs.check_end.Statement.{statement}
 use Rattle.account_state.proofs.check_end.Tie as tie
@@ -10,8 +14,11 @@ returns : tie.Need-returns
 unfolding endFault endRows decide
 returns c =
     let c4 = c .before .before .before .before in
-    let c8 = c4 .before .before .before .before in
-    rw (c .check-recovery .ensures, c .before .require5 .ensures, c .before .before .before .require4 .ensures, c4 .before .require3 .ensures, c4 .before .before .require2 .ensures, c4 .before .before .before .require .ensures, c8 .before .before .u16-at2 .ensures, c8 .before .before .before .u16-at .ensures)
+    let a = c4 .before .before .before .before .before .before .before .args in
+    let s = now (a .state) in
+    let t = a .walk .summary in
+    rw (c .and .ensures, c .before .check-thresholds .ensures, c .before .before .u64-at .ensures, c .before .before .before .u16-at3 .ensures, c4 .u16-at2 .ensures, c4 .before .u16-at .ensures, c4 .before .before .u8-at .ensures, c4 .before .before .before .require .ensures)
+    (sym (decide-then _ (thresholdRows (numberAt s 5 1) (numberAt s 16 2) (numberAt s 18 2) (numberAt s 20 2) (numberAt s 24 8) (t .«spend_weight») (t .«rotate_weight») (t .«recovery_weight»))))
 
 pub check-end-spec : {M : Type 1} → statement M
 check-end-spec =
@@ -22,9 +29,7 @@ check-end-spec =
     (λ c κs. search needs)
     (λ c κs. search needs)
     (λ c κs. search needs)
-    (λ c. search needs)
     (λ c κs. search needs)
-    (λ c. search needs)
     (λ c κs. search needs)
     (λ c κs. search needs)
     returns)
