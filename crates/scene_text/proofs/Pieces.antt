@@ -9,7 +9,7 @@ use native.Mathlib.Nat.{le-of-eq, eq-or-lt-of-le}
 use native.Mathlib.Omega.{arith}
 use borrow.Author.Tests.{eq-eqb, ne-eqb}
 use lib.ListN.{length, take, drop, getD, drop-of-length-le}
-use lib.Seq.{drop-cons, take-suc}
+use lib.Seq.{drop-cons, take-suc, length-take-le}
 use lib.Dec.{eqb}
 use Rattle.scene_text.specs.Text.{pieces, before, Cut}
 
@@ -51,6 +51,10 @@ cut-end c s i e = rw (drop-of-length-le s (le-of-eq (sym e))) (ap (λ (q : List 
 -- whichever way a text is cut, its first piece is what stands before the place
 pub cut-first : (c : ℕ) (s : List ℕ) (n : ℕ) → Cut c s n → (ps : List (List ℕ)) × (pieces c s ≡ take n s ∷ ps)
 cut-first c s n k = ⊎-elim (λ e. ([], k .whole e)) (λ h. (pieces c (drop (n + 1) s), k .cut h)) (eq-or-lt-of-le (k .within))
+
+-- so there is one such place: the first piece's length
+pub cut-place : (c : ℕ) (s : List ℕ) (n : ℕ) → Cut c s n → n ≡ length (getD (pieces c s) 0 [])
+cut-place c s n k = rw (cut-first c s n k .1) (sym (length-take-le n s (k .within)))
 
 -- how many pieces there are
 
