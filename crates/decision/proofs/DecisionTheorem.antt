@@ -12,14 +12,10 @@ use Rattle.protocol.specs.Rows.{Hold}
 use Rattle.protocol.specs.declared.check.Check.the-variants.{Passed}
 use Rattle.account_witness.specs.Walk.{proofsRows}
 use Rattle.decision.specs.Proofs.{Setting, requestsOf}
-use Rattle.decision.specs.Walk.{ProofList, proofsFrom, walk, walkList, walkLock}
+use Rattle.decision.specs.Walk.{listed, walk, walkList, walkLock}
 use Rattle.decision.specs.Decision.{EachPasses, proofsOf, ProofsPass, Quorum}
 use Rattle.decision.proofs.Quorum.{decision, answers, answers-always}
 use Rattle.decision.proofs.Listed.{listed-clean, listed-proofs, listed-rising}
-
--- the proofs up to the first with a faulty layout
-abbrev pub listed : List ℕ → ProofList
-listed lock = proofsFrom lock (numberAt lock 6 1) 16 0
 
 -- where no layout is faulty these are the lock's
 pub listed-of : (lock : List ℕ) → Hold (proofsRows lock (numberAt lock 6 1) 16 0) → listed lock .proofs ≡ proofsOf lock

@@ -74,9 +74,13 @@ proofsFrom lock (suc n) at least =
 unfoldable pub walkList : Setting → ProofList → Outcome
 walkList c ps = walk c (ps .clean) 0 0 [] (ps .proofs)
 
--- the walk over the proofs of a witness lock, whose count is its byte 6
+-- those of a witness lock, whose count is its byte 6
+abbrev pub listed : List ℕ → ProofList
+listed lock = proofsFrom lock (numberAt lock 6 1) 16 0
+
+-- the walk over them
 unfoldable pub walkLock : Setting → List ℕ → Outcome
-walkLock c lock = walkList c (proofsFrom lock (numberAt lock 6 1) 16 0)
+walkLock c lock = walkList c (listed lock)
 
 -- "Each request is written into the rest of the answer buffer, behind the last one. Bytes after that total are unchanged."
 unfoldable pub answered : List ℕ → List ℕ → List ℕ
