@@ -51,10 +51,10 @@ fn run_all(records: &[u8], store: &mut [u8], table: &mut [u32], answer: &mut [u8
 }
 
 // Room for all records.
-fn records() -> [u8; 3145728]
-    ensures { λ r. ⌜ 3145728 ≡ length r ⌝ }
+fn records() -> [u8; 3407872]
+    ensures { λ r. ⌜ 3407872 ≡ length r ⌝ }
 {
-    [0; 3145728]
+    [0; 3407872]
 }
 
 // Room for the bytes of any of the scenes, and for any answer.

@@ -1,6 +1,6 @@
 -- `exports_lock::store_answer` meets its contract, as its two calls do. Assumes nothing.
 use Prim.Native.Nat.{ℕ}
-use mathlib.Core.Path.{_≡_, refl, sym}
+use mathlib.Core.Path.{_≡_, refl}
 use mathlib.Core.Bool.{Bool, true, false, cond}
 use mir.Val.{boolByte}
 use Rattle.exports_lock.specs.Stored.{answerStored, answerWords}
@@ -19,7 +19,7 @@ returns c =
     let bytes = c .before .before in
     let words = bytes .before .before .before .before .before .before in
     let start = words .before .before .before .before .before in
-    rw (number-of (start .args .answer .reached), sym (words .store-words .ensures)) (bytes .store-bytes .ensures)
+    rw (number-of (start .args .answer .reached)) (rw (words .store-words .ensures) at (bytes .store-bytes .ensures))
 
 pub store-answer-spec : {M : Type 1} → statement M
 store-answer-spec =

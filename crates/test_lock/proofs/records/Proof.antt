@@ -6,7 +6,7 @@ use Rattle.test_lock.proofs.records.Statement.{statement}
 use Rattle.test_lock.proofs.records.Tie as tie
 
 returns : tie.Need-returns
-returns c = sym (length-replicate {0} {A = ℕ} 3145728 0)
+returns c = sym (length-replicate {0} {A = ℕ} 3407872 0)
 
 pub records-spec : {M : Type 1} → statement M
 records-spec = tie.close (tie.spec returns)
