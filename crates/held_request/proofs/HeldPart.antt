@@ -66,7 +66,7 @@ partFn k =
     }
 
 -- its result, and what its contract says
-abbrev R : Slot 1
+abbrev pub R : Slot 1
 R = SliceRefOf (0 ∷ []) tt (plain (λ κs. u8)) (λ κs. tt)
 
 abbrev pub PartOf : (RequestPlaces → Place) → Said R

@@ -1,7 +1,7 @@
 -- A request that holds its bytes: it is not refused exactly where every check passes, and then what its functions hand out,
 -- together, is the one reading of the bytes, which the writer writes back. And what `is_for` decides.
 -- Assumes nothing.
-use mathlib.Core.Path.{_≡_, refl, sym, _∙_}
+use mathlib.Core.Path.{_≡_, refl, sym, ap, _∙_}
 use mathlib.Core.Bool.{true, and-eq-true-iff}
 use mathlib.Core.List.{List}
 use mathlib.Core.Logic.{_↔_}
@@ -12,14 +12,16 @@ use Rattle.octets.specs.Le.{Bytes}
 use Rattle.octets.specs.Lists.{same}
 use Rattle.octets.specs.Places.{bytesAt}
 use Rattle.octets.proofs.Same.{same-eq, eq-same}
-use Rattle.protocol.specs.Rows.{Hold}
+use Rattle.protocol.specs.Rows.{Hold, checkNumber}
 use Rattle.protocol.specs.Reading.{OneReading, WritesBack}
+use Rattle.protocol.specs.declared.check.Check.{Check}
+use Rattle.protocol.specs.declared.check.Check.the-variants.{Passed, Failed}
 use Rattle.protocol.proofs.ErrorNumbers.{not-0}
 use Rattle.verifier_request.specs.declared.reader.RequestFields.{RequestFields}
 use Rattle.verifier_request.specs.declared.reader.RequestAnswer.{RequestAnswer}
 use Rattle.verifier_request.specs.declared.reader.RequestAnswer.the-variants.{Request, Refused}
-use Rattle.verifier_request.specs.Reader.{requestRows, fieldsAt, readRequest}
-use Rattle.verifier_request.specs.Reading.{RequestTyped, readingOf, requestReading, requestBytes}
+use Rattle.verifier_request.specs.Reader.{requestRows, requestFault, fieldsAt, requestAnswer, readRequest}
+use Rattle.verifier_request.specs.Reading.{RequestReading, RequestTyped, readingOf, requestReading, requestBytes}
 use Rattle.verifier_request.specs.Writer.{requestWritten, requestStored}
 use Rattle.verifier_request.proofs.RequestTheorem.{reader-accepts, request-given, request-theorem}
 use Rattle.held_request.specs.declared.places.RequestPlaces.{RequestPlaces}
@@ -45,6 +47,15 @@ pub held-accepts : (s : List ℕ) → (found s .refusal ≡ 0) ↔ Hold (request
 unfolding placesOf
 held-accepts s = (λ z. reader-accepts s .0 (accepted s (readRequest s) refl z), λ h. rw (reader-accepts s .1 h))
 
+-- the number of what the checks find
+pub held-refusal : (s : List ℕ) → found s .refusal ≡ checkNumber (requestFault s)
+unfolding placesOf readRequest requestAnswer
+held-refusal s = by-check (requestFault s)
+  where
+    by-check : (k : Check) → placesOf (requestAnswer k (fieldsAt s)) .refusal ≡ checkNumber k
+    by-check Passed = refl
+    by-check (Failed e) = refl
+
 -- The theorem: what the functions hand out is the one reading, and writing it gives the same bytes or 5.
 pub held-theorem : (s : List ℕ) → Bytes s → found s .refusal ≡ 0
     → OneReading RequestTyped requestBytes s (heldReading s (found s)) × WritesBack (requestWritten (heldReading s (found s)))
@@ -53,10 +64,16 @@ held-theorem s b z =
     let e = accepted s (readRequest s) refl z in
     rw (held-given s (fieldsAt s) e) (request-theorem s (fieldsAt s) b e)
 
--- the digest handed out is the reading's
+-- where every check passes, they hand out the request's reading
+pub held-reading : (s : List ℕ) → Hold (requestRows s) → heldReading s (found s) ≡ requestReading s
+held-reading s h =
+    let e = reader-accepts s .1 h in
+    held-given s (fieldsAt s) e ∙ request-given s (fieldsAt s) e .1
+
+-- its digest
 held-digest : (s : List ℕ) → Hold (requestRows s) → bytesAt s (found s .«authorization_digest») ≡ requestReading s .digest
-unfolding placesOf bytesAt requestReading readingOf
-held-digest s h = rw (reader-accepts s .1 h)
+unfolding heldReading
+held-digest s h = ap (λ (r : RequestReading). r .digest) (held-reading s h)
 
 -- a request for this digest: every check passes, and its reading has the digest
 pub for-theorem : (s digest : List ℕ) → (isFor s digest ≡ true) ↔ (Hold (requestRows s) × (requestReading s .digest ≡ digest))

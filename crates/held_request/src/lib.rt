@@ -90,11 +90,54 @@ pub fn refusal_of(request: &[u8]) -> u8
     VerifierRequest::parse(request).refusal()
 }
 
-// The digest that the request in these bytes is for; no byte where it is refused.
+// The numbers of the request in these bytes; 0 where it is refused.
+pub fn algorithm_id_of(request: &[u8]) -> u16
+    ensures { λ r. ⌜ r ≡ placesOf (readRequest (now (request .entry))) .«algorithm_id» ⌝ }
+{
+    VerifierRequest::parse(request).algorithm_id()
+}
+
+pub fn slot_of(request: &[u8]) -> u16
+    ensures { λ r. ⌜ r ≡ placesOf (readRequest (now (request .entry))) .slot ⌝ }
+{
+    VerifierRequest::parse(request).slot()
+}
+
+pub fn operation_of(request: &[u8]) -> u8
+    ensures { λ r. ⌜ r ≡ placesOf (readRequest (now (request .entry))) .operation ⌝ }
+{
+    VerifierRequest::parse(request).operation()
+}
+
+pub fn verifier_profile_of(request: &[u8]) -> u8
+    ensures { λ r. ⌜ r ≡ placesOf (readRequest (now (request .entry))) .«verifier_profile» ⌝ }
+{
+    VerifierRequest::parse(request).verifier_profile()
+}
+
+// Its parts; no byte where it is refused.
 pub fn authorization_digest_of(request: &[u8]) -> &[u8]
     ensures { λ r. ⌜ now r ≡ bytesAt (now (request .entry)) (placesOf (readRequest (now (request .entry))) .«authorization_digest») ⌝ }
 {
     VerifierRequest::parse(request).authorization_digest()
+}
+
+pub fn key_id_of(request: &[u8]) -> &[u8]
+    ensures { λ r. ⌜ now r ≡ bytesAt (now (request .entry)) (placesOf (readRequest (now (request .entry))) .«key_id») ⌝ }
+{
+    VerifierRequest::parse(request).key_id()
+}
+
+pub fn aux_of(request: &[u8]) -> &[u8]
+    ensures { λ r. ⌜ now r ≡ bytesAt (now (request .entry)) (placesOf (readRequest (now (request .entry))) .aux) ⌝ }
+{
+    VerifierRequest::parse(request).aux()
+}
+
+pub fn proof_of(request: &[u8]) -> &[u8]
+    ensures { λ r. ⌜ now r ≡ bytesAt (now (request .entry)) (placesOf (readRequest (now (request .entry))) .proof) ⌝ }
+{
+    VerifierRequest::parse(request).proof()
 }
 
 // Whether these bytes are a request for this digest.
