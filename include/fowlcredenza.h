@@ -149,6 +149,27 @@ uint32_t fowlcredenza_decide_scene(const uint8_t *scene, size_t scene_len, uint8
                                    uint8_t *answer, size_t answer_len, uint8_t *out,
                                    size_t out_len);
 
+/* libexports_request.a: the fields of a request. Each function refuses what `fowlcredenza_parse_verifier_request` refuses, then
+ * gives 5 where `out` is too short for all that it stores. */
+
+/* Algorithm, slot, operation, profile: four words. */
+uint32_t fowlcredenza_request_numbers(const uint8_t *request, size_t request_len, uint8_t *out,
+                                      size_t out_len);
+
+/* The bytes of a part, to the front of `out`; `len` takes their number. Digest and key have 32, an aux at most 4,096, a proof
+ * at most 65,536. */
+uint32_t fowlcredenza_request_authorization_digest(const uint8_t *request, size_t request_len,
+                                                   uint8_t *out, size_t out_len, uint64_t *len);
+
+uint32_t fowlcredenza_request_key_id(const uint8_t *request, size_t request_len, uint8_t *out,
+                                     size_t out_len, uint64_t *len);
+
+uint32_t fowlcredenza_request_aux(const uint8_t *request, size_t request_len, uint8_t *out,
+                                  size_t out_len, uint64_t *len);
+
+uint32_t fowlcredenza_request_proof(const uint8_t *request, size_t request_len, uint8_t *out,
+                                    size_t out_len, uint64_t *len);
+
 #ifdef __cplusplus
 }
 #endif

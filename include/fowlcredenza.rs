@@ -220,3 +220,41 @@ unsafe extern "C" {
         out_len: usize,
     ) -> u32;
 }
+
+#[link(name = "exports_request", kind = "static")]
+unsafe extern "C" {
+    pub fn fowlcredenza_request_numbers(
+        request: *const u8,
+        request_len: usize,
+        out: *mut u8,
+        out_len: usize,
+    ) -> u32;
+    pub fn fowlcredenza_request_authorization_digest(
+        request: *const u8,
+        request_len: usize,
+        out: *mut u8,
+        out_len: usize,
+        len: *mut u64,
+    ) -> u32;
+    pub fn fowlcredenza_request_key_id(
+        request: *const u8,
+        request_len: usize,
+        out: *mut u8,
+        out_len: usize,
+        len: *mut u64,
+    ) -> u32;
+    pub fn fowlcredenza_request_aux(
+        request: *const u8,
+        request_len: usize,
+        out: *mut u8,
+        out_len: usize,
+        len: *mut u64,
+    ) -> u32;
+    pub fn fowlcredenza_request_proof(
+        request: *const u8,
+        request_len: usize,
+        out: *mut u8,
+        out_len: usize,
+        len: *mut u64,
+    ) -> u32;
+}

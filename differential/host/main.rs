@@ -9,6 +9,8 @@ mod changes;
 #[cfg_attr(not(originals), allow(dead_code))]
 mod exports;
 #[cfg(originals)]
+mod exports_request;
+#[cfg(originals)]
 mod exports_transaction;
 #[cfg(originals)]
 mod formats;

@@ -1,5 +1,5 @@
-// The fields of a `VerifierRequest` for programs in other languages. Each function returns the number of the request's reader, then
-// 5 where `out` is too short for what it hands out; a refusal leaves `out` and `len` as they were.
+// The fields of a `VerifierRequest` for programs in other languages. Each function returns the number of the request's reader,
+// then 5 where `out` is too short for what it hands out; a refusal leaves `out` and `len` as they were.
 use export_answers::store_words;
 use held_request::algorithm_id_of;
 use held_request::authorization_digest_of;

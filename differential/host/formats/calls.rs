@@ -139,7 +139,7 @@ impl Calls<'_> {
             Ok(bytes) => vec![
                 0,
                 self.prng.up_to(bytes.len()),
-                bytes.len() - 1,
+                bytes.len().saturating_sub(1),
                 bytes.len(),
                 bytes.len() + 1 + self.prng.up_to(40),
             ],
@@ -157,7 +157,7 @@ pub fn numbered<T>(answer: Result<T, ProtocolError>) -> Result<T, u32> {
 }
 
 /// Words as bytes.
-fn word_bytes(words: Vec<u64>) -> Vec<u8> {
+pub fn word_bytes(words: Vec<u64>) -> Vec<u8> {
     words.into_iter().flat_map(u64::to_le_bytes).collect()
 }
 

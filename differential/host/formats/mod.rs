@@ -2,6 +2,7 @@
 
 mod args;
 pub mod calls;
+mod held;
 mod proof;
 mod request;
 mod state;
@@ -16,7 +17,7 @@ use crate::report::Report;
 use calls::Calls;
 
 /// The numbers that each function can answer; a run meets all of them.
-const ANSWERS: [(&str, &[u32]); 16] = [
+const ANSWERS: [(&str, &[u32]); 21] = [
     ("is_supported_algorithm", &[0, 1]),
     ("capability_for_operation", &[0, 1, 2, 4]),
     ("parse_args", &[0, 20, 32]),
@@ -33,6 +34,11 @@ const ANSWERS: [(&str, &[u32]); 16] = [
     ("encode_verifier_request", &[0, 5, 7, 35, 37]),
     ("parse_public_key_proof", &[0, 36]),
     ("encode_public_key_proof", &[0, 5, 36, 39]),
+    ("request_numbers", &[0, 5, 32, 35, 37]),
+    ("request_authorization_digest", &[0, 5, 32, 35, 37]),
+    ("request_key_id", &[0, 5, 32, 35, 37]),
+    ("request_aux", &[0, 5, 32, 35, 37]),
+    ("request_proof", &[0, 5, 32, 35, 37]),
 ];
 
 pub fn run(report: &mut Report) {

@@ -1,6 +1,7 @@
-//! The verifier request: its reader and its writer.
+//! The verifier request: its reader, the request that holds its bytes, and its writer.
 
 use super::calls::{numbered, place, Calls, Words, DISAGREE};
+use super::held;
 use crate::changes;
 use crate::exports::{self, LentRequest};
 use crate::prng::Prng;
@@ -47,6 +48,7 @@ fn read(calls: &mut Calls, request: &[u8]) {
         words(request),
         exports::parse_verifier_request,
     );
+    held::fields(calls, request);
 }
 
 fn random(prng: &mut Prng, aux_len: usize, proof_len: usize) -> Request {
