@@ -1,16 +1,16 @@
-//! A small account, and scenes in which one proof spends from it and recovers it.
+//! A small account, and scenes in which one proof spends from it and recovers it; and the smallest accepted spend.
 
 use ckb_account_host::{
     account_lock_args, encode_state, encode_witness, AccountState, Authenticator, Proof,
 };
 use ckb_account_protocol::{
-    ALG_P256_WEBAUTHN, CAP_RECOVERY, CAP_ROTATE, CAP_SPEND, OP_RECOVERY, OP_SPEND,
+    ALG_P256_WEBAUTHN, CAP_RECOVERY, CAP_ROTATE, CAP_SPEND, OP_RECOVERY, OP_SPEND, PROFILE_V1,
     STATE_FLAG_RECOVERY_ENABLED, VERIFIER_ABI_V1,
 };
 use ckb_std::{Cell, Input, Scene};
 use ckb_types::molecule::{byte_vector, table};
 
-pub const ACCOUNT_ID: [u8; 32] = [0x11; 32];
+pub const ACCOUNT_ID: [u8; 32] = [0xac; 32];
 pub const SEQUENCE: u64 = 7;
 pub const RECOVERY_SINCE: u64 = 1000;
 pub const PROOF: &[u8] = b"proof";
@@ -110,6 +110,53 @@ pub fn recovery(since: u64) -> Scene {
         outputs: vec![plain_cell(), state_cell(SEQUENCE + 1)],
         deps: vec![plain_cell(), verifier_cell()],
         witnesses: vec![b"foreign".to_vec(), witness(OP_RECOVERY), b"extra".to_vec()],
+        ..spend()
+    }
+}
+
+/// A state of 113 bytes, the fewest: no recovery, and one authenticator with an aux of one byte, whose verifier is the cell
+/// with the account's id as its type hash.
+fn smallest_state() -> Vec<u8> {
+    let only = Authenticator {
+        capabilities: CAP_SPEND | CAP_ROTATE,
+        verifier_hash_type: 1,
+        verifier_code_hash: ACCOUNT_ID,
+        aux: vec![PROFILE_V1],
+        ..authenticator()
+    };
+    let state = AccountState {
+        flags: 0,
+        sequence: SEQUENCE,
+        spend_threshold: 1,
+        rotate_threshold: 1,
+        recovery_threshold: 0,
+        recovery_since: 0,
+        authenticators: vec![only],
+    };
+    encode_state(&state).expect("a valid state")
+}
+
+/// The smallest accepted spend: every field is as short as the reader and the lock allow, and the state's own dep is its
+/// verifier. Fields of the tables that the lock does not open are empty.
+pub fn smallest_spend() -> Scene {
+    let proof = Proof {
+        slot: authenticator().slot,
+        bytes: vec![0xaa],
+    };
+    let lock = encode_witness(OP_SPEND, SEQUENCE, &[proof]).expect("a valid witness lock");
+    let args = account_lock_args(&ACCOUNT_ID);
+    let state = Cell {
+        type_hash: Some(ACCOUNT_ID),
+        data_hash: [0x55; 32],
+        type_script: Some(vec![0x44]),
+        data: smallest_state(),
+    };
+    Scene {
+        script: table(&[&[], &[], &byte_vector(&args)]),
+        inputs: vec![input(true, 0, plain_cell())],
+        outputs: Vec::new(),
+        deps: vec![state],
+        witnesses: vec![table(&[&byte_vector(&lock), &[], &[]])],
         ..spend()
     }
 }

@@ -1,18 +1,20 @@
-//! Sample scenes as files: a spend, a rotation, a recovery, and one for each number of the reader and of the lock that a
-//! scene of up to 65,536 bytes gives, with the answer to each in `answers.txt`.
+//! Sample scenes as files: the smallest spend, a spend, a rotation and a recovery with two proofs each, and one for each
+//! number of the reader and of the lock that a scene of up to 65,536 bytes gives, with the answer to each in `answers.txt`.
 
 use super::faults::{build, rows, Row};
 use super::plan::Plan;
 use super::record::answer_line;
 use crate::prng::Prng;
+use crate::samples::smallest_spend;
 use crate::scene::{self, ENTRIES};
 use crate::{original, scene_text};
+use ckb_std::Scene;
 use std::{fs, io};
 
 const LONGEST: usize = 65_536;
 
 /// Names, operations and rows.
-const ACCEPTED: [(&str, u8); 3] = [("spend", 1), ("rotation", 2), ("recovery", 3)];
+const ACCEPTED: [(&str, u8); 3] = [("spend_two_proofs", 1), ("rotation", 2), ("recovery", 3)];
 const REFUSED: [(&str, u8, &str); 17] = [
     ("20_invalid_args", 1, "args of 32 bytes"),
     ("21_invalid_state", 1, "state has weight 0"),
@@ -50,16 +52,19 @@ impl Samples<'_> {
         fs::write(format!("{}/{name}.scene", self.folder), text)
     }
 
-    /// A scene of two entries with the faults of a row, and the original's answer.
-    fn lock(&mut self, name: &str, operation: u8, row: Option<&Row>) -> io::Result<Vec<u8>> {
+    /// A scene and the original's answer, which has this number.
+    fn scene(&mut self, name: &str, scene: &Scene, number: i8) -> io::Result<()> {
+        let outcome = original::lock(scene);
+        assert_eq!(outcome.number, number, "{name}");
+        self.write(name, &scene_text::text(scene), &answer_line(&outcome))
+    }
+
+    /// A scene of two entries with the faults of a row.
+    fn lock(&mut self, name: &str, operation: u8, row: Option<&Row>) -> io::Result<()> {
         let plan = Plan::full(&mut self.prng, operation, 2);
         let faults = row.map_or(&[][..], |row| &row.faults);
         let scene = build(&mut self.prng, plan, faults);
-        let outcome = original::lock(&scene);
-        assert_eq!(outcome.number, row.map_or(0, |row| row.number), "{name}");
-        let text = scene_text::text(&scene);
-        self.write(name, &text, &answer_line(&outcome))?;
-        Ok(text)
+        self.scene(name, &scene, row.map_or(0, |row| row.number))
     }
 
     /// A text that the reader refuses with this number.
@@ -92,11 +97,11 @@ pub fn write(folder: &str) -> io::Result<()> {
         answers: String::new(),
     };
     fs::create_dir_all(folder)?;
+    let smallest = smallest_spend();
+    samples.scene("spend", &smallest, 0)?;
+    samples.reader(&scene_text::text(&smallest))?;
     for (name, operation) in ACCEPTED {
-        let text = samples.lock(name, operation, None)?;
-        if operation == 1 {
-            samples.reader(&text)?;
-        }
+        samples.lock(name, operation, None)?;
     }
     for (name, operation, row) in REFUSED {
         samples.lock(name, operation, Some(named(row)))?;
