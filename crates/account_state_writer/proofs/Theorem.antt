@@ -160,6 +160,7 @@ module _ (s : List ℕ) (b : Bytes s) (h : Hold (stateRows s)) where
   unfolding encodeRows
   rows-hold = hold-append (sliceRows fields bytes) (stateRows (stateBytes r)) slices-hold (rw (state-back s b h) h)
 
+  -- what the reading lends fits the writer's types
   fits : StateFits r
   unfolding stateTotal stateReading
   fits =

@@ -47,6 +47,7 @@ readings-bytes s (suc n) off b =
     let len = numberAt s (off + 4) 4 in
     bytes-append (take len (drop (off + 8) s)) (bytesOf (proofReadings s n (off + 8 + len))) (bytes-take len (drop (off + 8) s) (bytes-drop (off + 8) s b)) (readings-bytes s n (off + 8 + len) b)
 
+-- what the reading lends fits the writer's types
 fits : (s : List ℕ) → Bytes s → Hold (witnessRows s) → WitnessFits (witnessReading s)
 unfolding witnessReading
 fits s b h =
