@@ -1,5 +1,5 @@
--- A state is accepted exactly where every check passes; then it has exactly one reading, the reader and its steps give that one,
--- and the slots of its entries rise strictly.
+-- A state, its header and each entry are accepted exactly where every check passes, and refused exactly with the first that fails;
+-- an accepted state has exactly one reading, the reader and its steps give that one, and the slots of its entries rise strictly.
 -- Assumes nothing.
 use mathlib.Core.Path.{_≡_, refl, sym, ap, _∙_}
 use mathlib.Core.List.{List}
@@ -20,13 +20,18 @@ use Rattle.protocol.specs.declared.check.Check.the-variants.{Passed, Failed}
 use Rattle.protocol.proofs.Hold.{passed-hold, hold-passed, hold-split}
 use Rattle.protocol.proofs.Answers.{answer-accepts, answer-refuses}
 use Rattle.account_state.specs.Reading.{stateBytes, lengthOf, slotOf, keyLengthOf, entryOf, entriesOf, stateReading, slotsOf, StateTyped}
-use Rattle.account_state.specs.State.{stateRows, stateFault, headerOf, summaryOf, stateAnswer, readState, entryRows, entriesRows, entryAt, firstEntry, cursorBehind, stepAnswer, entryStep, entryGiven, Steps, headRows, tailRows, layoutRows, headerAnswer, readHeader, HeaderGives}
+use Rattle.account_state.specs.State.{stateRows, stateFault, headerOf, summaryOf, stateAnswer, readState, entryRows, entriesRows, entryAt, firstEntry, cursorBehind, stepAnswer, entryStep, entryGiven, Steps, headRows, tailRows, layoutRows, headerAnswer, readHeader, HeaderGives, StateGives}
 use Rattle.account_state.specs.declared.header.StateHeader.{StateHeader}
-use Rattle.account_state.specs.declared.header.StateHeaderAnswer.the-variants.{Header}
+use Rattle.account_state.specs.declared.header.StateHeaderAnswer.{StateHeaderAnswer}
+use Rattle.account_state.specs.declared.header.StateHeaderAnswer.the-variants as header
+use Rattle.account_state.specs.declared.entry.AuthenticatorEntry.{AuthenticatorEntry}
+use Rattle.account_state.specs.declared.entry.EntryCursor.{EntryCursor}
+use Rattle.account_state.specs.declared.entry.EntryStep.{EntryStep}
+use Rattle.account_state.specs.declared.entry.EntryStep.the-variants as step
 use Rattle.account_state.specs.declared.walk.StateSummary.{StateSummary}
 use Rattle.account_state.specs.declared.StateAnswer.{StateAnswer}
 use Rattle.account_state.specs.declared.StateAnswer.the-variants.{Valid, Refused}
-use Rattle.account_state.proofs.Inverse.{state-back, state-typed, length-entries, parts}
+use Rattle.account_state.proofs.Inverse.{state-back, state-typed, length-entries}
 use Rattle.account_state.proofs.Unique.{state-read}
 
 -- what the checks found, by the answer
@@ -50,6 +55,53 @@ pub reader-refuses : (s : List ℕ) (e : ProtocolError) → (readState s ≡ Ref
 unfolding readState stateFault stateAnswer
 reader-refuses s e = answer-refuses (λ k. stateAnswer k (headerOf s) _) stateFound (state-found (headerOf s) _) (stateRows s) e
 
+-- the header, likewise
+abbrev headerFound : StateHeaderAnswer → Check
+headerFound (header.Header h) = Passed
+headerFound (header.Refused e) = Failed e
+
+-- which is what it was made from
+header-found : (h : StateHeader) (k : Check) → headerFound (headerAnswer k h) ≡ k
+unfolding headerAnswer
+header-found h Passed = refl
+header-found h (Failed e) = refl
+
+-- accepted exactly where every check of the header passes
+pub header-accepts : (s : List ℕ) → (readHeader s ≡ header.Header (headerOf s)) ↔ Hold (headRows s)
+unfolding readHeader headerAnswer
+header-accepts s = answer-accepts (λ k. headerAnswer k (headerOf s)) headerFound (header-found (headerOf s)) (headRows s)
+
+-- refused exactly with the first that fails
+pub header-refuses : (s : List ℕ) (e : ProtocolError) → (readHeader s ≡ header.Refused e) ↔ First (headRows s) e
+unfolding readHeader headerAnswer
+header-refuses s e = answer-refuses (λ k. headerAnswer k (headerOf s)) headerFound (header-found (headerOf s)) (headRows s) e
+
+-- and a step
+abbrev stepFound : EntryStep → Check
+stepFound (step.Entry e c) = Passed
+stepFound (step.Refused x) = Failed x
+
+-- which is what it was made from
+step-found : (e : AuthenticatorEntry) (c : EntryCursor) (k : Check) → stepFound (stepAnswer k e c) ≡ k
+unfolding stepAnswer
+step-found e c Passed = refl
+step-found e c (Failed x) = refl
+
+module _ (s : List ℕ) (c : EntryCursor) where
+  -- by what its checks found
+  abbrev stepBy : Check → EntryStep
+  stepBy k = stepAnswer k (entryAt s (c .offset)) (cursorBehind s (c .offset))
+
+  -- accepted exactly where every check of the entry passes
+  pub step-accepts : (entryStep s c ≡ step.Entry (entryAt s (c .offset)) (cursorBehind s (c .offset))) ↔ Hold (entryRows (drop (c .offset) s) (c .least))
+  unfolding entryStep stepAnswer
+  step-accepts = answer-accepts stepBy stepFound (step-found _ _) (entryRows (drop (c .offset) s) (c .least))
+
+  -- refused exactly with the first that fails
+  pub step-refuses : (x : ProtocolError) → (entryStep s c ≡ step.Refused x) ↔ First (entryRows (drop (c .offset) s) (c .least)) x
+  unfolding entryStep stepAnswer
+  step-refuses x = answer-refuses stepBy stepFound (step-found _ _) (entryRows (drop (c .offset) s) (c .least)) x
+
 -- the one reading
 pub state-one : (s : List ℕ) → Bytes s → Hold (stateRows s) → OneReading StateTyped stateBytes s (stateReading s)
 state-one s b h =
@@ -70,7 +122,7 @@ header-of s =
     }
 
 -- an answer that gives a header gives the one it was made from
-header-same : (k : Check) (g h : StateHeader) → headerAnswer k g ≡ Header h → g ≡ h
+header-same : (k : Check) (g h : StateHeader) → headerAnswer k g ≡ header.Header h → g ≡ h
 unfolding headerAnswer
 header-same Passed g h e = cc
 header-same (Failed x) g h e = absurd (let z : _≡_ {A = ℕ} 0 1 = cc in omega arith)
@@ -82,17 +134,9 @@ valid-same Passed g h t u e = (cc, cc)
 valid-same (Failed x) g h t u e = absurd (let z : _≡_ {A = ℕ} 0 1 = cc in omega arith)
 
 -- the header that the header's reader hands out has the reading's fields
-pub header-gives : (s : List ℕ) (h : StateHeader) → readHeader s ≡ Header h → HeaderGives s h
+pub header-gives : (s : List ℕ) (h : StateHeader) → readHeader s ≡ header.Header h → HeaderGives s h
 unfolding readHeader
 header-gives s h e = rw (sym (header-same _ (headerOf s) h e)) (header-of s)
-
--- so has the one of a valid state, with the weights of its entries
-pub valid-gives : (s : List ℕ) (h : StateHeader) (t : StateSummary) → readState s ≡ Valid h t
-    → HeaderGives s h × (summaryOf (stateReading s .entries) ≡ t)
-unfolding readState stateReading
-valid-gives s h t e =
-    let z = valid-same _ (headerOf s) h _ t e in
-    (rw (sym (z .0)) (header-of s), z .1)
 
 -- the slots of entries whose rows pass rise strictly
 entries-rising : (n : ℕ) (e : List ℕ) (least : ℕ) → Hold (entriesRows n e least) → Rising least (slotsOf (entriesOf n e))
@@ -127,9 +171,11 @@ steps-from s (suc n) at least h =
     (entryAt s at, (cursorBehind s at, (rw (hold-passed _ (p .0)), (given s at, rw (drop-drop (lengthOf (drop at s)) at s) r))))
 
 -- where a state is accepted, the steps hand out its entries in order
-pub state-steps : (s : List ℕ) (b : Bytes s) → Hold (stateRows s) → Steps s (numberAt s 22 1) firstEntry (stateReading s .entries)
-unfolding stateReading
-state-steps s b h = steps-from s (numberAt s 22 1) 32 0 (parts s b h .1 .0)
+pub state-steps : (s : List ℕ) → Hold (stateRows s) → Steps s (numberAt s 22 1) firstEntry (stateReading s .entries)
+unfolding stateRows stateReading
+state-steps s h =
+    let n = numberAt s 22 1 in
+    steps-from s n 32 0 (hold-split (entriesRows n (drop 32 s) 0) (tailRows s n (drop 32 s)) (hold-split (headRows s) _ h .1) .0)
 
 -- what an answer says of the checks
 pub valid-fault : (s : List ℕ) (h : StateHeader) (t : StateSummary) → readState s ≡ Valid h t → stateFault s ≡ Passed
@@ -140,3 +186,11 @@ valid-fault s h t e = sym (state-found _ _ (stateFault s)) ∙ ap stateFound e
 pub refused-fault : (s : List ℕ) (x : ProtocolError) → readState s ≡ Refused x → stateFault s ≡ Failed x
 unfolding readState
 refused-fault s x e = sym (state-found _ _ (stateFault s)) ∙ ap stateFound e
+
+-- a state that the reader accepts passes every check, and what the readers hand out is its one reading
+pub valid-gives : (s : List ℕ) (h : StateHeader) (t : StateSummary) → readState s ≡ Valid h t → Hold (stateRows s) × StateGives s h t
+unfolding readState stateFault stateReading headerOf
+valid-gives s h t e =
+    let z = valid-same _ (headerOf s) h _ t e in
+    let p = passed-hold (stateRows s) (valid-fault s h t e) in
+    (p, rw (sym (z .0)) (record { header = header-of s; weights = z .1; entries = state-steps s p }))

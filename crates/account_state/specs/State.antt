@@ -205,6 +205,13 @@ stateAnswer (Failed e) h t = answer.Refused e
 unfoldable pub readState : List ℕ → StateAnswer
 readState s = stateAnswer (stateFault s) (headerOf s) (summaryOf (entriesOf (numberAt s 22 1) (drop 32 s)))
 
+-- what the readers hand out of a state, with the header h and the weights t of its answer, is its reading: the header's fields, the
+-- weights of the entries, and at each step the next entry
+pub record StateGives (s : List ℕ) (h : StateHeader) (t : StateSummary) : Type 0 where
+  pub header : HeaderGives s h
+  pub weights : summaryOf (stateReading s .entries) ≡ t
+  pub entries : Steps s (h .«authenticator_count») firstEntry (stateReading s .entries)
+
 -- document 01's number of each answer, 0 where it is accepted
 abbrev pub headerNumber : StateHeaderAnswer → ℕ
 headerNumber (header.Header h) = 0

@@ -1,27 +1,27 @@
--- The writer, lent the slices of an accepted state's reading, writes the state back or refuses a buffer that is too short with 5.
+-- The writer can be lent an accepted state's reading, and then writes the state back or refuses a buffer that is too short with 5.
 -- Assumes nothing.
 use mathlib.Core.Path.{_≡_, refl, sym, ap, _∙_}
 use mathlib.Core.Bool.{true}
 use mathlib.Core.List.{List, [], _∷_, _++_, append-assoc}
-use Prim.Native.Nat.{ℕ, zero, suc, _+_, _*_, _/_, _%_, _≤_}
+use Prim.Native.Nat.{ℕ, zero, suc, _+_, _*_, _/_, _%_, _^_, _≤_, _<_}
 use native.Mathlib.Omega.{arith}
 use borrow.Author.Tests.{eq-eqb, le-leb}
-use lib.Dec.{leb, eqb}
+use lib.Dec.{leb, eqb, lit<}
 use lib.ListN.{length, take, drop, getD, length-append}
 use lib.Seq.{drop-at, take-at}
 use Rattle.octets.specs.Le.{numberAt, Bytes}
 use Rattle.octets.specs.Table.{numbers}
 use Rattle.octets.proofs.TableLaws.{length-numbers}
-use Rattle.octets.proofs.LeLaws.{number-one}
+use Rattle.octets.proofs.LeLaws.{number-one, number-lt, bytes-take, bytes-drop, bytes-append}
 use Rattle.octets.proofs.Parts.{part-back}
 use Rattle.protocol.specs.Rows.{Hold}
 use Rattle.protocol.specs.Reading.{WritesBack}
 use Rattle.protocol.proofs.Hold.{hold-append}
 use Rattle.protocol.proofs.Back.{writes-back}
-use Rattle.account_state.specs.Reading.{EntryReading, StateReading, EntryTyped, EntriesTyped, entryHead, entryLengths, entryBytes, entriesBytes, stateHead, stateBytes, stateReading}
+use Rattle.account_state.specs.Reading.{EntryReading, StateReading, EntryTyped, EntriesTyped, entryHead, entryLengths, entryBytes, entriesBytes, stateHead, stateBytes, lengthOf, keyLengthOf, auxLengthOf, entryOf, entriesOf, stateReading}
 use Rattle.account_state.specs.State.{stateRows}
 use Rattle.account_state.proofs.Inverse.{Keys, state-back, state-typed, state-keys, state-limits}
-use Rattle.account_state_writer.specs.Writer.{auxOf, entryFrom, entriesFrom, neededBytes, entryCount, stateTotal, sliceRows, encodeRows, stateFrom, stateWritten, stateStored, fieldsOf, bytesOf}
+use Rattle.account_state_writer.specs.Writer.{auxOf, entryFrom, entriesFrom, neededBytes, entryCount, stateTotal, sliceRows, encodeRows, stateFrom, stateWritten, stateStored, fieldsOf, bytesOf, StateFits}
 use Rattle.account_state_writer.proofs.Lent.{length-head}
 
 -- the first entry's part of the bytes
@@ -85,6 +85,36 @@ length-written (e ∷ es) y k =
     let m : length (numbers (entryLengths e)) ≡ 4 = length-numbers (entryLengths e) in
     simp length-append (omega (arith, r, n, m, y .0 .codeHash, k .0))
 
+-- the fields of entries whose numbers fit are u16
+fields-fit : (es : List EntryReading) → EntriesTyped es → (i : ℕ) → getD (fieldsOf es) i 0 < 2 ^ 16
+unfolding fieldsOf
+fields-fit [] y i = lit< tt
+fields-fit (e ∷ es) y zero = y .0 .slot
+fields-fit (e ∷ es) y (suc zero) = y .0 .algorithm
+fields-fit (e ∷ es) y (suc (suc zero)) = y .0 .capabilities
+fields-fit (e ∷ es) y (suc (suc (suc zero))) = y .0 .weight
+fields-fit (e ∷ es) y (suc (suc (suc (suc zero)))) = omega (arith, y .0 .size)
+fields-fit (e ∷ es) y (suc (suc (suc (suc (suc i))))) = fields-fit es (y .1) i
+
+-- what entries that are read from bytes lend are bytes
+two-bytes : (x y : ℕ) → x < 256 → y < 256 → Bytes (x ∷ y ∷ [])
+two-bytes x y h k zero = h
+two-bytes x y h k (suc zero) = k
+two-bytes x y h k (suc (suc i)) = lit< tt
+
+entries-bytes : (n : ℕ) (e : List ℕ) → Bytes e → Bytes (bytesOf (entriesOf n e))
+unfolding bytesOf entriesOf entryOf
+entries-bytes zero e b = λ i. lit< tt
+entries-bytes (suc n) e b =
+    let part : (k at : ℕ) → Bytes (take k (drop at e)) = λ k at. bytes-take k (drop at e) (bytes-drop at e b) in
+    let later = bytesOf (entriesOf n (drop (lengthOf e) e)) in
+    let l : Bytes later = entries-bytes n (drop (lengthOf e) e) (bytes-drop (lengthOf e) e b) in
+    let x = entryOf e in
+    let a : Bytes (x .aux ++ later) = bytes-append (x .aux) later (part (auxLengthOf e) (48 + keyLengthOf e)) l in
+    let k : Bytes (x .key ++ (x .aux ++ later)) = bytes-append (x .key) (x .aux ++ later) (part (keyLengthOf e) 48) a in
+    let c : Bytes (x .codeHash ++ (x .key ++ (x .aux ++ later))) = bytes-append (x .codeHash) (x .key ++ (x .aux ++ later)) (part 32 12) k in
+    bytes-append (x .hashType ∷ x .abi ∷ []) (x .codeHash ++ (x .key ++ (x .aux ++ later))) (two-bytes (x .hashType) (x .abi) (number-lt e 10 1 b) (number-lt e 11 1 b)) c
+
 module _ (s : List ℕ) (b : Bytes s) (h : Hold (stateRows s)) where
   abbrev r : StateReading
   r = stateReading s
@@ -130,7 +160,32 @@ module _ (s : List ℕ) (b : Bytes s) (h : Hold (stateRows s)) where
   unfolding encodeRows
   rows-hold = hold-append (sliceRows fields bytes) (stateRows (stateBytes r)) slices-hold (rw (state-back s b h) h)
 
-  -- The writer, lent these slices, writes the state back.
-  pub state-writes-back : WritesBack (stateWritten r fields bytes) (stateStored r fields bytes) s
+  -- what the reading lends fits the writer's types
+  fits : StateFits r
+  unfolding stateTotal stateReading
+  fits =
+      let y = state-typed s b h in
+      let m = state-limits s b h in
+      let l = length-fields (r .entries) in
+      let t = total in
+      record {
+        flags = y .flags;
+        sequence = y .sequence;
+        spend = y .spend;
+        rotate = y .rotate;
+        recovery = y .recovery;
+        since = y .since;
+        fields = fields-fit (r .entries) (y .entries);
+        bytes = entries-bytes (numberAt s 22 1) (drop 32 s) (bytes-drop 32 s b);
+        lengths = (omega arith, omega arith);
+      }
+
+  -- The writer can be lent what the reading says, and writes the state back.
+  pub state-writes-back : StateFits r
+      × WritesBack
+      (stateWritten (stateFrom (r .flags) (r .sequence) (r .spend) (r .rotate) (r .recovery) (r .since) fields bytes) fields bytes)
+      (stateStored (stateFrom (r .flags) (r .sequence) (r .spend) (r .rotate) (r .recovery) (r .since) fields bytes) fields bytes)
+      s
   unfolding stateWritten stateStored
-  state-writes-back = writes-back (encodeRows r fields bytes) (stateBytes r) (stateTotal fields bytes) s rows-hold (state-back s b h) total
+  state-writes-back =
+      (fits, rw state-lent (writes-back (encodeRows r fields bytes) (stateBytes r) (stateTotal fields bytes) s rows-hold (state-back s b h) total))

@@ -1,11 +1,11 @@
 -- The writer of account states: host/src/lib.rs, `encode_state`, over lent slices of numbers and bytes.
 -- `fields` has five numbers for each entry: slot, algorithm, capabilities, weight, length of aux. `bytes` has each entry's hash
 -- type, ABI, code hash (32 bytes), key (32 bytes) and aux, end to end.
-use Prim.Native.Nat.{ℕ, zero, suc, _+_, _*_, _/_, _%_}
+use Prim.Native.Nat.{ℕ, zero, suc, _+_, _*_, _/_, _%_, _^_, _<_}
 use mathlib.Core.List.{List, [], _∷_, _++_}
 use lib.Dec.{leb, eqb}
 use lib.ListN.{length, take, drop, getD}
-use Rattle.octets.specs.Le.{numberAt}
+use Rattle.octets.specs.Le.{numberAt, Bytes}
 use Rattle.octets.specs.Table.{Number, numbers}
 use Rattle.protocol.specs.Rows.{Row, row}
 use Rattle.protocol.specs.Write.{writeFault, writeAnswer, afterWrite}
@@ -115,3 +115,16 @@ fieldsOf (e ∷ es) = e .slot ∷ e .algorithm ∷ e .capabilities ∷ e .weight
 unfoldable pub bytesOf : List EntryReading → List ℕ
 bytesOf [] = []
 bytesOf (e ∷ es) = (e .hashType ∷ e .abi ∷ []) ++ (e .codeHash ++ (e .key ++ (e .aux ++ bytesOf es)))
+
+-- what a reading lends the writer are values of the types of its parameters: u8, u64, u16, and slices of u16 and of bytes whose
+-- lengths a usize holds
+pub record StateFits (r : StateReading) : Type 0 where
+  pub flags : r .flags < 2 ^ 8
+  pub sequence : r .sequence < 2 ^ 64
+  pub spend : r .spend < 2 ^ 16
+  pub rotate : r .rotate < 2 ^ 16
+  pub recovery : r .recovery < 2 ^ 16
+  pub since : r .since < 2 ^ 64
+  pub fields : (i : ℕ) → getD (fieldsOf (r .entries)) i 0 < 2 ^ 16
+  pub bytes : Bytes (bytesOf (r .entries))
+  pub lengths : (length (fieldsOf (r .entries)) < 2 ^ 64) × (length (bytesOf (r .entries)) < 2 ^ 64)

@@ -1,17 +1,18 @@
--- The reader accepts exactly where every row passes; else it gives the refusal of the first row that fails, which is 22.
+-- Each reader accepts exactly where every row passes, and refuses exactly with the first row that fails; every refusal is 22.
 -- Assumes nothing.
-use mathlib.Core.Path.{_≡_, refl, sym, ap, _∙_}
-use mathlib.Core.List.{List, [], _∷_, _++_}
-use mathlib.Core.Logic.{_↔_, inl, inr}
+use mathlib.Core.Path.{_≡_, refl}
+use mathlib.Core.List.{List}
+use mathlib.Core.Logic.{_↔_}
 use Prim.Native.Nat.{ℕ, zero, suc}
 use Rattle.octets.specs.Le.{numberAt}
 use Rattle.protocol.specs.Errors.{errorNumber}
-use Rattle.protocol.specs.Rows.{Row, decide, Hold, First}
+use Rattle.protocol.specs.Rows.{decide, Hold, First}
 use Rattle.protocol.specs.declared.error.ProtocolError.{ProtocolError}
-use Rattle.protocol.specs.declared.error.ProtocolError.the-variants.{InvalidWitness}
 use Rattle.protocol.specs.declared.check.Check.{Check}
 use Rattle.protocol.specs.declared.check.Check.the-variants.{Passed, Failed}
-use Rattle.protocol.proofs.Answers.{answer-accepts, answer-refuses}
+use Rattle.protocol.proofs.Hold.{passed-hold}
+use Rattle.protocol.proofs.Answers.{answer-found, answer-given, answer-accepts, answer-refuses}
+use Rattle.protocol.proofs.Each.{Each, each-append, each-failed}
 use Rattle.account_witness.specs.declared.header.AccountWitnessHeader.{AccountWitnessHeader}
 use Rattle.account_witness.specs.declared.header.WitnessHeaderAnswer.{WitnessHeaderAnswer}
 use Rattle.account_witness.specs.declared.header.WitnessHeaderAnswer.the-variants as header
@@ -25,43 +26,27 @@ use Rattle.account_witness.specs.Header.{headerRows, headerFault, header
 use Rattle.account_witness.specs.Walk.{proofRows, proofAt, cursorBehind, proofStep, stepAnswer, proofsRows}
 use Rattle.account_witness.specs.Witness.{witnessRows, witnessFault, witnessAnswer, readWitness}
 
--- every row's refusal is 22
-abbrev Only22 : List Row → Type 0
-Only22 [] = Unit {0}
-Only22 (r ∷ rs) = (r .error ≡ InvalidWitness) × Only22 rs
+-- the refusal is 22
+abbrev Is22 : ProtocolError → Type 0
+Is22 e = errorNumber e ≡ 22
 
--- so it is for two lists one after another
-only-append : (ps qs : List Row) → Only22 ps → Only22 qs → Only22 (ps ++ qs)
-only-append [] qs h k = k
-only-append (p ∷ ps) qs h k = (h .0, only-append ps qs (h .1) k)
-
--- and so is the first refusal
-only-first : (rs : List Row) (e : ProtocolError) → Only22 rs → First rs e → errorNumber e ≡ 22
-only-first [] e h f = absurd f
-only-first (r ∷ rs) e h (inl f) = ap errorNumber (sym (f .1) ∙ h .0)
-only-first (r ∷ rs) e h (inr p) = only-first rs e (h .1) (p .1)
-
--- the rows of the header, of a proof, of the proofs, and all
-header-only : (s : List ℕ) → Only22 (headerRows s)
+-- so it is for each row of the header, of a proof, of the proofs, and of all
+header-only : (s : List ℕ) → Each Is22 (headerRows s)
 unfolding headerRows
 header-only s = (refl, (refl, (refl, (refl, (refl, (refl, tt))))))
 
-proof-only : (s : List ℕ) (off least : ℕ) → Only22 (proofRows s off least)
+proof-only : (s : List ℕ) (off least : ℕ) → Each Is22 (proofRows s off least)
 unfolding proofRows
 proof-only s off least = (refl, (refl, (refl, (refl, (refl, tt)))))
 
-proofs-only : (s : List ℕ) (n off least : ℕ) → Only22 (proofsRows s n off least)
+proofs-only : (s : List ℕ) (n off least : ℕ) → Each Is22 (proofsRows s n off least)
 unfolding proofsRows
 proofs-only s zero off least = (refl, tt)
-proofs-only s (suc n) off least = only-append (proofRows s off least) _ (proof-only s off least) (proofs-only s n _ _)
+proofs-only s (suc n) off least = each-append Is22 (proofRows s off least) _ (proof-only s off least) (proofs-only s n _ _)
 
-witness-only : (s : List ℕ) → Only22 (witnessRows s)
+witness-only : (s : List ℕ) → Each Is22 (witnessRows s)
 unfolding witnessRows
-witness-only s = only-append (headerRows s) _ (header-only s) (refl, proofs-only s (numberAt s 6 1) 16 0)
-
--- a refusal that says which row failed first, where every row's is 22
-refused-22 : (rs : List Row) (e : ProtocolError) → Only22 rs → First rs e → First rs e × (errorNumber e ≡ 22)
-refused-22 rs e o f = (f, only-first rs e o f)
+witness-only s = each-append Is22 (headerRows s) _ (header-only s) (refl, proofs-only s (numberAt s 6 1) 16 0)
 
 -- the header: what the checks found, by the answer
 abbrev pub headerFound : WitnessHeaderAnswer → Check
@@ -84,11 +69,24 @@ pub header-accepted : (s : List ℕ) → (readHeader s ≡ header.Header (header
 unfolding readHeader headerFault headerAnswer
 header-accepted s = answer-accepts (λ k. headerAnswer k (headerAt s)) headerFound (header-back (headerAt s)) (headerRows s)
 
--- refused with the first that fails, which is 22
-pub header-refused : (s : List ℕ) (e : ProtocolError) → readHeader s ≡ header.Refused e → First (headerRows s) e × (errorNumber e ≡ 22)
+-- refused exactly with the first that fails,
+pub header-refused : (s : List ℕ) (e : ProtocolError) → (readHeader s ≡ header.Refused e) ↔ First (headerRows s) e
 unfolding readHeader headerFault headerAnswer
-header-refused s e h =
-    refused-22 (headerRows s) e (header-only s) (answer-refuses (λ k. headerAnswer k (headerAt s)) headerFound (header-back (headerAt s)) (headerRows s) e .0 h)
+header-refused s e = answer-refuses (λ k. headerAnswer k (headerAt s)) headerFound (header-back (headerAt s)) (headerRows s) e
+
+-- which is 22
+pub header-22 : (s : List ℕ) (e : ProtocolError) → readHeader s ≡ header.Refused e → errorNumber e ≡ 22
+unfolding readHeader headerFault headerAnswer
+header-22 s e h =
+    each-failed Is22 (headerRows s) e (header-only s) (answer-found (λ k. headerAnswer k (headerAt s)) headerFound (header-back (headerAt s)) _ (Failed e) h)
+
+-- a header that is given is the one at the front of the bytes
+pub header-answered : (s : List ℕ) (h : AccountWitnessHeader) → readHeader s ≡ header.Header h → Hold (headerRows s) × (headerAt s ≡ h)
+unfolding readHeader headerFault headerAnswer
+header-answered s h e =
+    let z = answer-given (λ k. headerAnswer k (headerAt s)) headerFound (header-back (headerAt s)) (decide Passed (headerRows s)) (header.Header h) e refl in
+    let q : header.Header (headerAt s) ≡ header.Header h = z .1 in
+    (passed-hold (headerRows s) (z .0), cc)
 
 -- a step, likewise
 abbrev pub stepFound : ProofStep → Check
@@ -111,11 +109,16 @@ module _ (s : List ℕ) (c : ProofCursor) where
   unfolding proofStep stepAnswer
   step-accepted = answer-accepts stepBy stepFound (step-back _ _) (proofRows s (c .offset) (c .least))
 
-  -- refused with the first that fails, which is 22
-  pub step-refusal : (e : ProtocolError) → proofStep s c ≡ step.Refused e → First (proofRows s (c .offset) (c .least)) e × (errorNumber e ≡ 22)
+  -- refused exactly with the first that fails,
+  pub step-refusal : (e : ProtocolError) → (proofStep s c ≡ step.Refused e) ↔ First (proofRows s (c .offset) (c .least)) e
   unfolding proofStep stepAnswer
-  step-refusal e h =
-      refused-22 (proofRows s (c .offset) (c .least)) e (proof-only s (c .offset) (c .least)) (answer-refuses stepBy stepFound (step-back _ _) (proofRows s (c .offset) (c .least)) e .0 h)
+  step-refusal e = answer-refuses stepBy stepFound (step-back _ _) (proofRows s (c .offset) (c .least)) e
+
+  -- which is 22
+  pub step-22 : (e : ProtocolError) → proofStep s c ≡ step.Refused e → errorNumber e ≡ 22
+  unfolding proofStep stepAnswer
+  step-22 e h =
+      each-failed Is22 (proofRows s (c .offset) (c .least)) e (proof-only s (c .offset) (c .least)) (answer-found stepBy stepFound (step-back _ _) _ (Failed e) h)
 
 -- the whole, likewise
 abbrev witnessFound : WitnessAnswer → Check
@@ -133,8 +136,21 @@ pub witness-accepted : (s : List ℕ) → (readWitness s ≡ witness.Witness (he
 unfolding readWitness witnessFault witnessAnswer
 witness-accepted s = answer-accepts (λ k. witnessAnswer k (headerAt s)) witnessFound (witness-back (headerAt s)) (witnessRows s)
 
--- refused with the first that fails, which is 22
-pub witness-refused : (s : List ℕ) (e : ProtocolError) → readWitness s ≡ witness.Refused e → First (witnessRows s) e × (errorNumber e ≡ 22)
+-- refused exactly with the first that fails,
+pub witness-refused : (s : List ℕ) (e : ProtocolError) → (readWitness s ≡ witness.Refused e) ↔ First (witnessRows s) e
 unfolding readWitness witnessFault witnessAnswer
-witness-refused s e h =
-    refused-22 (witnessRows s) e (witness-only s) (answer-refuses (λ k. witnessAnswer k (headerAt s)) witnessFound (witness-back (headerAt s)) (witnessRows s) e .0 h)
+witness-refused s e = answer-refuses (λ k. witnessAnswer k (headerAt s)) witnessFound (witness-back (headerAt s)) (witnessRows s) e
+
+-- which is 22
+pub witness-22 : (s : List ℕ) (e : ProtocolError) → readWitness s ≡ witness.Refused e → errorNumber e ≡ 22
+unfolding readWitness witnessFault witnessAnswer
+witness-22 s e h =
+    each-failed Is22 (witnessRows s) e (witness-only s) (answer-found (λ k. witnessAnswer k (headerAt s)) witnessFound (witness-back (headerAt s)) _ (Failed e) h)
+
+-- a header that is given is the one at the front of the bytes
+pub witness-answered : (s : List ℕ) (h : AccountWitnessHeader) → readWitness s ≡ witness.Witness h → Hold (witnessRows s) × (headerAt s ≡ h)
+unfolding readWitness witnessFault witnessAnswer
+witness-answered s h e =
+    let z = answer-given (λ k. witnessAnswer k (headerAt s)) witnessFound (witness-back (headerAt s)) (decide Passed (witnessRows s)) (witness.Witness h) e refl in
+    let q : witness.Witness (headerAt s) ≡ witness.Witness h = z .1 in
+    (passed-hold (witnessRows s) (z .0), cc)

@@ -1,6 +1,6 @@
 -- The walk unrolled: the i-th step hands out the i-th proof of the reading, and the last cursor is at the end.
 -- Assumes nothing.
-use mathlib.Core.Path.{_≡_, refl}
+use mathlib.Core.Path.{_≡_, refl, ap, _∙_}
 use mathlib.Core.List.{List, _∷_, _++_}
 use Prim.Native.Nat.{ℕ, zero, suc, _+_, _<_}
 use native.Mathlib.Nat.{add-zero, zero-add}
@@ -70,6 +70,11 @@ pub step-on : (s : List ℕ) (i : ℕ) (p : Proof) (d : ProofCursor) → proofSt
     → (proofAt s (cursorAt s i .offset) ≡ p) × (cursorAt s (suc i) ≡ d)
 unfolding cursorAt
 step-on s i p d h = let z = step-next s (cursorAt s i) p d h in (z .1, z .2)
+
+-- so that what it hands out reads as the i-th proof, whatever follows
+pub step-given : (s : List ℕ) (i : ℕ) (p : Proof) (d : ProofCursor) → i < numberAt s 6 1 → proofStep s (cursorAt s i) ≡ Next p d
+    → (q : ProofReading) → getD (witnessReading s .proofs) i q ≡ proofReading s p
+step-given s i p d l h q = reading-at s q i l ∙ ap (proofReading s) (step-on s i p d h .0)
 
 -- in an accepted witness lock each step goes on, with its proof of the reading
 pub steps : (s : List ℕ) → Hold (witnessRows s) → (i : ℕ) → i < numberAt s 6 1 → HandsOut s i

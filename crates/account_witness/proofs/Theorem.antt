@@ -1,17 +1,22 @@
--- Witness locks of at most 16 proofs: each that is accepted has exactly one reading, whose fields the reader gives. Where one is
+-- Witness locks of at most 16 proofs: each that is accepted has exactly one reading, and the readers give that one. Where one is
 -- accepted, and that a refusal is 22, is in Accepted; that the steps hand out the reading's proofs in order, in Steps.
 -- Assumes nothing.
-use mathlib.Core.Path.{refl, sym, ap, _∙_}
+use mathlib.Core.Path.{_≡_, refl, sym, ap, _∙_}
 use mathlib.Core.List.{List}
 use Prim.Native.Nat.{ℕ}
 use Rattle.octets.specs.Le.{Bytes}
 use Rattle.protocol.specs.Rows.{Hold}
 use Rattle.protocol.specs.Reading.{OneReading}
-use Rattle.account_witness.specs.Header.{headerAt}
-use Rattle.account_witness.specs.Witness.{witnessRows}
-use Rattle.account_witness.specs.Reading.{witnessBytes, witnessReading, WitnessTyped, HeaderGives}
+use Rattle.account_witness.specs.declared.header.AccountWitnessHeader.{AccountWitnessHeader}
+use Rattle.account_witness.specs.declared.header.WitnessHeaderAnswer.the-variants.{Header}
+use Rattle.account_witness.specs.declared.witness.WitnessAnswer.the-variants.{Witness}
+use Rattle.account_witness.specs.Header.{headerAt, readHeader}
+use Rattle.account_witness.specs.Witness.{witnessRows, readWitness}
+use Rattle.account_witness.specs.Reading.{witnessBytes, witnessReading, WitnessTyped, HeaderGives, WitnessGives}
+use Rattle.account_witness.proofs.Accepted.{header-answered, witness-answered}
 use Rattle.account_witness.proofs.Inverse.{witness-back, witness-typed, length-readings}
 use Rattle.account_witness.proofs.Unique.{witness-read}
+use Rattle.account_witness.proofs.Steps.{steps, steps-end}
 
 -- exactly one reading
 pub witness-one : (s : List ℕ) → Bytes s → Hold (witnessRows s) → OneReading WitnessTyped witnessBytes s (witnessReading s)
@@ -22,7 +27,18 @@ witness-one s b h =
       unique = λ q t e. sym (witness-read q t) ∙ ap witnessReading e;
     }
 
--- the header that the reader gives has the reading's fields
-pub header-gives : (s : List ℕ) → HeaderGives s
+-- the fields at the front of the bytes are the reading's
+header-of : (s : List ℕ) → HeaderGives s (headerAt s)
 unfolding headerAt witnessReading
-header-gives s = record { operation = refl; sequence = refl; count = sym (length-readings s _ 16) }
+header-of s = record { operation = refl; sequence = refl; count = sym (length-readings s _ 16) }
+
+-- the header that the header's reader hands out has the reading's fields
+pub header-gives : (s : List ℕ) (h : AccountWitnessHeader) → readHeader s ≡ Header h → HeaderGives s h
+header-gives s h e = rw (sym (header-answered s h e .1)) (header-of s)
+
+-- a witness lock that the reader accepts passes every check, and what the readers hand out is its one reading
+pub witness-given : (s : List ℕ) (h : AccountWitnessHeader) → readWitness s ≡ Witness h → Hold (witnessRows s) × WitnessGives s h
+unfolding headerAt
+witness-given s h e =
+    let z = witness-answered s h e in
+    (z .0, rw (sym (z .1)) (record { header = header-of s; proofs = steps s (z .0); ended = steps-end s (z .0) }))

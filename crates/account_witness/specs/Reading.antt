@@ -7,9 +7,10 @@ use lib.ListN.{length, take, drop, getD}
 use Rattle.octets.specs.Le.{numberAt}
 use Rattle.octets.specs.Lists.{joined}
 use Rattle.octets.specs.Table.{Number, numbers}
+use Rattle.account_witness.specs.declared.header.AccountWitnessHeader.{AccountWitnessHeader}
 use Rattle.account_witness.specs.declared.walk.Proof.{Proof}
 use Rattle.account_witness.specs.declared.walk.ProofStep.the-variants.{Next}
-use Rattle.account_witness.specs.Header.{headerTable, headerAt}
+use Rattle.account_witness.specs.Header.{headerTable}
 use Rattle.account_witness.specs.Walk.{proofAt, proofStep, cursorAt}
 
 pub record ProofReading : Type 0 where
@@ -62,14 +63,21 @@ pub record WitnessTyped (r : WitnessReading) : Type 0 where
   pub count : length (r .proofs) < 256 ^ 1
   pub proofs : ProofsTyped (r .proofs)
 
--- the header that the reader gives has the reading's fields and the count of its proofs
-pub record HeaderGives (s : List ℕ) : Type 0 where
-  pub operation : headerAt s .operation ≡ witnessReading s .operation
-  pub sequence : headerAt s .«state_sequence» ≡ witnessReading s .sequence
-  pub count : headerAt s .«proof_count» ≡ length (witnessReading s .proofs)
+-- the header that a reader gives has the reading's fields and the count of its proofs
+pub record HeaderGives (s : List ℕ) (h : AccountWitnessHeader) : Type 0 where
+  pub operation : h .operation ≡ witnessReading s .operation
+  pub sequence : h .«state_sequence» ≡ witnessReading s .sequence
+  pub count : h .«proof_count» ≡ length (witnessReading s .proofs)
 
 -- the i-th step of an accepted witness lock goes on, with the i-th proof of the reading; 01: "Closures of `parse_authenticators` and
 -- `parse_proofs`: a step per entry."
 pub record HandsOut (s : List ℕ) (i : ℕ) : Type 0 where
   pub step : proofStep s (cursorAt s i) ≡ Next (proofAt s (cursorAt s i .offset)) (cursorAt s (suc i))
   pub reading : (d : ProofReading) → getD (witnessReading s .proofs) i d ≡ proofReading s (proofAt s (cursorAt s i .offset))
+
+-- what the readers hand out of a witness lock, with the header h of its answer, is its reading: the header's fields, and at each step
+-- the next proof; behind the last no byte follows
+pub record WitnessGives (s : List ℕ) (h : AccountWitnessHeader) : Type 0 where
+  pub header : HeaderGives s h
+  pub proofs : (i : ℕ) → i < h .«proof_count» → HandsOut s i
+  pub ended : cursorAt s (h .«proof_count») .offset ≡ length s

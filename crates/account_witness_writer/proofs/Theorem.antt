@@ -1,19 +1,24 @@
--- Writing the reading of an accepted witness lock gives the same bytes, or 5 in a buffer that is too short; and a witness lock is
--- accepted exactly where the writer can have written it. Assumes nothing.
+-- The writer can be lent the reading of an accepted witness lock, and then gives the same bytes, or 5 in a buffer that is too short;
+-- and a witness lock is accepted exactly where the writer can have written it. Assumes nothing.
 use mathlib.Core.Path.{_≡_, ap, _∙_, subst}
-use mathlib.Core.List.{List}
+use mathlib.Core.List.{List, [], _∷_}
 use mathlib.Core.Logic.{_↔_}
-use Prim.Native.Nat.{ℕ}
-use lib.ListN.{length}
-use Rattle.octets.specs.Le.{Bytes}
+use Prim.Native.Nat.{ℕ, zero, suc, _+_, _^_, _<_}
+use native.Mathlib.Omega.{arith}
+use lib.Dec.{lit<}
+use lib.ListN.{length, take, drop, getD}
+use Rattle.octets.specs.Le.{numberAt, Bytes}
+use Rattle.octets.specs.Lists.{joined}
+use Rattle.octets.proofs.LeLaws.{bytes-take, bytes-drop, bytes-append}
 use Rattle.protocol.specs.Rows.{Hold}
 use Rattle.protocol.specs.Reading.{WritesBack}
 use Rattle.protocol.proofs.Back.{writes-back}
 use Rattle.account_witness.specs.Witness.{witnessRows}
-use Rattle.account_witness.specs.Reading.{WitnessReading, witnessBytes, witnessReading, WitnessTyped}
-use Rattle.account_witness.proofs.Inverse.{witness-back, witness-typed}
-use Rattle.account_witness_writer.specs.Encode.{readingFrom, encodeTotal, encodeRows, encodeFault, witnessWritten, witnessStored, slotsOf, lengthsOf, bytesOf}
-use Rattle.account_witness_writer.proofs.Lent.{lent-back, lent-total, lent-hold}
+use Rattle.account_witness.specs.Walk.{proofAt}
+use Rattle.account_witness.specs.Reading.{ProofReading, WitnessReading, witnessBytes, proofReading, proofReadings, witnessReading, ProofsTyped, WitnessTyped}
+use Rattle.account_witness.proofs.Inverse.{witness-holds, witness-back, witness-typed}
+use Rattle.account_witness_writer.specs.Encode.{readingFrom, encodeTotal, encodeRows, encodeFault, witnessWritten, witnessStored, slotsOf, lengthsOf, bytesOf, WitnessFits}
+use Rattle.account_witness_writer.proofs.Lent.{length-slots, counts, lent-back, lent-total, lent-hold}
 use Rattle.account_witness_writer.proofs.Written.{written-accepted}
 
 -- its slices lend it again
@@ -21,11 +26,52 @@ from-reading : (r : WitnessReading) → readingFrom (r .operation) (r .sequence)
 unfolding readingFrom
 from-reading r = rw (lent-back (r .proofs))
 
--- the writer on its slices writes it back
+-- the slots and lengths of proofs whose numbers fit are u16 and u32
+slots-fit : (ps : List ProofReading) → ProofsTyped ps → (i : ℕ) → getD (slotsOf ps) i 0 < 2 ^ 16
+unfolding slotsOf
+slots-fit [] y i = lit< tt
+slots-fit (p ∷ ps) y zero = y .0 .slot
+slots-fit (p ∷ ps) y (suc i) = slots-fit ps (y .1) i
+
+lengths-fit : (ps : List ProofReading) → ProofsTyped ps → (i : ℕ) → getD (lengthsOf ps) i 0 < 2 ^ 32
+unfolding lengthsOf
+lengths-fit [] y i = lit< tt
+lengths-fit (p ∷ ps) y zero = y .0 .len
+lengths-fit (p ∷ ps) y (suc i) = lengths-fit ps (y .1) i
+
+-- what proofs that are read from bytes lend are bytes
+readings-bytes : (s : List ℕ) (n off : ℕ) → Bytes s → Bytes (bytesOf (proofReadings s n off))
+unfolding bytesOf joined proofReadings proofReading proofAt
+readings-bytes s zero off b = λ i. lit< tt
+readings-bytes s (suc n) off b =
+    let len = numberAt s (off + 4) 4 in
+    bytes-append (take len (drop (off + 8) s)) (bytesOf (proofReadings s n (off + 8 + len))) (bytes-take len (drop (off + 8) s) (bytes-drop (off + 8) s b)) (readings-bytes s n (off + 8 + len) b)
+
+-- what the reading lends fits the writer's types
+fits : (s : List ℕ) → Bytes s → Hold (witnessRows s) → WitnessFits (witnessReading s)
+unfolding witnessReading
+fits s b h =
+    let y = witness-typed s b h in
+    let z = witness-holds s h in
+    let r = witnessReading s in
+    let n : length (slotsOf (r .proofs)) ≡ length (r .proofs) = length-slots (r .proofs) in
+    let m : length (slotsOf (r .proofs)) ≡ length (lengthsOf (r .proofs)) = counts (r .proofs) in
+    let t : encodeTotal (slotsOf (r .proofs)) (bytesOf (r .proofs)) ≡ length s = lent-total r ∙ ap length (witness-back s b h) in
+    record {
+      operation = y .operation;
+      sequence = y .sequence;
+      slots = slots-fit (r .proofs) (y .proofs);
+      lengths = lengths-fit (r .proofs) (y .proofs);
+      bytes = readings-bytes s (numberAt s 6 1) 16 b;
+      counts = (omega arith, omega arith, omega arith);
+    }
+
+-- the writer can be lent what the reading says, and writes it back
 pub witness-writes-back : (s : List ℕ) → Bytes s → Hold (witnessRows s)
     → let r = witnessReading s in
     let ps = r .proofs in
-    WritesBack
+    WitnessFits r
+    × WritesBack
     (witnessWritten (r .operation) (slotsOf ps) (lengthsOf ps) (bytesOf ps))
     (witnessStored (r .operation) (r .sequence) (slotsOf ps) (lengthsOf ps) (bytesOf ps))
     s
@@ -33,9 +79,9 @@ unfolding witnessWritten witnessStored encodeFault
 witness-writes-back s b h =
     let r = witnessReading s in
     let ps = r .proofs in
-    writes-back (encodeRows (r .operation) (slotsOf ps) (lengthsOf ps) (bytesOf ps)) (witnessBytes (readingFrom (r .operation) (r .sequence) (slotsOf ps) (lengthsOf ps) (bytesOf ps))) (encodeTotal (slotsOf ps) (bytesOf ps)) s (lent-hold s b h)
-    (ap witnessBytes (from-reading r) ∙ witness-back s b h)
-    (lent-total r ∙ ap length (witness-back s b h))
+    let back = ap witnessBytes (from-reading r) ∙ witness-back s b h in
+    let total = lent-total r ∙ ap length (witness-back s b h) in
+    (fits s b h, writes-back (encodeRows (r .operation) (slotsOf ps) (lengthsOf ps) (bytesOf ps)) (witnessBytes (readingFrom (r .operation) (r .sequence) (slotsOf ps) (lengthsOf ps) (bytesOf ps))) (encodeTotal (slotsOf ps) (bytesOf ps)) s (lent-hold s b h) back total)
 
 -- a witness lock is accepted exactly where it is the written form of a reading that the writer takes
 pub witness-written : (s : List ℕ) → Bytes s

@@ -1,9 +1,10 @@
 -- The writer of witness locks. Proofs are lent as slices: a slot and a length for each, and the bytes of all proofs end to end.
-use Prim.Native.Nat.{ℕ, _+_, _*_}
+use Prim.Native.Nat.{ℕ, _+_, _*_, _^_, _<_}
 use mathlib.Core.Bool.{Bool, true}
 use mathlib.Core.List.{List, [], _∷_, map}
 use lib.Dec.{leb, eqb}
-use lib.ListN.{length, take, drop}
+use lib.ListN.{length, take, drop, getD}
+use Rattle.octets.specs.Le.{Bytes}
 use Rattle.octets.specs.Lists.{both, joined}
 use Rattle.protocol.specs.Policy.{isOperation}
 use Rattle.protocol.specs.Rows.{Row, row}
@@ -83,3 +84,13 @@ lengthsOf ps = map (λ (p : ProofReading). length (p .bytes)) ps
 
 unfoldable pub bytesOf : List ProofReading → List ℕ
 bytesOf ps = joined (map (λ (p : ProofReading). p .bytes) ps)
+
+-- what a reading lends the writer are values of the types of its parameters: u8, u64, and slices of u16, u32 and bytes whose lengths a
+-- usize holds
+pub record WitnessFits (r : WitnessReading) : Type 0 where
+  pub operation : r .operation < 2 ^ 8
+  pub sequence : r .sequence < 2 ^ 64
+  pub slots : (i : ℕ) → getD (slotsOf (r .proofs)) i 0 < 2 ^ 16
+  pub lengths : (i : ℕ) → getD (lengthsOf (r .proofs)) i 0 < 2 ^ 32
+  pub bytes : Bytes (bytesOf (r .proofs))
+  pub counts : (length (slotsOf (r .proofs)) < 2 ^ 64) × (length (lengthsOf (r .proofs)) < 2 ^ 64) × (length (bytesOf (r .proofs)) < 2 ^ 64)

@@ -56,6 +56,11 @@ bytes-take (suc n) [] h i = lit< tt
 bytes-take (suc n) (b ∷ s) h zero = h 0
 bytes-take (suc n) (b ∷ s) h (suc i) = bytes-take n s (λ j. h (suc j)) i
 
+pub bytes-append : (s t : List ℕ) → Bytes s → Bytes t → Bytes (s ++ t)
+bytes-append [] t h k i = k i
+bytes-append (b ∷ s) t h k zero = h 0
+bytes-append (b ∷ s) t h k (suc i) = bytes-append s t (λ j. h (suc j)) k i
+
 pub bytes-to : (k n : ℕ) → Bytes (toLe k n)
 unfolding toLe
 bytes-to zero n i = lit< tt

@@ -1,18 +1,13 @@
 -- `account_state_writer::encode_agreed` meets its contract: by what the checks find, and the state as it is stored. Assumes nothing.
 use mathlib.Core.Path.{_≡_, _∙_}
 use native.Mathlib.Omega.{arith}
-use lib.Dec.{leb}
 use lib.ListN.{length}
 use Rattle.octets.specs.Le.{Bytes}
-use Rattle.protocol.specs.Rows.{row, _▷_, decide}
 use Rattle.protocol.specs.Write.{writeFault}
-use Rattle.protocol.specs.declared.error.ProtocolError.the-variants.{BufferTooShort}
-use Rattle.protocol.specs.declared.check.Check.the-variants.{Passed}
 use Rattle.protocol.proofs.Outcome.{write-refused, write-fits, write-done}
 use Rattle.account_state.specs.Reading.{stateBytes}
 use Rattle.account_state.specs.State.{stateRows}
-use Rattle.account_state_writer.specs.Writer.{entriesFrom, entryCount, stateTotal, stateFrom, validWritten, validStored}
-use Rattle.account_state_writer.specs.Checks.{stateChecks}
+use Rattle.account_state_writer.specs.Writer.{entryCount, stateTotal, stateFrom, validWritten, validStored}
 use Rattle.account_state_writer.proofs.Agreed.{agreed, length-state, state-found}
 use borrow.Author.Needs.{needs}
 use Rattle.account_state_writer.proofs.encode_agreed.Statement.{statement}
@@ -25,42 +20,36 @@ add-total-2 c = let h = agreed _ _ (c .before .before .before .pre) in omega (ar
 check-state-requires : tie.Need-check-state-requires
 check-state-requires c κs = agreed _ _ (c .before .before .before .pre) .needed
 
--- what the checks find is what the state's rows find
+-- what the checks find is what the state's rows and the room find
 found : (c : tie.After-require)
     → let a = c .before .before .before .before .before .args in
     let f = a .fields .now in
     let b = a .bytes .now in
     let s = stateBytes (stateFrom (a .flags) (a .sequence) (a .spend) (a .rotate) (a .recovery) (a .since) f b) in
-    (length s ≡ stateTotal f b)
-    × ((decide Passed (stateChecks (a .flags) (a .spend) (a .rotate) (a .recovery) (a .since) (entriesFrom (entryCount f) f b)) ▷ row (leb (stateTotal f b) (length (a .out .now))) BufferTooShort)
-    ≡ writeFault (stateRows s) (stateTotal f b) (length (a .out .now)))
+    (length s ≡ stateTotal f b) × (c .require .result ≡ writeFault (stateRows s) (stateTotal f b) (length (a .out .now)))
+unfolding entryCount stateTotal
 found c =
     let k = c .before .before .before .before in
     let a = k .before .args in
     let x = k .before .fits in
     let g = agreed (a .fields .now) (a .bytes .now) (k .before .pre) in
-    let b : Bytes (a .bytes .now) = λ i. c .before .before .before .shared-slice-known2 .given i .fits in (
-      length-state (a .flags) (a .sequence) (a .spend) (a .rotate) (a .recovery) (a .since) (a .fields .now) (a .bytes .now) b (g .needed),
-      state-found (a .flags) (a .sequence) (a .spend) (a .rotate) (a .recovery) (a .since) (a .fields .now) (a .bytes .now) (x .flags .fits) (x .sequence .fits) (x .spend .fits) (x .rotate .fits) (x .recovery .fits) (x .since .fits)
-          (λ i. k .shared-slice-known .given i .fits) b g (length (a .out .now)),
-    )
+    let b : Bytes (a .bytes .now) = λ i. c .before .before .before .shared-slice-known2 .given i .fits in
+    let z = state-found (a .flags) (a .sequence) (a .spend) (a .rotate) (a .recovery) (a .since) (a .fields .now) (a .bytes .now) (x .flags .fits) (x .sequence .fits) (x .spend .fits) (x .rotate .fits) (x .recovery .fits) (x .since .fits) (λ i. k .shared-slice-known .given i .fits) b g (length (a .out .now)) in
+    (length-state (a .flags) (a .sequence) (a .spend) (a .rotate) (a .recovery) (a .since) (a .fields .now) (a .bytes .now) b (g .needed), c .require .ensures ∙ rw (c .before .check-state .ensures) z)
 
 store-state-requires : tie.Need-store-state-requires
 unfolding entryCount stateTotal
 store-state-requires c κs =
     let k = c .before .before .before in
     let s = k .before .before .before .before .before in
-    let a = s .args in
     let h = agreed _ _ (s .pre) in
-    let z = found k in
-    (h .count, (h .needed, write-fits (stateRows (stateBytes (stateFrom (a .flags) (a .sequence) (a .spend) (a .rotate) (a .recovery) (a .since) (a .fields .now) (a .bytes .now)))) (stateTotal (a .fields .now) (a .bytes .now)) (a .out .now) _ (k .require .ensures ∙ rw (k .before .check-state .ensures) (z .1)) (c .before .enum-told .given .1)))
+    (h .count, (h .needed, write-fits _ _ (s .args .out .now) _ (found k .1) (c .before .enum-told .given .1)))
 
 returns : tie.Need-returns
-unfolding validWritten validStored entryCount stateTotal
+unfolding validWritten validStored
 returns c =
-    let k = c .before .before .before in
-    let z = found k in
-    rw (z .0) (write-refused _ _ _ _ (k .require .ensures ∙ rw (k .before .check-state .ensures) (z .1)) _ _ (c .before .check .given .1))
+    let z = found (c .before .before .before) in
+    rw (z .0) (write-refused _ _ _ _ (z .1) _ _ (c .before .check .given .1))
 
 returns-2 : tie.Need-returns-2
 unfolding validWritten validStored entryCount stateTotal
@@ -68,11 +57,9 @@ returns-2 c =
     let told = c .before .before .before .before in
     let k = told .before .before in
     let a = k .before .before .before .before .before .args in
-    let f = a .fields .now in
-    let b = a .bytes .now in
-    let s = stateBytes (stateFrom (a .flags) (a .sequence) (a .spend) (a .rotate) (a .recovery) (a .since) f b) in
+    let s = stateBytes (stateFrom (a .flags) (a .sequence) (a .spend) (a .rotate) (a .recovery) (a .since) (a .fields .now) (a .bytes .now)) in
     let z = found k in
-    rw (z .0) (write-done (stateRows s) (stateTotal f b) (a .out .now) _ (k .require .ensures ∙ rw (k .before .check-state .ensures) (z .1)) s _ (told .enum-told .given .1) (z .0) (c .before .before .store-state .ensures))
+    rw (z .0) (write-done _ _ (a .out .now) _ (z .1) s _ (told .enum-told .given .1) (z .0) (c .before .before .store-state .ensures))
 
 pub encode-agreed-spec : {M : Type 1} → statement M
 encode-agreed-spec =
