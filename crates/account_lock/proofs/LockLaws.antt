@@ -1,11 +1,11 @@
 -- The lock's rows in the order in which the code goes through them, and what follows where they pass.
 -- Assumes nothing.
 use mathlib.Core.Path.{_≡_, refl, sym, ap, _∙_}
-use mathlib.Core.Bool.{Bool, true, false, cond}
+use mathlib.Core.Bool.{true}
 use mathlib.Core.List.{List, [], _∷_, _++_}
 use Prim.Native.Nat.{ℕ, _-_, _+_, _≤_, _<_}
 use native.Mathlib.Omega.{arith}
-use lib.Dec.{eqb, leb}
+use lib.Dec.{leb}
 use lib.ListN.{length, take, drop, length-drop}
 use lib.Seq.{length-take-le}
 use borrow.Author.Tests.{eqb-true, leb-true}
@@ -23,7 +23,7 @@ use Rattle.molecule.specs.Bytes as molecule
 use Rattle.account_witness.specs.Header.{headerRows}
 use Rattle.scene_table.specs.Scene.{Scene}
 use Rattle.group_sighash.specs.Witnesses.{firstWitness, lockIn, witnessRows, countRows, groupRows, otherRows}
-use Rattle.state_transition.specs.Resolve.{resolveRows, spendRows, changeRows, spendOf, changeOf, resolvedOf}
+use Rattle.state_transition.specs.Resolve.{resolveRows, operationRow, resolvedOf}
 use Rattle.account_lock.specs.Lock.{argsIn, accountIn, scriptRows, account, operation, stateRowsOf, lateRows, earlyRows, witnessLock, Result, refused, orWalked, walkResult, lateResult, lockScene}
 use Rattle.account_lock.specs.Settled.{Authorized, Named, resolved}
 
@@ -32,13 +32,10 @@ unfolding _then_
 then-passed Passed b e = (refl, e)
 then-passed (Failed x) b e = failed-passed x e
 
-pub resolved-found : (o : ℕ) (id : List ℕ) (s : Scene) → resolvedOf o id s .found ≡ decide Passed (resolveRows o id s)
-unfolding resolvedOf spendOf changeOf resolveRows
-resolved-found o id s = go (eqb o 1)
-  where
-    go : (b : Bool) → cond b (spendOf id s) (changeOf id s) .found ≡ decide Passed (cond b (spendRows id s) (changeRows id s))
-    go true = refl
-    go false = refl
+-- for an operation from 1 to 3 the search for the state finds what the lock's rows find
+pub resolved-found : (o : ℕ) (id : List ℕ) (s : Scene) → isOperation o ≡ true → resolvedOf o id s .found ≡ decide Passed (resolveRows o id s)
+unfolding resolvedOf operationRow decide _▷_
+resolved-found o id s h = rw h
 
 module _ (s : Scene) where
   pub late-found : {a b c : Check} → a ≡ decide Passed (resolveRows (operation s) (account s) s) → b ≡ decide Passed (stateRowsOf s)

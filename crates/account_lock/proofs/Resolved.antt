@@ -9,32 +9,24 @@ use lib.ListN.{getD}
 use Rattle.scene_table.specs.Scene.{Scene}
 use Rattle.cell_search.specs.declared.cells.Source.the-variants as source
 use Rattle.cell_search.specs.Search.{cellsOf, cellAt}
-use Rattle.state_transition.specs.Resolve.{statePlace, stateCell, stateSource, currentState, successorState, stateSince, noInput, spendOf, changeOf, resolvedOf}
+use Rattle.state_transition.specs.Resolve.{statePlace, stateCell, stateSource, currentState, successorState, stateSince, noInput, resolvedOf}
 
 module _ (operation : ℕ) (id : List ℕ) (s : Scene) where
-  place-current : resolvedOf operation id s .current ≡ statePlace (stateSource operation) id s
-  unfolding resolvedOf spendOf changeOf stateSource
-  place-current = go (eqb operation 1)
-    where
-      go : (b : Bool) → cond b (spendOf id s) (changeOf id s) .current ≡ statePlace (cond b source.CellDep source.Input) id s
-      go true = refl
-      go false = refl
-
   pub state-current : cellAt (cellsOf (stateSource operation) s) (resolvedOf operation id s .current) .content ≡ currentState operation id s
-  unfolding currentState stateCell
-  state-current = rw place-current
+  unfolding currentState stateCell resolvedOf
+  state-current = refl
 
   pub state-since : getD (s .inputs) (resolvedOf operation id s .current) noInput .since ≡ stateSince operation id s
-  unfolding stateSince
-  state-since = rw place-current
+  unfolding stateSince resolvedOf
+  state-since = refl
 
   pub state-successor : cond (eqb operation 1) [] (cellAt (cellsOf source.Output s) (resolvedOf operation id s .successor) .content)
       ≡ successorState operation id s
-  unfolding resolvedOf spendOf changeOf successorState stateCell
+  unfolding resolvedOf successorState stateCell
   state-successor = go (eqb operation 1)
     where
       go : (b : Bool)
-          → cond b [] (cellAt (cellsOf source.Output s) (cond b (spendOf id s) (changeOf id s) .successor) .content)
+          → cond b [] (cellAt (cellsOf source.Output s) (cond b 0 (statePlace source.Output id s)) .content)
           ≡ cond b [] (cellAt (cellsOf source.Output s) (statePlace source.Output id s) .content)
       go true = refl
       go false = refl

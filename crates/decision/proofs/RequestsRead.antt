@@ -3,7 +3,7 @@
 use mathlib.Core.Path.{_≡_, refl}
 use mathlib.Core.Bool.{Bool, true, false, cond}
 use mathlib.Core.List.{List, [], _∷_}
-use Prim.Native.Nat.{ℕ, zero, suc, _+_, _^_, _<_}
+use Prim.Native.Nat.{ℕ, zero, suc, _+_, _-_, _^_, _<_}
 use native.Mathlib.Omega.{arith}
 use lib.Dec.{eqb}
 use lib.ListN.{length, drop}
@@ -68,9 +68,16 @@ capable-operation o capabilities h = go (eqb o 1) (eqb o 2) (eqb o 3) refl refl 
     go false false true p q r = let e = eqb-true o 3 r in (rw (p, q, r), omega arith)
     go false false false p q r = absurd (let z = rw (p, q, r) at h in let y : _≡_ {A = ℕ} 0 1 = cc in omega arith)
 
+-- the request of an entry whose rows pass is within the limits of the request writer
+pub request-limits : (operation : ℕ) (digest : List ℕ) (deps : List Cell) (e : EntryReading) (p : ProofReading) (left : ℕ)
+    → Hold (entryRows operation deps e (length (p .bytes)) left) → Hold (writer.writerRows (requestReading operation digest e p))
+unfolding entryRows limitRows requestReading writer.writerRows writer.limitRows
+request-limits operation digest deps e p left h =
+    (capable-operation operation (e .capabilities) (h .0) .0, (h .1 .1 .1 .1 .0, (h .1 .1 .0, tt)))
+
 -- a proof whose rows pass has a request that is read so
 pub request-read : (c : Setting) (used : ℕ) (p : ProofReading) → SettingFits c → Hold (proofRows c used p) → RequestRead c p
-unfolding proofRows entryRows limitRows requestOf requestReading writer.writerRows writer.limitRows
+unfolding proofRows entryRows requestOf requestReading
 request-read c used p f h =
     let e = entryFor (p .slot) (c .entries) in
     let r = requestReading (c .operation) (c .digest) e p in
@@ -85,7 +92,7 @@ request-read c used p f h =
       digest = f .digest;
       key = rw (array-whole 32 (entryFor (p .slot) (c .entries) .key) (z .0 .key)) (z .0 .key);
     } in
-    let y = request-accepted r t (o .0, (h .1 .1 .1 .1 .1 .0, (h .1 .1 .1 .0, tt))) in
+    let y = request-accepted r t (request-limits (c .operation) (c .digest) (c .deps) e p (c .room - used) (h .1)) in
     record { accepted = y .0; reading = y .1; key = array-whole 32 (e .key) (z .0 .key) }
 
 -- where each proof's rows pass, each one's request is

@@ -1,12 +1,15 @@
--- 01, "Marked rows": those marked P, computed from the definitions, as rows of one theorem.
+-- 01, "Marked rows": those marked P, as rows of one theorem about the definitions. A row that names a length is for every list of
+-- that length.
 use Prim.Native.Nat.{ℕ}
-use mathlib.Core.Path.{_≡_, refl}
+use mathlib.Core.Path.{_≡_, refl, ap}
+use mathlib.Core.Logic.{inl}
 use mathlib.Core.List.{List, [], _∷_, _++_}
 use lib.ListN.{length, replicate}
 use Rattle.octets.specs.Le.{toLe, fromLe, numberAt}
 use Rattle.octets.specs.Lists.{joined}
 use Rattle.octets.specs.Table.{numbers}
 use Rattle.protocol.specs.Write.{writeFault, writeAnswer, afterWrite}
+use Rattle.protocol.specs.declared.error.ProtocolError.the-variants.{InvalidState}
 use Rattle.protocol.specs.declared.check.WriteAnswer.the-variants.{Written}
 use Rattle.molecule.specs.Molecule.{bytesVector, offsetsFrom, headSize, tableHead, tableBytes}
 use Rattle.molecule.specs.Table3.{tableRows, between, field2, field3}
@@ -16,6 +19,7 @@ use Rattle.protocol.specs.Policy.{isSupportedAlgorithm, isOperation, hasCapabil
 use Rattle.protocol.specs.Args.{argsRows, argsFault, argsAnswer, readArgs, argsNumber}
 use Rattle.account_state.specs.Reading.{entryOf, entriesOf, shareOf, weightOf}
 use Rattle.account_state.specs.State.{headRows, layoutRows, fieldRows, entryRows, entriesRows, behind, recoveryRows, thresholdRows, endRows, tailRows, stateRows, stateFault, headerOf, summaryOf, stateAnswer, readState, stateNumber}
+use Rattle.account_state.proofs.Theorem.{reader-refuses}
 use Rattle.account_witness.specs.Header.{headerRows, headerAt}
 use Rattle.account_witness.specs.Walk.{proofRows, proofsRows}
 use Rattle.account_witness.specs.Witness.{witnessRows, witnessFault, witnessAnswer, readWitness, witnessNumber}
@@ -49,10 +53,10 @@ lockOfNone = 0x14 ∷ 0 ∷ 0 ∷ 0 ∷ 0x10 ∷ 0 ∷ 0 ∷ 0 ∷ 0x14 ∷ 0 �
 
 pub record MarkedRows : Type 0 where
   -- "args of 32 bytes 20, of 33 starting 0x02 32"
-  pub args-of-32 : argsNumber (readArgs (replicate 32 1)) ≡ 20
-  pub args-version : argsNumber (readArgs (2 ∷ replicate 32 0)) ≡ 32
+  pub args-of-32 : (s : List ℕ) → length s ≡ 32 → argsNumber (readArgs s) ≡ 20
+  pub args-version : (id : List ℕ) → length id ≡ 32 → argsNumber (readArgs (2 ∷ id)) ≡ 32
   -- "state of 31 bytes 21"
-  pub state-of-31 : stateNumber (readState (replicate 31 0)) ≡ 21
+  pub state-of-31 : (s : List ℕ) → length s ≡ 31 → stateNumber (readState s) ≡ 21
   -- "smallest state with thresholds 1, 1, 0 and weight 1, capabilities 3, accepted"
   pub smallest : stateNumber (readState (smallestState 1 0 1 0)) ≡ 0
   -- "The smallest state has 113 bytes."
@@ -77,9 +81,9 @@ pub marked-rows : MarkedRows
 unfolding fromLe numberAt _▷_ decide isSupportedAlgorithm isOperation hasCapability argsRows argsFault argsAnswer readArgs entryOf entriesOf shareOf weightOf headRows layoutRows fieldRows entryRows entriesRows behind recoveryRows thresholdRows endRows tailRows stateRows stateFault headerOf summaryOf stateAnswer readState headerRows headerAt proofRows proofsRows witnessRows witnessFault witnessAnswer readWitness keyProofRows proofFault placesAt proofAnswer readProof smallestState emptyWitness toLe numbers joined bytesVector offsetsFrom headSize tableHead tableBytes tableRows between field2 field3 canonicalOf writeFault writeAnswer afterWrite canonicalRoom canonicalWritten canonicalStored lockOfOne lockOfNone
 marked-rows =
     record {
-      args-of-32 = refl;
-      args-version = refl;
-      state-of-31 = refl;
+      args-of-32 = λ s h. rw h;
+      args-version = λ id h. rw h;
+      state-of-31 = λ s h. ap stateNumber (reader-refuses s InvalidState .1 (inl (rw h, refl)));
       smallest = refl;
       smallest-length = refl;
       spend-2 = refl;

@@ -8,17 +8,18 @@ use native.Mathlib.Nat.{sub-zero}
 use native.Mathlib.Omega.{arith}
 use lib.Dec.{eqb}
 use lib.ListN.{length, take, drop}
-use lib.Seq.{sets}
 use borrow.Author.Tests.{ne-eqb, leb-true}
 use Rattle.octets.specs.Le.{numberAt}
 use Rattle.octets.proofs.Arrays.{length-array}
-use Rattle.octets.proofs.Stores.{sets-front}
 use Rattle.protocol.specs.Rows.{decide}
+use Rattle.protocol.specs.Write.{writeAnswer, afterWrite}
 use Rattle.protocol.specs.declared.check.Check.the-variants.{Passed}
+use Rattle.protocol.specs.declared.check.WriteAnswer.the-variants.{Written}
+use Rattle.protocol.proofs.Back.{write-room}
 use Rattle.protocol.proofs.Hold.{passed-hold}
 use Rattle.account_state.specs.Reading.{EntryReading, entryOf}
 use Rattle.account_witness.specs.Reading.{ProofReading}
-use Rattle.verifier_request.specs.Writer.{requestTotal}
+use Rattle.verifier_request.specs.Writer.{requestTotal, requestRoom, requestWritten, requestStored}
 use Rattle.verifier_request.proofs.Form.{length-request}
 use Rattle.scene_table.specs.Scene.{Cell}
 use Rattle.scene_table.specs.Lent.{lentScene}
@@ -28,6 +29,7 @@ use Rattle.cell_search.specs.declared.search.Search.the-variants.{Missing, One,
 use Rattle.cell_search.specs.Search.{cellsOf, matches, searchOf, cellSearch}
 use Rattle.decision.specs.Proofs.{settingFor, known, entryFor, verifierField, verifiers, requestSize, limitRows, entryRows, proofRows, requestReading, requestOf}
 use Rattle.decision.specs.Walk.{answered}
+use Rattle.decision.proofs.RequestsRead.{request-limits}
 use Rattle.proof_walk.specs.Answer.{sceneDeps, walkSetting}
 use Rattle.proof_walk.specs.Steps.{stateEntries, isKnown, entryIn, FoundIs, proofOf, rowsOf, requestFor}
 use Rattle.proof_walk.specs.declared.authenticator.Found.{Found}
@@ -52,24 +54,32 @@ unfolding entryOf verifiers cellsOf sceneDeps cellSearch
 resolved table store entry s e =
     ap isOne e ∙ one-found (matches (verifierField (numberAt entry 10 1)) (take 32 (drop 12 entry)) (lentScene table store .deps))
 
--- the request's length, and the request stored at the front
-module _ (operation : ℕ) (digest : List ℕ) (e : EntryReading) (p : ProofReading) (d : length digest ≡ 32) where
-  pub request-long : length (requestFor operation digest e p) ≡ requestSize (length (e .aux)) (length (p .bytes))
-  unfolding requestFor requestReading requestSize requestTotal
+-- where every row passes the request writer refuses nothing: its answer is the request's length, which fits, and the request
+-- stands at the front
+module _ (known : Bool) (operation : ℕ) (digest : List ℕ) (deps : List Cell) (e : EntryReading) (p : ProofReading) (out : List ℕ)
+    (d : length digest ≡ 32) (h : decide Passed (rowsOf known operation deps e (length (p .bytes)) (length out)) ≡ Passed) where
+  request-long : length (requestFor operation digest e p) ≡ requestTotal (requestReading operation digest e p)
+  unfolding requestFor requestReading
   request-long = length-request (requestReading operation digest e p) (record { digest = d; key = length-array 32 (e .key) })
 
-  pub request-stored : (out after : List ℕ) → requestSize (length (e .aux)) (length (p .bytes)) ≤ length out
-      → after ≡ sets out 0 (requestFor operation digest e p) → after ≡ answered out (requestFor operation digest e p)
-  unfolding answered
-  request-stored out after h stored = stored ∙ sets-front out (requestFor operation digest e p) (rw request-long h)
+  request-fits : requestTotal (requestReading operation digest e p) ≤ length out
+  unfolding rowsOf entryRows limitRows requestSize requestReading requestTotal
+  request-fits = leb-true _ _ (passed-hold _ h .1 .1 .1 .1 .1 .1 .0)
 
--- where every row passes there is room for the request
-pub rows-room : (known : Bool) (operation : ℕ) (deps : List Cell) (e : EntryReading) (proof left : ℕ)
-    → decide Passed (rowsOf known operation deps e proof left) ≡ Passed → requestSize (length (e .aux)) proof ≤ left
-unfolding rowsOf entryRows limitRows
-rows-room known operation deps e proof left h =
-    let z = passed-hold (rowsOf known operation deps e proof left) h in
-    leb-true _ _ (z .1 .1 .1 .1 .1 .1 .0)
+  request-passes : requestRoom (requestReading operation digest e p) (length out) ≡ Passed
+  unfolding rowsOf requestRoom
+  request-passes = write-room _ _ _ (request-limits operation digest deps e p (length out) (passed-hold _ h .1)) request-fits
+
+  pub made-fits : length (requestFor operation digest e p) ≤ length out
+  made-fits = rw request-long request-fits
+
+  pub made-written : requestWritten (requestReading operation digest e p) out ≡ Written (length (requestFor operation digest e p))
+  unfolding requestWritten writeAnswer
+  made-written = rw (request-passes, request-long)
+
+  pub made-stored : requestStored (requestReading operation digest e p) out ≡ answered out (requestFor operation digest e p)
+  unfolding requestStored afterWrite answered requestFor
+  made-stored = rw request-passes
 
 -- rows, request and weight by the entry that was found
 module _ (table store state : List ℕ) (operation : ℕ) (digest : List ℕ) (room slot : ℕ) (bytes : List ℕ) (found : Found)

@@ -19,18 +19,18 @@ use protocol::VERIFIER_MAX_AUX_LEN;
 use protocol::VERIFIER_MAX_PROOF_LEN;
 use protocol::VERIFIER_MAX_REQUEST_LEN;
 use protocol::VERIFIER_REQUEST_HEADER_LEN;
-use verifier_request::store_request;
+use protocol::WriteAnswer;
+use verifier_request::encode_verifier_request;
 ghost use mathlib.Core.Path.{_≡_};
-ghost use Prim.Native.Nat.{_≤_};
 ghost use lib.Dec.{eqb};
 ghost use lib.ListN.{length};
 ghost use Rattle.protocol.specs.Rows.{decide};
 ghost use Rattle.protocol.specs.declared.check.Check.the-variants.{Passed};
 ghost use Rattle.account_state.specs.Reading.{entryOf};
-ghost use Rattle.decision.specs.Proofs.{verifierField, verifiers, requestSize};
-ghost use Rattle.decision.specs.Walk.{answered};
+ghost use Rattle.verifier_request.specs.Writer.{requestWritten, requestStored};
+ghost use Rattle.decision.specs.Proofs.{verifierField, verifiers, requestReading};
 ghost use Rattle.proof_walk.specs.Answer.{walkSetting, sceneDeps};
-ghost use Rattle.proof_walk.specs.Steps.{rowsOf, requestFor, proofOf, StepIs};
+ghost use Rattle.proof_walk.specs.Steps.{rowsOf, proofOf, StepIs};
 
 // A refusal, or the length of the request that was made and the weight of its slot.
 pub(crate) enum Step {
@@ -95,7 +95,7 @@ fn check_request(
         .require(fits(left, head, proof), ProtocolError::BufferTooShort)
 }
 
-// Writes the request to the front of `out` and answers its length.
+// Writes the request of a proof and its entry to the front of `out`.
 fn encode_request(
     entry: &[u8],
     slot: u16,
@@ -103,13 +103,12 @@ fn encode_request(
     digest: [u8; 32],
     proof: &[u8],
     out: &mut [u8],
-) -> usize
-    requires { ⌜ requestSize (length (entryOf (now entry) .aux)) (length (now proof)) ≤ length (now out) ⌝ }
-    ensures { λ r. ⌜ r ≡ length (requestFor operation digest (entryOf (now (entry .entry))) (proofOf slot (now (proof .entry)))) ⌝ }
-    ensures { λ _. ⌜ now (out .exit) ≡ answered (now (out .entry)) (requestFor operation digest (entryOf (now (entry .entry))) (proofOf slot (now (proof .entry)))) ⌝ }
+) -> WriteAnswer
+    ensures { λ r. ⌜ r ≡ requestWritten (requestReading operation digest (entryOf (now (entry .entry))) (proofOf slot (now (proof .entry)))) (now (out .entry)) ⌝ }
+    ensures { λ _. ⌜ now (out .exit) ≡ requestStored (requestReading operation digest (entryOf (now (entry .entry))) (proofOf slot (now (proof .entry)))) (now (out .entry)) ⌝ }
 {
     let aux = aux(entry);
-    store_request(
+    encode_verifier_request(
         u16_at(entry, 4),
         slot,
         operation,
@@ -119,8 +118,7 @@ fn encode_request(
         aux,
         proof,
         out,
-    );
-    VERIFIER_REQUEST_HEADER_LEN + aux.len() + proof.len()
+    )
 }
 
 // The rows of a proof, and its request at the front of `out`.
@@ -149,9 +147,9 @@ pub(crate) fn make_request(
         out.len(),
     ) {
         Check::Failed(error) => Step::Refused(error),
-        Check::Passed => {
-            let len = encode_request(entry, slot, operation, digest, proof, out);
-            Step::Made(len, u16_at(entry, 8))
-        }
+        Check::Passed => match encode_request(entry, slot, operation, digest, proof, out) {
+            WriteAnswer::Refused(error) => Step::Refused(error),
+            WriteAnswer::Written(len) => Step::Made(len, u16_at(entry, 8)),
+        },
     }
 }

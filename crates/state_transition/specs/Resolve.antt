@@ -1,13 +1,16 @@
--- The cells of an account's state in a transaction: the current one, and its successor where the state changes.
+-- The cells of an account's state in a transaction: the current one, and its successor where the state changes. No public
+-- contract cites `spendOf` and `changeOf`.
 use Prim.Native.Nat.{ℕ}
 use mathlib.Core.Bool.{cond}
 use mathlib.Core.List.{List, [], _∷_, _++_}
 use lib.ListN.{length, getD}
 use lib.Dec.{eqb, leb}
 use Rattle.octets.specs.Lists.{same}
+use Rattle.protocol.specs.Policy.{isOperation}
 use Rattle.protocol.specs.Rows.{Row, row, decide}
+use Rattle.protocol.specs.declared.check.Check.{Check}
 use Rattle.protocol.specs.declared.check.Check.the-variants.{Passed}
-use Rattle.protocol.specs.declared.error.ProtocolError.the-variants.{InvalidState, StateNotFound, DuplicateState, StateConsumedOnSpend, InvalidTransition}
+use Rattle.protocol.specs.declared.error.ProtocolError.the-variants.{InvalidState, StateNotFound, DuplicateState, StateConsumedOnSpend, InvalidTransition, InvalidOperation}
 use Rattle.scene_table.specs.Scene.{Cell, Input, Scene}
 use Rattle.cell_search.specs.declared.cells.Source.{Source}
 use Rattle.cell_search.specs.declared.cells.Source.the-variants as source
@@ -71,18 +74,30 @@ noInput = record { group = 0; since = 0; cell = noCell }
 unfoldable pub stateSince : ℕ → List ℕ → Scene → ℕ
 stateSince operation id s = getD (s .inputs) (statePlace (stateSource operation) id s) noInput .since
 
--- what the search for the account's state answers: what its rows find, and the places of the two cells
-unfoldable pub spendOf : List ℕ → Scene → ResolvedState
-spendOf id s =
-    record { found = decide Passed (spendRows id s); current = statePlace source.CellDep id s; successor = 0 }
+-- main.rs, `resolve_state`: 37 for an operation other than spend, rotate and recovery. The lock's list has no such row: there the
+-- witness lock's header has refused it with 22
+unfoldable pub operationRow : ℕ → Row
+operationRow operation = row (isOperation operation) InvalidOperation
 
-unfoldable pub changeOf : List ℕ → Scene → ResolvedState
-changeOf id s =
+-- what the search for the account's state answers: what that row and the operation's own find, and the places of the two cells;
+-- a spend has no successor
+unfoldable pub resolvedOf : ℕ → List ℕ → Scene → ResolvedState
+resolvedOf operation id s =
     record {
-      found = decide Passed (changeRows id s);
+      found = decide Passed (operationRow operation ∷ resolveRows operation id s);
+      current = statePlace (stateSource operation) id s;
+      successor = cond (eqb operation 1) 0 (statePlace source.Output id s);
+    }
+
+-- the same of a spend and of a change, behind what earlier rows found
+unfoldable pub spendOf : Check → List ℕ → Scene → ResolvedState
+spendOf earlier id s =
+    record { found = decide earlier (spendRows id s); current = statePlace source.CellDep id s; successor = 0 }
+
+unfoldable pub changeOf : Check → List ℕ → Scene → ResolvedState
+changeOf earlier id s =
+    record {
+      found = decide earlier (changeRows id s);
       current = statePlace source.Input id s;
       successor = statePlace source.Output id s;
     }
-
-unfoldable pub resolvedOf : ℕ → List ℕ → Scene → ResolvedState
-resolvedOf operation id s = cond (eqb operation 1) (spendOf id s) (changeOf id s)

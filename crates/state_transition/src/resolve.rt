@@ -9,6 +9,7 @@ use octets::same_bytes;
 use protocol::Check;
 use protocol::OP_SPEND;
 use protocol::ProtocolError;
+use protocol::is_operation;
 use scene_table::input_count;
 use scene_table::input_since;
 ghost use mathlib.Core.Path.{_≡_};
@@ -41,8 +42,8 @@ fn check_types(input: &[u8], output: &[u8]) -> Check
 }
 
 // A spend reads the state from a dep.
-fn resolve_spend(table: &[u32], store: &[u8], account_id: &[u8]) -> ResolvedState
-    ensures { λ r. ⌜ r ≡ spendOf (now («account_id» .entry)) (lentScene (now (table .entry)) (now (store .entry))) ⌝ }
+fn resolve_spend(earlier: Check, table: &[u32], store: &[u8], account_id: &[u8]) -> ResolvedState
+    ensures { λ r. ⌜ r ≡ spendOf earlier (now («account_id» .entry)) (lentScene (now (table .entry)) (now (store .entry))) ⌝ }
 {
     let inputs = search_cells(table, store, Source::Input, CellField::TypeHash, account_id);
     let deps = search_cells(
@@ -52,7 +53,7 @@ fn resolve_spend(table: &[u32], store: &[u8], account_id: &[u8]) -> ResolvedStat
         CellField::TypeHash,
         account_id,
     );
-    let found = Check::Passed
+    let found = earlier
         .require(inputs.is_missing(), ProtocolError::StateConsumedOnSpend)
         .require(!deps.is_missing(), ProtocolError::StateNotFound)
         .require(!deps.is_several(), ProtocolError::DuplicateState);
@@ -64,8 +65,8 @@ fn resolve_spend(table: &[u32], store: &[u8], account_id: &[u8]) -> ResolvedStat
 }
 
 // A rotation or a recovery consumes the state and leaves its successor.
-fn resolve_change(table: &[u32], store: &[u8], account_id: &[u8]) -> ResolvedState
-    ensures { λ r. ⌜ r ≡ changeOf (now («account_id» .entry)) (lentScene (now (table .entry)) (now (store .entry))) ⌝ }
+fn resolve_change(earlier: Check, table: &[u32], store: &[u8], account_id: &[u8]) -> ResolvedState
+    ensures { λ r. ⌜ r ≡ changeOf earlier (now («account_id» .entry)) (lentScene (now (table .entry)) (now (store .entry))) ⌝ }
 {
     let inputs = search_cells(table, store, Source::Input, CellField::TypeHash, account_id);
     let outputs = search_cells(
@@ -77,7 +78,7 @@ fn resolve_change(table: &[u32], store: &[u8], account_id: &[u8]) -> ResolvedSta
     );
     let current = inputs.place();
     let successor = outputs.place();
-    let found = Check::Passed
+    let found = earlier
         .require(!inputs.is_missing(), ProtocolError::StateNotFound)
         .require(!inputs.is_several(), ProtocolError::DuplicateState)
         .require(outputs.is_one(), ProtocolError::InvalidTransition)
@@ -92,13 +93,15 @@ fn resolve_change(table: &[u32], store: &[u8], account_id: &[u8]) -> ResolvedSta
     }
 }
 
+// What the rows find, 37 before all else for an operation outside 1 to 3, and where the two cells stand.
 pub fn resolve_state(table: &[u32], store: &[u8], operation: u8, account_id: &[u8]) -> ResolvedState
     ensures { λ r. ⌜ r ≡ resolvedOf operation (now («account_id» .entry)) (lentScene (now (table .entry)) (now (store .entry))) ⌝ }
 {
+    let known = Check::Passed.require(is_operation(operation), ProtocolError::InvalidOperation);
     if operation == OP_SPEND {
-        resolve_spend(table, store, account_id)
+        resolve_spend(known, table, store, account_id)
     } else {
-        resolve_change(table, store, account_id)
+        resolve_change(known, table, store, account_id)
     }
 }
 

@@ -6,4 +6,3 @@ pub use self::reader::RequestAnswer;
 pub use self::reader::RequestFields;
 pub use self::reader::parse_verifier_request;
 pub use self::writer::encode_verifier_request;
-pub use self::writer::store_request;

@@ -45,7 +45,7 @@ fn store_lengths(out: &mut [u8], aux: usize, proof: usize)
 }
 
 // Stores the request's bytes from the front of `out`, as far as there is room.
-pub fn store_request(
+fn store_request(
     algorithm: u16,
     slot: u16,
     operation: u8,

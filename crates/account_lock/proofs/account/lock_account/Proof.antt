@@ -12,7 +12,7 @@ use Rattle.decision.specs.Walk.{answered}
 use Rattle.account_lock.specs.Lock.{account, operation, current, Result, refused, told}
 use Rattle.account_lock.specs.Settled.{resolved}
 use Rattle.account_lock.proofs.Resolved.{state-current}
-use Rattle.account_lock.proofs.LockLaws.{resolved-found, late-found, late-refused, late-walked}
+use Rattle.account_lock.proofs.LockLaws.{group-operation, resolved-found, late-found, late-refused, late-walked}
 use borrow.Author.Needs.{needs}
 use Rattle.account_lock.proofs.account.lock_account.Statement.{statement}
 use Rattle.account_lock.proofs.account.lock_account.Tie as tie
@@ -40,7 +40,7 @@ returns c =
     let s = lentScene (now (p .args .table)) (now (p .args .store)) in
     let r = c .before .before .before .before .before .before .before .before in
     let placed : r .resolve-state .result ≡ resolvedOf (operation s) (account s) s = r .resolve-state .ensures ∙ rw (r .before .u8-at .ensures, p .pre .account, p .pre .witness) in
-    let resolve = ap (λ (x : ResolvedState). x .found) placed ∙ resolved-found (operation s) (account s) s in
+    let resolve = ap (λ (x : ResolvedState). x .found) placed ∙ resolved-found (operation s) (account s) s (group-operation s (p .pre .group)) in
     let late : c .before .before .before .before .and2 .result ≡ decide Passed (lateRows s) = c .before .before .before .before .and2 .ensures ∙ rw (c .before .before .before .before .before .before .and .ensures) (late-found s resolve (c .before .before .before .before .before .before .before .check-states .ensures) (c .before .before .before .before .before .check-others .ensures)) in
     let told-failed = late-refused s (length (now (p .args .answer))) _ late (c .before .before .error .given .1) in
     (c .refused .ensures ∙ ap told (sym told-failed), ap (λ (x : Result). answered (now (p .args .answer)) (x .made)) (sym told-failed))
@@ -52,7 +52,7 @@ returns-2 c =
     let s = lentScene (now (p .args .table)) (now (p .args .store)) in
     let r = c .before .before .before .before .before .before .before .before .before .before .before in
     let placed : r .resolve-state .result ≡ resolvedOf (operation s) (account s) s = r .resolve-state .ensures ∙ rw (r .before .u8-at .ensures, p .pre .account, p .pre .witness) in
-    let resolve = ap (λ (x : ResolvedState). x .found) placed ∙ resolved-found (operation s) (account s) s in
+    let resolve = ap (λ (x : ResolvedState). x .found) placed ∙ resolved-found (operation s) (account s) s (group-operation s (p .pre .group)) in
     let late : c .before .before .before .before .before .before .before .and2 .result ≡ decide Passed (lateRows s) = c .before .before .before .before .before .before .before .and2 .ensures ∙ rw (c .before .before .before .before .before .before .before .before .before .and .ensures) (late-found s resolve (c .before .before .before .before .before .before .before .before .before .before .check-states .ensures) (c .before .before .before .before .before .before .before .before .check-others .ensures)) in
     let went = late-walked s (length (now (p .args .answer))) late (c .before .before .before .before .before .enum-told .given .1) in
     (c .before .before .walk-account .ensures .0 ∙ ap told (sym went), c .before .before .walk-account .ensures .1 ∙ ap (λ (x : Result). answered (now (p .args .answer)) (x .made)) (sym went))
