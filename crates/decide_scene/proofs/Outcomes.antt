@@ -38,7 +38,9 @@ pub long-decides : (scene : List ℕ) → 65536 < length scene → programDecide
 unfolding programDecides
 long-decides scene h = rw (lt-ltb 65536 (length scene) h)
 
--- a scene that is not
-pub short-decides : (scene : List ℕ) → length scene ≤ 65536 → programDecides scene ≡ decided scene 65536 2048 148992
+-- a scene that is not, decided with buffers as long as the program's
+pub short-answers : (scene : List ℕ) (n m room : ℕ) {a : LockAnswer} → a ≡ lock.told (decided scene n m room) → length scene ≤ 65536
+    → n ≡ 65536 → m ≡ 2048 → room ≡ 148992 → a ≡ lock.told (programDecides scene)
 unfolding programDecides
-short-decides scene h = rw (le-ltb 65536 (length scene) h)
+short-answers scene n m room e h store table answer =
+    rw (le-ltb 65536 (length scene) h, ← store, ← table, ← answer) e

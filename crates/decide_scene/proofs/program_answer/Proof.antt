@@ -1,8 +1,8 @@
 -- `decide_scene::program_answer` meets its contract, by the scene's length. Assumes nothing.
 use borrow.Author.Needs.{needs}
-use mathlib.Core.Path.{sym, ap, _∙_}
+use mathlib.Core.Path.{refl, sym, ap, _∙_}
 use Rattle.account_lock.specs.Lock as lock
-use Rattle.decide_scene.proofs.Outcomes.{long-decides, short-decides}
+use Rattle.decide_scene.proofs.Outcomes.{long-decides, short-answers}
 use Rattle.decide_scene.proofs.program_answer.Statement.{statement}
 use Rattle.decide_scene.proofs.program_answer.Tie as tie
 
@@ -13,8 +13,7 @@ returns c =
 returns-2 : tie.Need-returns-2
 returns-2 c =
     let decide = c .before .before .before in
-    let start = decide .before .before .before .before in
-    decide .decide-scene .ensures .0 ∙ ap lock.told (sym (short-decides (start .before .before .args .scene .now) (start .if1 .left)))
+    short-answers _ _ _ _ (decide .decide-scene .ensures .0) (decide .before .before .before .before .if1 .left) refl refl refl
 
 pub program-answer-spec : {M : Type 1} → statement M
 program-answer-spec =
