@@ -1,8 +1,8 @@
 -- The numbers that the lock gives, for every table, store and answer buffer: 0, its own 5 and 7, and the original's 20 to 39.
--- So it never gives 6.
+-- So it never gives 6, and 7 only where the table fails its test.
 -- Assumes nothing.
 use mathlib.Core.Path.{_≡_, refl}
-use mathlib.Core.Logic.{_≢_, _⊎_, inl, inr}
+use mathlib.Core.Logic.{_≢_, _⊎_, inl, inr, _↔_}
 use mathlib.Core.Bool.{Bool, true, false, cond}
 use mathlib.Core.List.{List, [], _∷_, _++_}
 use Prim.Native.Nat.{ℕ, zero, suc, _+_, _%_, _≤_}
@@ -139,13 +139,12 @@ early-number s e f = each-failed Original (lock.earlyRows s) e (early-original s
 
 -- ---- the proofs
 
--- a refusal with such a number
+-- a refusal behind the table's test: the lock's own 5, or one of the original
 abbrev LockRefusal : ProtocolError → Type 0
-LockRefusal e = LockNumber (errorNumber e)
+LockRefusal e = (errorNumber e ≡ 5) ⊎ Original e
 
--- the refusals of the original are such
 original-refusal : (e : ProtocolError) → Original e → LockRefusal e
-original-refusal e h = inr (inr (inr h))
+original-refusal e h = inr h
 
 -- one proof's rows
 proof-refusal : (c : Setting) (used : ℕ) (p : ProofReading) → Each LockRefusal (proofRows c used p)
@@ -156,7 +155,7 @@ proof-refusal c used p =
     let verifier = original-refusal InvalidVerifierRef (search arith) in
     let request = original-refusal InvalidRequest (search arith) in
     let overflow = original-refusal LengthOverflow (search arith) in
-    let room : LockRefusal BufferTooShort = inr (inl refl) in
+    let room : LockRefusal BufferTooShort = inl refl in
     search depth 12
 
 -- behind the last proof
@@ -195,23 +194,39 @@ scene-refusal s room = go (decide Passed (lock.earlyRows s)) (each-refuses Origi
     go Passed h = walk-refusal _ _ 0 0 [] _
     go (Failed e) h = original-refusal e h
 
--- over any table and store
-lock-refusal : (table store : List ℕ) (room : ℕ) → Refuses LockRefusal (lock.lockOf table store room .found)
-unfolding lock.lockOf lock.refused
-lock-refusal table store room = go (validTable table (length store))
-  where
-    go : (b : Bool) → Refuses LockRefusal (cond b (lock.lockScene (lentScene table store) room) (lock.refused (Failed SlicesDisagree)) .found)
-    go true = scene-refusal (lentScene table store) room
-    go false = inr (inr (inl refl))
+-- the number of what it finds there
+scene-number : (k : Check) → Refuses LockRefusal k → LockNumber (checkNumber k)
+scene-number Passed h = inl refl
+scene-number (Failed e) (inl h) = inr (inl h)
+scene-number (Failed e) (inr h) = inr (inr (inr h))
 
--- the number of what the checks found
-check-number : (k : Check) → Refuses LockRefusal k → LockNumber (checkNumber k)
-check-number Passed h = inl refl
-check-number (Failed e) h = h
+not-seven : (k : Check) → Refuses LockRefusal k → checkNumber k ≢ 7
+not-seven Passed h q = absurd (omega arith)
+not-seven (Failed e) (inl h) q = absurd (omega arith)
+not-seven (Failed e) (inr h) q = absurd (omega (arith, h .0))
 
--- every number that the lock gives is 0, 5, 7, or 20 to 39
-pub lock-numbers : (table store : List ℕ) (room : ℕ) → LockNumber (checkNumber (lock.lockOf table store room .found))
-lock-numbers table store room = check-number (lock.lockOf table store room .found) (lock-refusal table store room)
+module _ (table store : List ℕ) (room : ℕ) where
+  -- every number that the lock gives is 0, 5, 7, or 20 to 39
+  pub lock-numbers : LockNumber (checkNumber (lock.lockOf table store room .found))
+  unfolding lock.lockOf lock.refused
+  lock-numbers = go (validTable table (length store))
+    where
+      go : (b : Bool) → LockNumber (checkNumber (cond b (lock.lockScene (lentScene table store) room) (lock.refused (Failed SlicesDisagree)) .found))
+      go true = scene-number (lock.lockScene (lentScene table store) room .found) (scene-refusal (lentScene table store) room)
+      go false = inr (inr (inl refl))
+
+  -- 7 is given exactly where the table fails its test
+  pub lock-seven : (checkNumber (lock.lockOf table store room .found) ≡ 7) ↔ (validTable table (length store) ≡ false)
+  unfolding lock.lockOf lock.refused
+  lock-seven = go (validTable table (length store))
+    where
+      go : (b : Bool)
+          → (checkNumber (cond b (lock.lockScene (lentScene table store) room) (lock.refused (Failed SlicesDisagree)) .found) ≡ 7) ↔ (b ≡ false)
+      go true = (
+        λ q. absurd (not-seven (lock.lockScene (lentScene table store) room .found) (scene-refusal (lentScene table store) room) q),
+        λ (e : true ≡ false). absurd (let z : _≡_ {A = ℕ} 0 1 = cc in omega arith),
+      )
+      go false = (λ q. refl, λ e. refl)
 
 -- 6 is not among them
 not-six : (n : ℕ) → LockNumber n → n ≢ 6

@@ -1,8 +1,7 @@
--- The program's buffers are long enough: with a store of 65,536 bytes and a table of 2,048 entries it never gives 6, and with an
--- answer buffer of 148,992 bytes it never gives 5.
+-- A scene read and decided never gives 7; and the program, its buffers being long enough, never gives 5 or 6 either.
 -- Assumes nothing.
 use Prim.Native.Nat.{ℕ, _+_, _≤_}
-use mathlib.Core.Path.{_≡_, refl}
+use mathlib.Core.Path.{_≡_, refl, ap}
 use mathlib.Core.Logic.{_≢_, _⊎_, inl, inr}
 use mathlib.Core.Bool.{Bool, true, false, cond, _&&_}
 use mathlib.Core.List.{List, [], _∷_}
@@ -12,13 +11,15 @@ use lib.Dec.{ltb, eqb}
 use lib.ListN.{length}
 use Rattle.protocol.specs.Rows.{checkNumber}
 use Rattle.protocol.specs.declared.error.ProtocolError.the-variants.{SceneTooLong, InvalidLine, InvalidField, TooManyLines, StoreTooShort}
-use Rattle.protocol.specs.declared.check.Check.the-variants.{Failed}
+use Rattle.protocol.specs.declared.check.Check.the-variants.{Passed, Failed}
 use Rattle.scene_text.specs.Text.{pieces}
 use Rattle.scene_line.specs.Line.{lineBytes, formsOk}
 use Rattle.scene_line.specs.Kind.{place, firstForm, lineKind, fieldsOf}
 use Rattle.scene_reader.specs.Reader.{Held, Outcome, refused, held, seenWith, put, stepAs, step, finish, andThen, run, start, readOf, answerOf}
+use Rattle.scene_table.specs.Valid.{validTable}
+use Rattle.scene_reading.proofs.Accessors.{left-store-length, reader-leaves-valid}
 use Rattle.account_lock.specs.Lock as lock
-use Rattle.account_lock.proofs.Numbers.{lock-never-six}
+use Rattle.account_lock.proofs.Numbers.{lock-seven, lock-never-six}
 use Rattle.account_lock.proofs.AnswerRoom.{lock-never-five}
 use Rattle.decide_scene.specs.Decided.{decidedBy, decided, programDecides}
 use Rattle.decide_scene.proofs.StoreEnough.{reader-never-six}
@@ -81,39 +82,76 @@ reader-numbers scene n m = go (ltb 1048576 (length scene)) (ltb m 2048) (run-giv
     go false true f = inr refl
     go false false f = f
 
--- 5 is not among them
+-- 5 and 7 are not among them
 not-five : (n : ℕ) → ReaderNumber n → n ≢ 5
 not-five n (inl h) q = absurd (omega arith)
 not-five n (inr h) q = absurd (omega arith)
 
--- ---- the program
+not-seven : (n : ℕ) → ReaderNumber n → n ≢ 7
+not-seven n (inl h) q = absurd (omega arith)
+not-seven n (inr h) q = absurd (omega arith)
 
--- a number that neither the reader nor the lock gives is not decided
-decided-never : (k room : ℕ) (o : Outcome) → checkNumber (answerOf o) ≢ k → ((table store : List ℕ) → checkNumber (lock.lockOf table store room .found) ≢ k)
-    → checkNumber (decidedBy o room .found) ≢ k
+-- ---- a scene read and decided
+
+-- a number that neither the reader gives nor the lock over what the reader holds is not decided
+decided-never : (k room : ℕ) (o : Outcome) → checkNumber (answerOf o) ≢ k
+    → ((h : Held) → o ≡ held h → checkNumber (lock.lockOf (h .table) (h .store) room .found) ≢ k) → checkNumber (decidedBy o room .found) ≢ k
 unfolding decidedBy lock.refused
 decided-never k room (refused e) reader locks = reader
-decided-never k room (held h) reader locks = locks (h .table) (h .store)
+decided-never k room (held h) reader locks = locks h refl
 
--- nor does the program give it, where it is not 1
-program-never : (k : ℕ) (scene : List ℕ) (n m room : ℕ) → 1 ≢ k → (length scene ≤ 65536 → checkNumber (answerOf (readOf scene n m)) ≢ k)
-    → ((table store : List ℕ) → checkNumber (lock.lockOf table store room .found) ≢ k) → checkNumber (programDecides scene n m room .found) ≢ k
-unfolding programDecides decided lock.refused
-program-never k scene n m room long reader locks = go (ltb 65536 (length scene)) refl
-  where
-    go : (b : Bool) → ltb 65536 (length scene) ≡ b
-        → checkNumber (cond b (lock.refused (Failed SceneTooLong)) (decidedBy (readOf scene n m) room) .found) ≢ k
-    go true e = long
-    go false e = decided-never k room (readOf scene n m) (reader (ltb-false 65536 (length scene) e)) locks
+module _ (scene : List ℕ) (n m room : ℕ) where
+  -- 5 is not given with an answer buffer of 148,992 bytes
+  pub decided-never-five : 148992 ≤ room → checkNumber (decided scene n m room .found) ≢ 5
+  unfolding decided
+  decided-never-five long =
+      decided-never 5 room (readOf scene n m) (not-five (checkNumber (answerOf (readOf scene n m))) (reader-numbers scene n m))
+      (λ h e. lock-never-five (h .table) (h .store) room long)
 
--- 01: "The program's buffers are long enough that it never gives 5 or 6": 6, with a store as long as the longest scene that it reads
-pub program-never-six : (scene : List ℕ) (n m room : ℕ) → 65536 ≤ n → 2048 ≤ m → checkNumber (programDecides scene n m room .found) ≢ 6
-program-never-six scene n m room hn hm =
-    program-never 6 scene n m room (λ q. absurd (omega arith)) (λ l. reader-never-six scene n m (omega arith) hm)
-    (λ table store. lock-never-six table store room)
+  -- 6 is not given with a store as long as the scene and a table of 2,048 entries
+  pub decided-never-six : length scene ≤ n → 2048 ≤ m → checkNumber (decided scene n m room .found) ≢ 6
+  unfolding decided
+  decided-never-six hn hm =
+      decided-never 6 room (readOf scene n m) (reader-never-six scene n m hn hm) (λ h e. lock-never-six (h .table) (h .store) room)
 
--- and 5, with an answer buffer of 148,992 bytes
-pub program-never-five : (scene : List ℕ) (n m room : ℕ) → 148992 ≤ room → checkNumber (programDecides scene n m room .found) ≢ 5
-program-never-five scene n m room h =
-    program-never 5 scene n m room (λ q. absurd (omega arith)) (λ l. not-five (checkNumber (answerOf (readOf scene n m))) (reader-numbers scene n m))
-    (λ table store. lock-never-five table store room h)
+  -- the table of an accepted scene passes the lock's row for 7
+  held-valid : (h : Held) → readOf scene n m ≡ held h → validTable (h .table) (length (h .store)) ≡ true
+  held-valid h e =
+      let p : answerOf (readOf scene n m) ≡ Passed = ap answerOf e in
+      let long : length (h .store) ≡ n = rw e at (left-store-length scene n m p) in
+      rw long (rw e at (reader-leaves-valid scene n m p))
+
+  -- 7 is never given
+  pub decided-never-seven : checkNumber (decided scene n m room .found) ≢ 7
+  unfolding decided
+  decided-never-seven =
+      decided-never 7 room (readOf scene n m) (not-seven (checkNumber (answerOf (readOf scene n m))) (reader-numbers scene n m))
+      (λ h e q. true-false (held-valid h e) (lock-seven (h .table) (h .store) room .0 q))
+    where
+      true-false : {b : Bool} → b ≡ true → b ≡ false → ⊥
+      true-false p q = absurd (let z : _≡_ {A = ℕ} 0 1 = cc in omega arith)
+
+-- ---- the program
+
+module _ (scene : List ℕ) where
+  -- a number is not given, which is not 1 and not decided with the program's buffers
+  program-never : (k : ℕ) → 1 ≢ k → (length scene ≤ 65536 → checkNumber (decided scene 65536 2048 148992 .found) ≢ k)
+      → checkNumber (programDecides scene .found) ≢ k
+  unfolding programDecides lock.refused
+  program-never k long short = go (ltb 65536 (length scene)) refl
+    where
+      go : (b : Bool) → ltb 65536 (length scene) ≡ b
+          → checkNumber (cond b (lock.refused (Failed SceneTooLong)) (decided scene 65536 2048 148992) .found) ≢ k
+      go true e = long
+      go false e = short (ltb-false 65536 (length scene) e)
+
+  -- 01: "The program's buffers are long enough that it never gives 5 or 6"
+  pub program-never-five : checkNumber (programDecides scene .found) ≢ 5
+  program-never-five = program-never 5 (λ q. absurd (omega arith)) (λ l. decided-never-five scene 65536 2048 148992 (omega arith))
+
+  pub program-never-six : checkNumber (programDecides scene .found) ≢ 6
+  program-never-six = program-never 6 (λ q. absurd (omega arith)) (λ l. decided-never-six scene 65536 2048 148992 l (omega arith))
+
+  -- nor 7
+  pub program-never-seven : checkNumber (programDecides scene .found) ≢ 7
+  program-never-seven = program-never 7 (λ q. absurd (omega arith)) (λ l. decided-never-seven scene 65536 2048 148992)

@@ -14,7 +14,7 @@ use Rattle.scene_reader.specs.Reader.{Outcome, refused, held, readOf, answerOf,
 use Rattle.account_lock.specs.declared.answer.LockAnswer.{LockAnswer}
 use Rattle.account_lock.specs.Lock as lock
 use Rattle.answer_line.specs.Line.{lineOf}
-use Rattle.decide_scene.specs.Decided.{decidedBy, decided, programDecides, storeAfter, tableAfter, resultLine}
+use Rattle.decide_scene.specs.Decided.{decidedBy, decided, programDecides, resultLine}
 
 -- the reader refuses
 pub refused-decides : (o : Outcome) (e : ProtocolError) (room : ℕ) → answerOf o ≡ Failed e → decidedBy o room ≡ lock.refused (Failed e)
@@ -34,29 +34,13 @@ unfolding resultLine lock.told
 told-line a r e = rw e
 
 -- a scene that is too long for the program
-module _ (scene : List ℕ) (h : 65536 < length scene) where
-  pub long-decides : (n m room : ℕ) → programDecides scene n m room ≡ lock.refused (Failed SceneTooLong)
-  unfolding programDecides
-  long-decides n m room = rw (lt-ltb 65536 (length scene) h)
+pub long-decides : (scene : List ℕ) → 65536 < length scene → programDecides scene ≡ lock.refused (Failed SceneTooLong)
+unfolding programDecides
+long-decides scene h = rw (lt-ltb 65536 (length scene) h)
 
-  pub long-store : (store : List ℕ) (m : ℕ) → store ≡ storeAfter scene store m
-  unfolding storeAfter
-  long-store store m = rw (lt-ltb 65536 (length scene) h)
-
-  pub long-table : (n : ℕ) (table : List ℕ) → table ≡ tableAfter scene n table
-  unfolding tableAfter
-  long-table n table = rw (lt-ltb 65536 (length scene) h)
-
--- a scene that is not
-module _ (scene : List ℕ) (h : length scene ≤ 65536) where
-  pub short-decides : (n m room : ℕ) → programDecides scene n m room ≡ decided scene n m room
-  unfolding programDecides
-  short-decides n m room = rw (le-ltb 65536 (length scene) h)
-
-  pub short-store : (store : List ℕ) (m : ℕ) → storeOf (length store) (readOf scene (length store) m) ≡ storeAfter scene store m
-  unfolding storeAfter
-  short-store store m = rw (le-ltb 65536 (length scene) h)
-
-  pub short-table : (n : ℕ) (table : List ℕ) → tableOf (length table) (readOf scene n (length table)) ≡ tableAfter scene n table
-  unfolding tableAfter
-  short-table n table = rw (le-ltb 65536 (length scene) h)
+-- a scene that is not, decided with buffers as long as the program's
+pub short-answers : (scene : List ℕ) (n m room : ℕ) {a : LockAnswer} → a ≡ lock.told (decided scene n m room) → length scene ≤ 65536
+    → n ≡ 65536 → m ≡ 2048 → room ≡ 148992 → a ≡ lock.told (programDecides scene)
+unfolding programDecides
+short-answers scene n m room e h store table answer =
+    rw (le-ltb 65536 (length scene) h, ← store, ← table, ← answer) e

@@ -7,7 +7,7 @@ use lib.ListN.{length}
 use Rattle.protocol.specs.declared.error.ProtocolError.the-variants.{SceneTooLong}
 use Rattle.protocol.specs.declared.check.Check.the-variants.{Failed}
 use Rattle.protocol.specs.Rows.{checkNumber}
-use Rattle.scene_reader.specs.Reader.{Outcome, refused, held, readOf, storeOf, tableOf}
+use Rattle.scene_reader.specs.Reader.{Outcome, refused, held, readOf}
 use Rattle.account_lock.specs.Lock as lock
 use Rattle.answer_line.specs.Line.{lineOf}
 
@@ -21,17 +21,15 @@ decidedBy (held h) room = lock.lockOf (h .table) (h .store) room
 unfoldable pub decided : List ℕ → ℕ → ℕ → ℕ → lock.Result
 decided scene n m room = decidedBy (readOf scene n m) room
 
--- 01: "A program reads a scene of up to 65,536 bytes (more is 1)"
-unfoldable pub programDecides : List ℕ → ℕ → ℕ → ℕ → lock.Result
-programDecides scene n m room = cond (ltb 65536 (length scene)) (lock.refused (Failed SceneTooLong)) (decided scene n m room)
-
--- the store and the table afterwards: as they were where the scene is too long for the program, else as the reader leaves them
-unfoldable pub storeAfter : List ℕ → List ℕ → ℕ → List ℕ
-storeAfter scene store m = cond (ltb 65536 (length scene)) store (storeOf (length store) (readOf scene (length store) m))
-
-unfoldable pub tableAfter : List ℕ → ℕ → List ℕ → List ℕ
-tableAfter scene n table = cond (ltb 65536 (length scene)) table (tableOf (length table) (readOf scene n (length table)))
+-- 01: "A program reads a scene of up to 65,536 bytes (more is 1)"; its store has 65,536 bytes, its table 2,048 entries, its answer
+-- buffer 148,992 bytes
+unfoldable pub programDecides : List ℕ → lock.Result
+programDecides scene = cond (ltb 65536 (length scene)) (lock.refused (Failed SceneTooLong)) (decided scene 65536 2048 148992)
 
 -- "prints one line `answer,NUMBER,COUNT,LENGTH,DIGEST`"
 unfoldable pub resultLine : lock.Result → List ℕ
 resultLine r = lineOf (checkNumber (r .found)) (r .count) (length (r .made)) (r .reached) (r .digest)
+
+-- the line that the program prints of a scene
+unfoldable pub programLine : List ℕ → List ℕ
+programLine scene = resultLine (programDecides scene)

@@ -1,4 +1,4 @@
-// A scene's text decided: it is read, then the lock runs over what it says; and the line that the program prints.
+// A scene's text decided: it is read, then the lock runs over what it says; and the line that the program prints of it.
 use account_lock::LockAnswer;
 use account_lock::lock;
 use account_lock::refused;
@@ -11,15 +11,22 @@ ghost use mathlib.Core.Path.{_≡_};
 ghost use Prim.Native.Nat.{_≤_};
 ghost use lib.ListN.{length};
 ghost use lib.Seq.{sets};
+ghost use Rattle.octets.specs.Lists.{arrayOf};
 ghost use Rattle.protocol.specs.Rows.{checkNumber};
 ghost use Rattle.scene_reader.specs.Reader.{readOf, storeOf, tableOf};
 ghost use Rattle.decision.specs.Walk.{answered};
 ghost use Rattle.account_lock.specs.Lock.{told};
 ghost use Rattle.answer_line.specs.Line.{lineOf};
-ghost use Rattle.decide_scene.specs.Decided.{decided, programDecides, storeAfter, tableAfter, resultLine};
+ghost use Rattle.decide_scene.specs.Decided.{decided, programDecides, programLine};
 
 // The longest scene that the program reads.
 const PROGRAM_MAX_LEN: usize = 65536;
+
+// The line that the program prints: the first `length` bytes.
+pub struct ProgramLine {
+    pub bytes: [u8; 135],
+    pub length: usize,
+}
 
 // Reads the scene into the store and the table, and decides it; the requests stand at the front of `answer`.
 pub fn decide_scene(
@@ -56,24 +63,28 @@ fn put_answer(found: LockAnswer, line: &mut [u8]) -> usize
     )
 }
 
-// Decides a scene that is not too long for the program, stores the program's line from the front of `line` on, as far as
-// there is room, and says how long the line is.
-pub fn decided_line(
-    scene: &[u8],
-    store: &mut [u8],
-    table: &mut [u32],
-    answer: &mut [u8],
-    line: &mut [u8],
-) -> usize
-    ensures { λ r. ⌜ r ≡ length (resultLine (programDecides (now (scene .entry)) (length (now (store .entry))) (length (now (table .entry))) (length (now (answer .entry))))) ⌝ }
-    ensures { λ r. ⌜ r ≤ 135 ⌝ }
-    ensures { λ _. ⌜ now (line .exit) ≡ sets (now (line .entry)) 0 (resultLine (programDecides (now (scene .entry)) (length (now (store .entry))) (length (now (table .entry))) (length (now (answer .entry))))) ⌝ }
-    ensures { λ _. ⌜ now (store .exit) ≡ storeAfter (now (scene .entry)) (now (store .entry)) (length (now (table .entry))) ⌝ }
-    ensures { λ _. ⌜ now (table .exit) ≡ tableAfter (now (scene .entry)) (length (now (store .entry))) (now (table .entry)) ⌝ }
-    ensures { λ _. ⌜ now (answer .exit) ≡ answered (now (answer .entry)) (programDecides (now (scene .entry)) (length (now (store .entry))) (length (now (table .entry))) (length (now (answer .entry))) .made) ⌝ }
+// What the program decides of a scene, with a store, a table and an answer buffer of its own.
+fn program_answer(scene: &[u8]) -> LockAnswer
+    ensures { λ r. ⌜ r ≡ told (programDecides (now (scene .entry))) ⌝ }
 {
     if PROGRAM_MAX_LEN < scene.len() {
-        return put_answer(refused(ProtocolError::SceneTooLong), line);
+        return refused(ProtocolError::SceneTooLong);
     }
-    put_answer(decide_scene(scene, store, table, answer), line)
+    // As long as the longest scene.
+    let mut store = [0u8; 65536];
+    let mut table = [0u32; 2048];
+    // Room for the requests of any scene.
+    let mut answer = [0u8; 148992];
+    decide_scene(scene, &mut store, &mut table, &mut answer)
+}
+
+// The program's line of a scene, zeros behind it.
+pub fn program_line(scene: &[u8]) -> ProgramLine
+    ensures { λ r. ⌜ r .length ≡ length (programLine (now (scene .entry))) ⌝ }
+    ensures { λ r. ⌜ r .length ≤ 135 ⌝ }
+    ensures { λ r. ⌜ r .bytes ≡ arrayOf 135 (programLine (now (scene .entry))) ⌝ }
+{
+    let mut bytes = [0u8; 135];
+    let length = put_answer(program_answer(scene), &mut bytes);
+    ProgramLine { bytes, length }
 }

@@ -1,17 +1,17 @@
--- What the lock reads in the table and the store of an accepted text is the scene that the text says; and its test of a table
--- passes exactly where an accepted text, its length aside, leaves that table.
+-- What the lock reads in the table and the store of an accepted text is the scene that the text says; its test of a table
+-- passes exactly where an accepted text, its length aside, leaves that table; so it passes the table of every accepted text.
 -- Assumes nothing.
-use Prim.Native.Nat.{ℕ, _≤_}
+use Prim.Native.Nat.{ℕ, _+_, _-_, _≤_}
 use mathlib.Core.Bool.{true}
 use mathlib.Core.Path.{_≡_, sym, ap, _∙_}
 use mathlib.Core.List.{List}
 use mathlib.Core.Logic.{_↔_}
 use native.Mathlib.Omega.{arith}
-use lib.ListN.{length}
+use lib.ListN.{length, replicate, length-append, length-replicate}
 use Rattle.protocol.specs.declared.check.Check.the-variants.{Passed}
 use Rattle.scene_reader.specs.Reader as reader
 use Rattle.scene_reader.specs.Reader.{readOf, answerOf}
-use Rattle.scene_table.specs.Scene.{Scene, sceneBytes, sceneNumbers, tableOf}
+use Rattle.scene_table.specs.Scene.{Scene, sceneBytes, sceneNumbers, padded, storeOf, tableOf}
 use Rattle.scene_table.specs.Lent.{lentScene}
 use Rattle.scene_table.specs.Valid.{sceneOk, validTable}
 use Rattle.scene_table.proofs.Inverse.{lent-back}
@@ -24,7 +24,7 @@ use Rattle.scene_reading.proofs.Accepts.{accepted-passes, passes-accept
 use Rattle.scene_reading.proofs.Leaves.{bytes-fit, passes-leaves}
 use Rattle.scene_reading.proofs.PrintBack.{reading-ok}
 use Rattle.scene_table.proofs.SceneBack.{numbers-few}
-use Rattle.scene_reading.proofs.Theorem.{reader-leaves}
+use Rattle.scene_reading.proofs.Theorem.{reader-accepts, reader-leaves}
 use Rattle.scene_reading.proofs.Printed.{printed-passes, printed-lines, printed-reading}
 
 -- the lent table and store of an accepted text are read as its scene
@@ -61,3 +61,27 @@ table-test table n = (
   λ e. let v = valid-table table n .0 e in (v .0, printed-leaves table n (v .0) (v .1) (v .2) (v .3) (v .4)),
   λ l. let s = left-scene table n (l .0) (l .1) in valid-table table n .1 (l .0, s .0, s .1, s .2, s .3),
 )
+
+-- as long as it is to be
+padded-length : (xs : List ℕ) (n : ℕ) → length xs ≤ n → length (padded n xs) ≡ n
+unfolding padded
+padded-length xs n h = omega (arith, length-append xs (replicate (n - length xs) 0), length-replicate {A = ℕ} (n - length xs) 0)
+
+module _ (text : List ℕ) (n m : ℕ) (e : answerOf (readOf text n m) ≡ Passed) where
+  -- the store is as long as the one that was lent
+  pub left-store-length : length (reader.storeOf n (readOf text n m)) ≡ n
+  unfolding storeOf
+  left-store-length =
+      let p = reader-accepts text n m .0 e .1 .1 in
+      let l = reader-leaves text n m e p in
+      rw (l .store) (padded-length (sceneBytes (readingOf (p .lines))) n (l .fits))
+
+  -- a text that the reader accepts leaves a table that passes the lock's row for 7, with that store
+  pub reader-leaves-valid : validTable (reader.tableOf m (readOf text n m)) n ≡ true
+  unfolding tableOf
+  reader-leaves-valid =
+      let a = reader-accepts text n m .0 e in
+      let l = reader-leaves text n m e (a .1 .1) in
+      let s = readingOf (a .1 .1 .lines) in
+      let k : length (tableOf s m) ≡ m = padded-length (sceneNumbers s) m (l .few) in
+      rw (l .table) (valid-table (tableOf s m) n .1 (omega (arith, a .1 .0), s, l .ok, l .fits, rw k))

@@ -1,20 +1,18 @@
 // Decides the scenes of standard input, each ended by a line `end`, and writes the program's line of each.
-use decide_scene::decided_line;
+use decide_scene::program_line;
 use octets::part;
 use octets::same_bytes;
 use scene_text::find;
 use scene_text::head;
 use scene_text::tail;
-ghost use mathlib.Core.Path.{_≡_};
-ghost use lib.ListN.{length};
 
-fn print_line(scene: &[u8], store: &mut [u8], table: &mut [u32], answer: &mut [u8]) {
-    let mut line = [0u8; 135];
-    let end = decided_line(scene, store, table, answer, &mut line);
-    io::write_all(1, part(&line, 0, end));
+fn print_line(scene: &[u8]) {
+    let line = program_line(scene);
+    let bytes = line.bytes;
+    io::write_all(1, part(&bytes, 0, line.length));
 }
 
-fn run_all(list: &[u8], store: &mut [u8], table: &mut [u32], answer: &mut [u8]) {
+fn run_all(list: &[u8]) {
     let mut rest = list;
     let mut scene = list;
     let mut n: usize = 0;
@@ -27,7 +25,7 @@ fn run_all(list: &[u8], store: &mut [u8], table: &mut [u32], answer: &mut [u8]) 
         let next = tail(rest, e);
         rest = next;
         if ended {
-            print_line(head(scene, n), store, table, answer);
+            print_line(head(scene, n));
             scene = next;
             n = 0;
         } else {
@@ -36,23 +34,8 @@ fn run_all(list: &[u8], store: &mut [u8], table: &mut [u32], answer: &mut [u8]) 
     }
 }
 
-fn answer_buffer() -> [u8; 148992]
-    ensures { λ r. ⌜ 148992 ≡ length r ⌝ }
-{
-    [0; 148992]
-}
-
-fn words() -> [u32; 2048]
-    ensures { λ r. ⌜ 2048 ≡ length r ⌝ }
-{
-    [0; 2048]
-}
-
 fn main() {
     let mut text = io::large_buffer();
     let n = io::read_full(0, &mut text);
-    let mut store = io::large_buffer();
-    let mut table = words();
-    let mut answer = answer_buffer();
-    run_all(&text[..n], &mut store, &mut table, &mut answer);
+    run_all(&text[..n]);
 }

@@ -1,15 +1,14 @@
 -- `test_decide_scene::run_all` is safe and ends. Assumes nothing.
-use mathlib.Core.Path.{_≡_}
 use lib.ListN.{length}
 use borrow.Author.Needs.{needs}
 use Rattle.test_decide_scene.proofs.run_all.Statement.{statement}
 use Rattle.test_decide_scene.proofs.run_all.Tie as tie
 
 abbrev Inv-loop : tie.InvT-loop
-Inv-loop list store₀ table₀ answer₀ rest₀ scene₀ n₀ t11 store table answer rest scene n = (length store ≡ length store₀) × (length table ≡ length table₀) × (length answer ≡ length answer₀)
+Inv-loop list rest₀ scene₀ n₀ t8 rest scene n = Unit {0}
 
 abbrev μ-loop : tie.MeasureT-loop
-μ-loop list store₀ table₀ answer₀ rest₀ scene₀ n₀ t11 store table answer rest scene n = length rest
+μ-loop list rest₀ scene₀ n₀ t8 rest scene n = length rest
 
 pub run-all-spec : {M : Type 1} → statement M
 run-all-spec =
@@ -19,9 +18,6 @@ run-all-spec =
     μ-loop
     (λ c. search needs)
     (λ c κs. search needs)
-    (λ c. search needs)
-    (λ c. search needs)
-    (λ c. search needs)
     (λ c. search needs)
     (λ c κs. search needs)
     (λ c. search needs)
