@@ -72,7 +72,8 @@ unfoldable pub endRows : Held → List ℕ → List Row
 endRows h rest = row (eqb (length rest) 0) InvalidLine ∷ row (eqb (h .last) 7) InvalidLine ∷ []
 
 -- 01: "Lines are tested one by one, each through the line rows below in their order, a row over all fields of the line before the
--- next row": the rows of all lines, each after the lines before it are put down; the last piece is what follows the last ending
+-- next row": the rows of all lines, each line's over what is held once those before it are put down; the last piece, and a text has
+-- at least one, is what follows the last ending
 unfoldable pub linesRows : Held → List (List ℕ) → List Row
 linesRows h [] = endRows h []
 linesRows h (l ∷ []) = endRows h l
@@ -89,7 +90,7 @@ abbrev pub heldAfter : Check → Held → Outcome
 heldAfter (Failed e) h = refused e
 heldAfter Passed h = held h
 
--- the lines, with no limit on the scene and the table
+-- what the lines alone give, the reader's own two rows aside
 unfoldable pub run : Held → List (List ℕ) → Outcome
 run h ls = heldAfter (decide Passed (linesRows h ls)) (linesPut h ls)
 
