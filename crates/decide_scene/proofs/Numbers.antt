@@ -1,21 +1,23 @@
 -- A scene read and decided never gives 7; and the program, its buffers being long enough, never gives 5 or 6 either.
 -- Assumes nothing.
-use Prim.Native.Nat.{ℕ, _+_, _≤_}
+use Prim.Native.Nat.{ℕ, _≤_}
 use mathlib.Core.Path.{_≡_, refl, ap}
 use mathlib.Core.Logic.{_≢_, _⊎_, inl, inr}
-use mathlib.Core.Bool.{Bool, true, false, cond, _&&_}
+use mathlib.Core.Bool.{Bool, true, false, cond}
 use mathlib.Core.List.{List, [], _∷_}
 use native.Mathlib.Omega.{arith}
 use borrow.Author.Tests.{ltb-false}
-use lib.Dec.{ltb, eqb}
+use lib.Dec.{ltb}
 use lib.ListN.{length}
-use Rattle.protocol.specs.Rows.{checkNumber}
-use Rattle.protocol.specs.declared.error.ProtocolError.the-variants.{SceneTooLong, InvalidLine, InvalidField, TooManyLines, StoreTooShort}
+use Rattle.protocol.specs.Errors.{errorNumber}
+use Rattle.protocol.specs.Rows.{decide, checkNumber}
+use Rattle.protocol.specs.declared.error.ProtocolError.{ProtocolError}
+use Rattle.protocol.specs.declared.error.ProtocolError.the-variants.{SceneTooLong}
+use Rattle.protocol.specs.declared.check.Check.{Check}
 use Rattle.protocol.specs.declared.check.Check.the-variants.{Passed, Failed}
+use Rattle.protocol.proofs.Each.{Each, Refuses, each-append, each-refuses}
 use Rattle.scene_text.specs.Text.{pieces}
-use Rattle.scene_line.specs.Line.{lineBytes, formsOk}
-use Rattle.scene_line.specs.Kind.{place, firstForm, lineKind, fieldsOf}
-use Rattle.scene_reader.specs.Reader.{Held, Outcome, refused, held, seenWith, put, stepAs, step, finish, andThen, run, start, readOf, answerOf}
+use Rattle.scene_reader.specs.Reader.{Held, Outcome, refused, held, heldAfter, lineRows, rowsOf, linePut, endRows, linesRows, linesPut, start, limitRows, sceneRows, readOf, answerOf}
 use Rattle.scene_table.specs.Valid.{validTable}
 use Rattle.scene_reading.proofs.Accessors.{left-store-length, reader-leaves-valid}
 use Rattle.account_lock.specs.Lock as lock
@@ -30,57 +32,35 @@ use Rattle.decide_scene.proofs.StoreEnough.{reader-never-six}
 abbrev pub ReaderNumber : ℕ → Type 0
 ReaderNumber n = (n ≤ 4) ⊎ (n ≡ 6)
 
--- an outcome with such a number
-abbrev ReaderGives : Outcome → Type 0
-ReaderGives o = ReaderNumber (checkNumber (answerOf o))
+-- a refusal with such a number
+abbrev ReaderError : ProtocolError → Type 0
+ReaderError e = ReaderNumber (errorNumber e)
 
--- one line
-step-gives : (h : Held) (line : List ℕ) → ReaderGives (step h line)
-unfolding step stepAs
-step-gives h line =
-    let k = lineKind (h .last) (pieces 44 line) in
-    let fs = fieldsOf (pieces 44 line) in
-    go (eqb (place k) 0) (ltb 64 (seenWith (h .last) (h .seen) (place k))) (formsOk true (firstForm k) fs)
-    (ltb (length (h .store)) (h .used + length (lineBytes (firstForm k) fs))) (put h k fs)
-  where
-    go : (a b c d : Bool) (g : Held)
-        → ReaderGives (cond a (refused InvalidLine) (cond b (refused TooManyLines) (cond c (cond d (refused StoreTooShort) (held g)) (refused InvalidField))))
-    go true b c d g = inl (omega arith)
-    go false true c d g = inl (omega arith)
-    go false false true true g = inr refl
-    go false false true false g = inl (omega arith)
-    go false false false d g = inl (omega arith)
+-- the rows of one line
+line-errors : (h : Held) (line : List ℕ) → Each ReaderError (rowsOf h line)
+unfolding rowsOf lineRows
+line-errors h line = (inl (omega arith), (inl (omega arith), (inl (omega arith), (inr refl, tt))))
 
--- the end of the scene
-finish-gives : (h : Held) (rest : List ℕ) → ReaderGives (finish h rest)
-unfolding finish
-finish-gives h rest = go (eqb (length rest) 0 && eqb (h .last) 7)
-  where
-    go : (b : Bool) → ReaderGives (cond b (held h) (refused InvalidLine))
-    go true = inl (omega arith)
-    go false = inl (omega arith)
+-- of all lines
+lines-errors : (h : Held) (ls : List (List ℕ)) → Each ReaderError (linesRows h ls)
+unfolding linesRows endRows
+lines-errors h [] = (inl (omega arith), (inl (omega arith), tt))
+lines-errors h (l ∷ []) = (inl (omega arith), (inl (omega arith), tt))
+lines-errors h (l ∷ m ∷ ls) = each-append ReaderError (rowsOf h l) _ (line-errors h l) (lines-errors (linePut h l) (m ∷ ls))
 
--- all lines
-run-gives : (ls : List (List ℕ)) (h : Held) → ReaderGives (run h ls)
-unfolding run andThen
-run-gives [] h = inl (omega arith)
-run-gives (l ∷ []) h = finish-gives h l
-run-gives (l ∷ m ∷ ls) h = go (step h l) (step-gives h l) (run-gives (m ∷ ls))
-  where
-    go : (o : Outcome) → ReaderGives o → ((g : Held) → ReaderGives (run g (m ∷ ls))) → ReaderGives (andThen o (λ g. run g (m ∷ ls)))
-    go (refused e) f next = f
-    go (held g) f next = next g
+-- of a scene
+scene-errors : (scene : List ℕ) (n m : ℕ) → Each ReaderError (sceneRows scene n m)
+unfolding sceneRows limitRows
+scene-errors scene n m = (inl (omega arith), (inr refl, lines-errors (start n m) (pieces 10 scene)))
 
 -- every number that the reader gives is 0 to 4, or 6
 pub reader-numbers : (scene : List ℕ) (n m : ℕ) → ReaderNumber (checkNumber (answerOf (readOf scene n m)))
 unfolding readOf
-reader-numbers scene n m = go (ltb 1048576 (length scene)) (ltb m 2048) (run-gives (pieces 10 scene) (start n m))
+reader-numbers scene n m = go (decide Passed (sceneRows scene n m)) (each-refuses ReaderError (sceneRows scene n m) (scene-errors scene n m))
   where
-    go : (a b : Bool) → ReaderGives (run (start n m) (pieces 10 scene))
-        → ReaderGives (cond a (refused SceneTooLong) (cond b (refused StoreTooShort) (run (start n m) (pieces 10 scene))))
-    go true b f = inl (omega arith)
-    go false true f = inr refl
-    go false false f = f
+    go : (c : Check) → Refuses ReaderError c → ReaderNumber (checkNumber (answerOf (heldAfter c (linesPut (start n m) (pieces 10 scene)))))
+    go Passed f = inl (omega arith)
+    go (Failed e) f = f
 
 -- 5 and 7 are not among them
 not-five : (n : ℕ) → ReaderNumber n → n ≢ 5

@@ -1,24 +1,31 @@
 -- A store as long as the scene is long enough: the reader never gives 6 with it.
 -- Assumes nothing.
 use Prim.Native.Nat.{ℕ, suc, _+_, _≤_}
-use mathlib.Core.Bool.{Bool, true, false, cond, _&&_}
-use mathlib.Core.Path.{_≡_, refl}
+use mathlib.Core.Bool.{Bool, true, false, cond}
+use mathlib.Core.Logic.{inl, inr}
+use mathlib.Core.Path.{_≡_, refl, ap}
 use mathlib.Core.List.{List, [], _∷_}
 use native.Mathlib.Omega.{arith}
-use borrow.Author.Tests.{le-ltb}
-use lib.Dec.{ltb, eqb}
+use borrow.Author.Tests.{leb-false}
+use lib.Dec.{eqb}
 use lib.ListN.{length, length-append, length-replicate}
 use lib.Seq.{length-sets}
 use Rattle.octets.specs.Lists.{joined}
 use Rattle.protocol.specs.Errors.{errorNumber}
-use Rattle.protocol.specs.Rows.{checkNumber}
-use Rattle.protocol.specs.declared.error.ProtocolError.the-variants.{SceneTooLong, InvalidLine, InvalidField, TooManyLines}
+use Rattle.protocol.specs.Rows.{decide, First, checkNumber}
+use Rattle.protocol.specs.declared.error.ProtocolError.{ProtocolError}
+use Rattle.protocol.specs.declared.check.Check.{Check}
+use Rattle.protocol.specs.declared.check.Check.the-variants.{Passed, Failed}
+use Rattle.protocol.proofs.Hold.{failed-first}
+use Rattle.protocol.proofs.Each.{Refuses, each-refuses}
 use Rattle.scene_text.specs.Text.{pieces, before, hexBytes}
 use Rattle.scene_text.proofs.HexLaws.{hex-length}
 use Rattle.scene_line.specs.declared.form.Form.{Form}
-use Rattle.scene_line.specs.Line.{after, hexForm, fieldBytes, lineBytes, formsOk}
-use Rattle.scene_line.specs.Kind.{place, firstForm, lineKind, fieldsOf}
-use Rattle.scene_reader.specs.Reader.{Held, Outcome, refused, held, seenWith, put, stepAs, step, finish, andThen, run, start, readOf, answerOf}
+use Rattle.scene_line.specs.Line.{after, hexForm, fieldBytes, lineBytes}
+use Rattle.scene_line.specs.Kind.{firstForm, lineKind, fieldsOf}
+use Rattle.scene_reader.specs.Reader.{Held, Outcome, heldAfter, put, lineRows, rowsOf, linePut, endRows, run, start, limitRows, readOf, answerOf}
+use Rattle.scene_reader.specs.Room.{finish}
+use Rattle.scene_reader.proofs.Runs.{run-passed, run-failed, run-last, limits-passed, limits-failed, pieces-some}
 
 -- the pieces of a text have no more bytes than it
 joined-before : (x : ℕ) (ps : List (List ℕ)) → length (joined (before (x ∷ []) ps)) ≡ suc (length (joined ps))
@@ -59,60 +66,67 @@ line-short : (t : Form) (line : List ℕ) → length (lineBytes t (fieldsOf (pie
 line-short t line =
     omega (arith, fields-short t (fieldsOf (pieces 44 line)), behind-short (pieces 44 line), pieces-short 44 line)
 
--- an outcome that is not 6, and holds at most n bytes more than before in a store of the same length
-Fits : Held → ℕ → Outcome → Type 0
-Fits h n (refused e) = errorNumber e ≡ 6 → ⊥
-Fits h n (held g) = (g .used ≤ h .used + n) × (length (g .store) ≡ length (h .store))
-
-step-fits : (h : Held) (line : List ℕ) → h .used + length line ≤ length (h .store) → Fits h (length line) (step h line)
-unfolding step stepAs put Fits
-step-fits h line room =
-    let k = lineKind (h .last) (pieces 44 line) in
-    let fs = fieldsOf (pieces 44 line) in
-    let bytes = lineBytes (firstForm k) fs in
-    let few : length bytes ≤ length line = line-short (firstForm k) line in
-    rw (le-ltb (length (h .store)) (h .used + length bytes) (omega arith))
-    (go (eqb (place k) 0) (ltb 64 (seenWith (h .last) (h .seen) (place k))) (formsOk true (firstForm k) fs) (put h k fs) (omega arith) (length-sets (h .store) (h .used) bytes))
-  where
-    go : (a b c : Bool) (g : Held) → g .used ≤ h .used + length line → length (g .store) ≡ length (h .store)
-        → Fits h (length line) (cond a (refused InvalidLine) (cond b (refused TooManyLines) (cond c (held g) (refused InvalidField))))
-    go true b c g u s = λ q. absurd (omega arith)
-    go false true c g u s = λ q. absurd (omega arith)
-    go false false true g u s = (u, s)
-    go false false false g u s = λ q. absurd (omega arith)
-
 -- an outcome is not 6
 Never : Outcome → Type 0
 Never o = checkNumber (answerOf o) ≡ 6 → ⊥
 
-finish-never : (h : Held) (rest : List ℕ) → Never (finish h rest)
-unfolding finish Never
-finish-never h rest = go (eqb (length rest) 0 && eqb (h .last) 7)
-  where
-    go : (b : Bool) → Never (cond b (held h) (refused InvalidLine))
-    go true q = absurd (omega arith)
-    go false q = absurd (omega arith)
+-- no row of a line gives 6 where the store has room for the line
+line-never : (h : Held) (l : List ℕ) (a : ProtocolError) → h .used + length l ≤ length (h .store) → First (rowsOf h l) a → errorNumber a ≡ 6 → ⊥
+unfolding rowsOf lineRows
+line-never h l a room (inl f) q = absurd (omega (arith, ap errorNumber (f .1)))
+line-never h l a room (inr (p, inl f)) q = absurd (omega (arith, ap errorNumber (f .1)))
+line-never h l a room (inr (p, inr (r, inl f))) q = absurd (omega (arith, ap errorNumber (f .1)))
+line-never h l a room (inr (p, inr (r, inr (s, inl f)))) q =
+    let t = firstForm (lineKind (h .last) (pieces 44 l)) in
+    absurd (omega (arith, line-short t l, leb-false (h .used + length (lineBytes t (fieldsOf (pieces 44 l)))) (length (h .store)) (f .0)))
+line-never h l a room (inr (p, inr (r, inr (s, inr f)))) q = absurd (f .1)
 
-run-never : (ls : List (List ℕ)) (h : Held) → h .used + length (joined ls) ≤ length (h .store) → Never (run h ls)
-unfolding run andThen joined Never Fits
-run-never [] h room = λ q. absurd (omega arith)
-run-never (l ∷ []) h room = finish-never h l
-run-never (l ∷ m ∷ ls) h room =
-    let n = length-append l (joined (m ∷ ls)) in
-    go (step h l) (step-fits h l (omega arith)) (λ g. run-never (m ∷ ls) g)
+-- a line put down takes no more of the store than its own bytes
+put-fits : (h : Held) (l : List ℕ) → (linePut h l .used ≤ h .used + length l) × (length (linePut h l .store) ≡ length (h .store))
+unfolding linePut put
+put-fits h l =
+    let t = firstForm (lineKind (h .last) (pieces 44 l)) in
+    (omega (arith, line-short t l), length-sets (h .store) (h .used) (lineBytes t (fieldsOf (pieces 44 l))))
+
+-- nor does the end of the scene give 6
+end-never : (h : Held) (l : List ℕ) → Never (finish h l)
+unfolding endRows Never
+end-never h l = go (decide Passed (endRows h l)) (each-refuses (λ a. errorNumber a ≡ 6 → ⊥) (endRows h l) (λ q. absurd (omega arith), (λ q. absurd (omega arith), tt)))
   where
-    go : (o : Outcome) → Fits h (length l) o → ((g : Held) → g .used + length (joined (m ∷ ls)) ≤ length (g .store) → Never (run g (m ∷ ls)))
-        → Never (andThen o (λ g. run g (m ∷ ls)))
-    go (refused e) f next = f
-    go (held g) f next = let n = length-append l (joined (m ∷ ls)) in next g (omega (arith, f .0, f .1))
+    go : (c : Check) → Refuses (λ a. errorNumber a ≡ 6 → ⊥) c → Never (heldAfter c h)
+    go Passed f q = absurd (omega arith)
+    go (Failed a) f q = f q
+
+-- the lines, with a store that has room for all of them
+run-never : (l : List ℕ) (ls : List (List ℕ)) (h : Held) → h .used + length (joined (l ∷ ls)) ≤ length (h .store) → Never (run h (l ∷ ls))
+unfolding joined Never
+run-never l [] h room = rw (run-last h l _ refl) (end-never h l)
+run-never l (m ∷ ls) h room =
+    let n = length-append l (joined (m ∷ ls)) in
+    let f = put-fits h l in
+    go (decide Passed (rowsOf h l)) refl (run-never m ls (linePut h l) (omega (arith, f .0, f .1)))
+  where
+    go : (c : Check) → decide Passed (rowsOf h l) ≡ c → Never (run (linePut h l) (m ∷ ls)) → Never (run h (l ∷ m ∷ ls))
+    go Passed e next = rw (run-passed h l m ls e) next
+    go (Failed a) e next =
+        let n = length-append l (joined (m ∷ ls)) in
+        rw (run-failed h l m ls a e) (line-never h l a (omega arith) (failed-first (rowsOf h l) a e))
+
+-- nor do the reader's limits, with a table of 2,048 entries
+limits-never : (scene : List ℕ) (m : ℕ) (a : ProtocolError) → 2048 ≤ m → First (limitRows scene m) a → errorNumber a ≡ 6 → ⊥
+unfolding limitRows
+limits-never scene m a hm (inl f) q = absurd (omega (arith, ap errorNumber (f .1)))
+limits-never scene m a hm (inr (p, inl f)) q = absurd (omega (arith, leb-false 2048 m (f .0)))
+limits-never scene m a hm (inr (p, inr f)) q = absurd (f .1)
 
 -- 01: "The program's buffers are long enough that it never gives 5 or 6": 6, for the reader
 pub reader-never-six : (scene : List ℕ) (n m : ℕ) → length scene ≤ n → 2048 ≤ m → checkNumber (answerOf (readOf scene n m)) ≡ 6 → ⊥
-unfolding readOf start Never
-reader-never-six scene n m hn hm =
-    rw (le-ltb m 2048 hm)
-    (go (ltb 1048576 (length scene)) (run-never (pieces 10 scene) (start n m) (omega (arith, pieces-short 10 scene, length-replicate {0} {A = ℕ} n 0))))
+unfolding start Never
+reader-never-six scene n m hn hm = go (decide Passed (limitRows scene m)) refl
   where
-    go : (b : Bool) → Never (run (start n m) (pieces 10 scene)) → Never (cond b (refused SceneTooLong) (run (start n m) (pieces 10 scene)))
-    go true f = λ q. absurd (omega arith)
-    go false f = f
+    go : (c : Check) → decide Passed (limitRows scene m) ≡ c → Never (readOf scene n m)
+    go Passed e =
+        let z = pieces-some 10 scene in
+        let short : length (joined (z .0 ∷ z .1)) ≤ length scene = rw (z .2) at (pieces-short 10 scene) in
+        rw (limits-passed scene n m e, z .2) (run-never (z .0) (z .1) (start n m) (omega (arith, length-replicate {0} {A = ℕ} n 0)))
+    go (Failed a) e = rw (limits-failed scene n m a e) (limits-never scene m a hm (failed-first (limitRows scene m) a e))

@@ -5,3 +5,4 @@ pub mod Runs
 pub mod LineRows
 pub mod PutDown
 pub mod FieldsPut
+pub mod Theorem

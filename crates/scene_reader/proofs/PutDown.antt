@@ -7,9 +7,6 @@ use native.Mathlib.Omega.{arith}
 use native.Mathlib.Numerals.{add-one}
 use lib.ListN.{length, set}
 use lib.Seq.{sets}
-use Rattle.protocol.specs.Rows.{decide}
-use Rattle.protocol.specs.declared.check.Check.{Check}
-use Rattle.protocol.specs.declared.check.Check.the-variants.{Passed}
 use Rattle.scene_line.specs.declared.form.Form.{Form}
 use Rattle.scene_line.specs.declared.fields.FieldsFound.{FieldsFound}
 use Rattle.scene_line.specs.declared.kind.Kind.{Kind}
@@ -18,19 +15,12 @@ use Rattle.scene_line.specs.Kind.{place, fieldCount, firstForm, follows}
 use Rattle.scene_line.proofs.KindLaws.{place-small}
 use Rattle.scene_reader.specs.declared.state.State.{State}
 use Rattle.scene_reader.specs.declared.state.Step.the-variants.{Next}
-use Rattle.scene_reader.specs.Reader.{Held, held, seenWith, put, stepAs}
-use Rattle.scene_reader.specs.Room.{lineRows, holding, limit, Ready, Kept}
+use Rattle.scene_reader.specs.Reader.{Held, held, seenWith, put}
+use Rattle.scene_reader.specs.Room.{holding, stepAs, limit, Ready, Kept}
 use Rattle.scene_reader.proofs.Bounds.{fits, limit-small}
-use Rattle.scene_reader.proofs.LineRows.{rowsOf, Passes}
+use Rattle.scene_reader.proofs.LineRows.{Passes}
 
 module _ (s : State) (st tb : List ℕ) (k : Kind) (fs : List (List ℕ)) where
-  -- the rows over what was found of the line are the line's rows
-  pub checked : (p n : ℕ) (t : Form) (f : FieldsFound) (c : Check) → p ≡ place k → n ≡ seenWith (s .last) (s .seen) p → t ≡ firstForm k
-      → f ≡ fieldsFound t fs → c ≡ decide Passed (lineRows p n (f .ok) (s .used + f .bytes) (length st))
-      → c ≡ decide Passed (rowsOf (holding s st tb) k fs)
-  unfolding fieldsFound
-  checked p n t f c hp hn ht hf hc = hc ∙ rw (hf, ht, hn, hp)
-
   -- the state and the lists after the line, part by part, are the line put down
   pub is-put : (p n end m : ℕ) (t : Form) (st′ tb′ : List ℕ) → p ≡ place k → n ≡ seenWith (s .last) (s .seen) p → t ≡ firstForm k
       → m ≡ length (lineBytes (firstForm k) fs) → end ≡ s .filled + 1 + length (lineNumbers t fs)
@@ -40,10 +30,14 @@ module _ (s : State) (st tb : List ℕ) (k : Kind) (fs : List (List ℕ)) where
   unfolding put
   is-put p n end m t st′ tb′ hp hn ht hm he hs hb = rw (he, hs, hb, hm, hn, hp, ht, add-one (s .filled))
 
+  -- what was found of the fields is what they are, the first one of the kind's form
+  pub found-as : (t : Form) (f : FieldsFound) → t ≡ firstForm k → f ≡ fieldsFound t fs → f ≡ fieldsFound (firstForm k) fs
+  found-as t f ht hf = hf ∙ rw ht
+
   -- the count of bytes that was found is the line's
-  pub counted : (t : Form) (f : FieldsFound) → t ≡ firstForm k → f ≡ fieldsFound t fs → f .bytes ≡ length (lineBytes (firstForm k) fs)
+  pub counted : (f : FieldsFound) → f ≡ fieldsFound (firstForm k) fs → f .bytes ≡ length (lineBytes (firstForm k) fs)
   unfolding fieldsFound
-  counted t f ht hf = rw (hf, ht)
+  counted f hf = rw hf
 
   module _ (n : ℕ) (ready : Ready s n (length st) (length tb))
       (shape : (place k ≡ 0 → ⊥) → (length fs ≡ fieldCount k) × (follows (s .last) (place k) ≡ true))

@@ -1,19 +1,23 @@
--- Laws of a run over the lines. Assumes nothing.
+-- Laws of the reader's rows and of a run over the lines. Assumes nothing.
 use Prim.Native.Nat.{ℕ, _+_, _≤_, _<_}
-use mathlib.Core.Bool.{Bool, true, false, cond}
 use mathlib.Core.Path.{_≡_, refl, ap, _∙_}
-use mathlib.Core.List.{List, [], _∷_}
+use mathlib.Core.List.{List, [], _∷_, _++_}
 use native.Mathlib.Omega.{arith}
+use borrow.Author.Tests.{leb-true}
 use lib.ListN.{length, take, drop, replicate}
+use Rattle.protocol.specs.Rows.{Row, decide}
 use Rattle.protocol.specs.declared.error.ProtocolError.{ProtocolError}
+use Rattle.protocol.specs.declared.check.Check.{Check}
+use Rattle.protocol.specs.declared.check.Check.the-variants.{Passed, Failed}
+use Rattle.protocol.proofs.Hold.{decide-append, decide-failed, passed-hold}
 use Rattle.scene_reader.specs.declared.state.State.{State}
 use Rattle.scene_reader.specs.declared.state.Step.{Step}
 use Rattle.scene_reader.specs.declared.state.Step.the-variants.{Next, Refused}
 use Rattle.scene_text.specs.Text.{pieces, before, Cut}
 use Rattle.scene_line.specs.declared.kind.Kind.{Kind}
 use Rattle.scene_line.specs.Kind.{lineKind, fieldsOf}
-use Rattle.scene_reader.specs.Reader.{Held, Outcome, held, refused, stepAs, step, finish, isLast, andThen, run, start}
-use Rattle.scene_reader.specs.Room.{leaves, Kept}
+use Rattle.scene_reader.specs.Reader.{Held, Outcome, held, refused, heldAfter, rowsOf, linePut, linesRows, linesPut, run, start, limitRows, sceneRows, readOf}
+use Rattle.scene_reader.specs.Room.{stepAs, step, finish, Kept}
 use Rattle.scene_text.proofs.Pieces.{before-none}
 
 pub kept-more : (s : State) (n m a b : ℕ) → n ≤ m → (r : Step) → Kept s n a b r → Kept s m a b r
@@ -25,34 +29,83 @@ pub starts : (n m : ℕ) (a b : List ℕ) → a ≡ replicate n 0 → b ≡ repl
 unfolding start
 starts n m a b p q = rw (p, q)
 
-pub leaves-cond : (b : Bool) (x y : Step) (s t : List ℕ) → leaves (cond b x y) s t ≡ cond b (leaves x s t) (leaves y s t)
-leaves-cond true x y s t = refl
-leaves-cond false x y s t = refl
+-- a list of rows in front of another: it passes, and the other decides
+rows-on : (ps qs : List Row) → decide Passed ps ≡ Passed → decide Passed (ps ++ qs) ≡ decide Passed qs
+rows-on ps qs e = decide-append Passed ps qs ∙ rw e
 
-some : (ps : List (List ℕ)) → ps ≡ before [] ps → isLast ps ≡ false
+-- or it refuses
+rows-off : (ps qs : List Row) (a : ProtocolError) → decide Passed ps ≡ Failed a → decide Passed (ps ++ qs) ≡ Failed a
+rows-off ps qs a e = decide-append Passed ps qs ∙ rw e (decide-failed qs a)
+
+module _ (h : Held) (l m : List ℕ) (ls : List (List ℕ)) where
+  -- behind a line that its rows pass the other lines run
+  pub run-passed : decide Passed (rowsOf h l) ≡ Passed → run h (l ∷ m ∷ ls) ≡ run (linePut h l) (m ∷ ls)
+  unfolding run linesRows linesPut
+  run-passed e = rw (rows-on (rowsOf h l) (linesRows (linePut h l) (m ∷ ls)) e)
+
+  -- a line that its rows refuse decides
+  pub run-failed : (a : ProtocolError) → decide Passed (rowsOf h l) ≡ Failed a → run h (l ∷ m ∷ ls) ≡ refused a
+  unfolding run linesRows
+  run-failed a e = rw (rows-off (rowsOf h l) (linesRows (linePut h l) (m ∷ ls)) a e)
+
+-- the end of the lines
+pub run-last : (h : Held) (l : List ℕ) (P : List (List ℕ)) → P ≡ l ∷ [] → run h P ≡ finish h l
+unfolding run linesRows linesPut
+run-last h l P e = rw e
+
+-- where the reader's own rows pass, scene and table are within its limits
+pub limits-within : (scene : List ℕ) (m : ℕ) → decide Passed (limitRows scene m) ≡ Passed → (length scene ≤ 1048576) × (2048 ≤ m)
+unfolding limitRows
+limits-within scene m e =
+    let z = passed-hold (limitRows scene m) e in
+    (leb-true (length scene) 1048576 (z .0), leb-true 2048 m (z .1 .0))
+
+module _ (scene : List ℕ) (n m : ℕ) where
+  -- then the lines decide
+  pub limits-passed : decide Passed (limitRows scene m) ≡ Passed → readOf scene n m ≡ run (start n m) (pieces 10 scene)
+  unfolding readOf sceneRows run
+  limits-passed e = rw (rows-on (limitRows scene m) (linesRows (start n m) (pieces 10 scene)) e)
+
+  -- else the row that fails
+  pub limits-failed : (a : ProtocolError) → decide Passed (limitRows scene m) ≡ Failed a → readOf scene n m ≡ refused a
+  unfolding readOf sceneRows
+  limits-failed a e = rw (rows-off (limitRows scene m) (linesRows (start n m) (pieces 10 scene)) a e)
+
+-- something is held where the rows passed
+pub held-passed : (c : Check) (h g : Held) → heldAfter c h ≡ held g → (c ≡ Passed) × (h ≡ g)
+held-passed Passed h g e = (refl, cc)
+held-passed (Failed a) h g e = absurd (let z : _≡_ {A = ℕ} 0 1 = cc in omega arith)
+
+-- and a refusal is the one that they found
+pub refused-failed : (c : Check) (h : Held) (a : ProtocolError) → heldAfter c h ≡ refused a → c ≡ Failed a
+refused-failed Passed h a e = absurd (let z : _≡_ {A = ℕ} 0 1 = cc in omega arith)
+refused-failed (Failed b) h a e = cc
+
+-- a text has at least one piece
+some : (ps : List (List ℕ)) → ps ≡ before [] ps → (m : List ℕ) × (ms : List (List ℕ)) × (ps ≡ m ∷ ms)
 unfolding before
 some [] e = let z : _≡_ {A = ℕ} 0 1 = ap length e in absurd (omega arith)
-some (p ∷ ps) e = refl
+some (p ∷ ps) e = (p, ps, refl)
 
-module _ (h : Held) (l s : List ℕ) (P : List (List ℕ)) where
-  pub run-last : P ≡ l ∷ [] → run h P ≡ finish h l
-  unfolding run
-  run-last e = rw e
+pub pieces-some : (c : ℕ) (s : List ℕ) → (m : List ℕ) × (ms : List (List ℕ)) × (pieces c s ≡ m ∷ ms)
+pieces-some c s = some (pieces c s) (before-none c s)
 
-  run-more : P ≡ l ∷ pieces 10 s → run h P ≡ andThen (step h l) (λ (g : Held). run g (pieces 10 s))
-  unfolding run
-  run-more e = rw (e, some (pieces 10 s) (before-none 10 s))
+module _ (h : Held) (l s : List ℕ) (P : List (List ℕ)) (cut : P ≡ l ∷ pieces 10 s) where
+  -- a line that is held, and those behind it
+  pub run-on : (g : Held) → step h l ≡ held g → run h P ≡ run g (pieces 10 s)
+  run-on g q =
+      let k = held-passed _ _ g q in
+      let z = pieces-some 10 s in
+      rw (cut, z .2) (run-passed h l (z .0) (z .1) (k .0) ∙ rw (k .1))
 
-  pub run-on : (g : Held) → P ≡ l ∷ pieces 10 s → step h l ≡ held g → run h P ≡ run g (pieces 10 s)
-  unfolding andThen
-  run-on g e q = run-more e ∙ ap (λ (o : Outcome). andThen o (λ (g : Held). run g (pieces 10 s))) q
-
-  pub run-off : (a : ProtocolError) → P ≡ l ∷ pieces 10 s → step h l ≡ refused a → run h P ≡ refused a
-  unfolding andThen
-  run-off a e q = run-more e ∙ ap (λ (o : Outcome). andThen o (λ (g : Held). run g (pieces 10 s))) q
+  -- a line that is refused
+  pub run-off : (a : ProtocolError) → step h l ≡ refused a → run h P ≡ refused a
+  run-off a q =
+      let z = pieces-some 10 s in
+      rw (cut, z .2) (run-failed h l (z .0) (z .1) a (refused-failed _ _ a q))
 
 -- a line's step by the word before its first comma and the fields behind it
 pub step-cut : (h : Held) (line w fields : List ℕ) (e : ℕ) (k : Kind) (o : Outcome) → Cut 44 line e → e < length line → w ≡ take e line → fields ≡ drop (e + 1) line
     → k ≡ lineKind (h .last) (w ∷ pieces 44 fields) → o ≡ stepAs h k (pieces 44 fields) → o ≡ step h line
-unfolding step fieldsOf
+unfolding rowsOf linePut fieldsOf
 step-cut h line w fields e k o cut more hw hf hk ho = ho ∙ rw (hk, hw, hf, cut .cut more)

@@ -1,10 +1,11 @@
--- The scene reader: what one line does, all lines, and what the reader answers and leaves.
+-- The scene reader: what a line puts down, the rows of a line and of a scene, and what the reader answers and leaves.
 use Prim.Native.Nat.{ℕ, _+_}
-use mathlib.Core.Bool.{Bool, true, false, cond, _&&_}
-use mathlib.Core.List.{List, [], _∷_}
+use mathlib.Core.Bool.{true, cond, not}
+use mathlib.Core.List.{List, [], _∷_, _++_}
 use lib.ListN.{length, set, replicate}
 use lib.Seq.{sets}
-use lib.Dec.{ltb, eqb}
+use lib.Dec.{leb, eqb}
+use Rattle.protocol.specs.Rows.{Row, row, decide}
 use Rattle.protocol.specs.declared.error.ProtocolError.{ProtocolError}
 use Rattle.protocol.specs.declared.error.ProtocolError.the-variants.{SceneTooLong, InvalidLine, InvalidField, TooManyLines, StoreTooShort}
 use Rattle.protocol.specs.declared.check.Check.{Check}
@@ -46,50 +47,69 @@ put h k fs = record {
   table = sets (set (h .table) (place k) (seenWith (h .last) (h .seen) (place k))) (h .filled) (h .used ∷ lineNumbers (firstForm k) fs);
 }
 
--- 01: "each through the line rows below in their order, a row over all fields of the line before the next row": 2, 4 ("65th of
--- a kind"), 3 ("a field's form, or just one of TYPEHASH and TYPESCRIPT empty"), 6 ("store too short for the field")
-unfoldable pub stepAs : Held → Kind → List (List ℕ) → Outcome
-stepAs h k fs =
-    cond (eqb (place k) 0) (refused InvalidLine)
-    (cond (ltb 64 (seenWith (h .last) (h .seen) (place k))) (refused TooManyLines)
-    (cond (formsOk true (firstForm k) fs)
-    (cond (ltb (length (h .store)) (h .used + length (lineBytes (firstForm k) fs))) (refused StoreTooShort) (held (put h k fs)))
-    (refused InvalidField)))
+-- 01, "Where each refusal is raised", the line rows, of a line of kind k with the fields fs: "kind, order, field count", 2, where
+-- the kind has no place; "65th of a kind", 4; "a field's form, or just one of TYPEHASH and TYPESCRIPT empty", 3; "store too short
+-- for the field", 6
+unfoldable pub lineRows : Held → Kind → List (List ℕ) → List Row
+lineRows h k fs =
+    row (not (eqb (place k) 0)) InvalidLine
+    ∷ row (leb (seenWith (h .last) (h .seen) (place k)) 64) TooManyLines
+    ∷ row (formsOk true (firstForm k) fs) InvalidField
+    ∷ row (leb (h .used + length (lineBytes (firstForm k) fs)) (length (h .store))) StoreTooShort
+    ∷ []
 
--- one line
-unfoldable pub step : Held → List ℕ → Outcome
-step h line = stepAs h (lineKind (h .last) (pieces 44 line)) (fieldsOf (pieces 44 line))
+-- the line rows of a line of the text, by its word and its fields
+unfoldable pub rowsOf : Held → List ℕ → List Row
+rowsOf h line = lineRows h (lineKind (h .last) (pieces 44 line)) (fieldsOf (pieces 44 line))
 
--- 01: "A needed line is missing at the line that stands in its place, or at the end of the scene"; a line's "ending", 2:
--- nothing follows the last line's ending, and verdicts was read
-unfoldable pub finish : Held → List ℕ → Outcome
-finish h rest = cond (eqb (length rest) 0 && eqb (h .last) 7) (held h) (refused InvalidLine)
+-- what is held once it is put down
+unfoldable pub linePut : Held → List ℕ → Held
+linePut h line = put h (lineKind (h .last) (pieces 44 line)) (fieldsOf (pieces 44 line))
 
--- a line's outcome, and what comes after it
-unfoldable pub andThen : Outcome → (Held → Outcome) → Outcome
-andThen (refused e) next = refused e
-andThen (held h) next = next h
+-- 01: "ending, or a needed line missing", 2; "A needed line is missing at the line that stands in its place, or at the end of the
+-- scene": nothing follows the last line's ending, and verdicts was read
+unfoldable pub endRows : Held → List ℕ → List Row
+endRows h rest = row (eqb (length rest) 0) InvalidLine ∷ row (eqb (h .last) 7) InvalidLine ∷ []
 
--- nothing follows
-abbrev pub isLast : List (List ℕ) → Bool
-isLast [] = true
-isLast (l ∷ ls) = false
+-- 01: "Lines are tested one by one, each through the line rows below in their order, a row over all fields of the line before the
+-- next row": the rows of all lines, each line's over what is held once those before it are put down; the last piece, and a text has
+-- at least one, is what follows the last ending
+unfoldable pub linesRows : Held → List (List ℕ) → List Row
+linesRows h [] = endRows h []
+linesRows h (l ∷ []) = endRows h l
+linesRows h (l ∷ m ∷ ls) = rowsOf h l ++ linesRows (linePut h l) (m ∷ ls)
 
--- the lines one by one; the last piece is what follows the last ending
+-- what is held once all lines are put down
+unfoldable pub linesPut : Held → List (List ℕ) → Held
+linesPut h [] = h
+linesPut h (l ∷ []) = h
+linesPut h (l ∷ m ∷ ls) = linesPut (linePut h l) (m ∷ ls)
+
+-- the refusal that rows found, or else what is held after them
+abbrev pub heldAfter : Check → Held → Outcome
+heldAfter (Failed e) h = refused e
+heldAfter Passed h = held h
+
+-- what the lines alone give, the reader's own two rows aside
 unfoldable pub run : Held → List (List ℕ) → Outcome
-run h [] = refused InvalidLine
-run h (l ∷ ls) = cond (isLast ls) (finish h l) (andThen (step h l) (λ g. run g ls))
+run h ls = heldAfter (decide Passed (linesRows h ls)) (linesPut h ls)
 
 -- 01: "both are zeroed first": a store of n bytes and a table of m entries; the table's first eight entries are for the counts
 -- of the kinds
 unfoldable pub start : ℕ → ℕ → Held
 start n m = record { last = 0; seen = 0; used = 0; filled = 8; store = replicate n 0; table = replicate m 0 }
 
--- 01: "reader: above 1,048,576 bytes", 1; "reader: table below 2,048 entries", 6; then the lines. What the reader finds, with a
--- store of n bytes and a table of m entries
+-- 01: "reader: above 1,048,576 bytes", 1; "reader: table below 2,048 entries", 6
+unfoldable pub limitRows : List ℕ → ℕ → List Row
+limitRows scene m = row (leb (length scene) 1048576) SceneTooLong ∷ row (leb 2048 m) StoreTooShort ∷ []
+
+-- 01, "Where each refusal is raised": the reader rows, then the line rows
+unfoldable pub sceneRows : List ℕ → ℕ → ℕ → List Row
+sceneRows scene n m = limitRows scene m ++ linesRows (start n m) (pieces 10 scene)
+
+-- what the reader finds, with a store of n bytes and a table of m entries: the first row that fails refuses the scene
 unfoldable pub readOf : List ℕ → ℕ → ℕ → Outcome
-readOf scene n m =
-    cond (ltb 1048576 (length scene)) (refused SceneTooLong) (cond (ltb m 2048) (refused StoreTooShort) (run (start n m) (pieces 10 scene)))
+readOf scene n m = heldAfter (decide Passed (sceneRows scene n m)) (linesPut (start n m) (pieces 10 scene))
 
 -- what the reader answers
 abbrev pub answerOf : Outcome → Check

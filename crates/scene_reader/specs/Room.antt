@@ -1,15 +1,14 @@
--- The state in the code beside its definition, a line's rows as a list, and what private functions keep so that all that is
--- written fits. No public contract cites it.
+-- The state in the code beside its definition, one line by its rows, and what private functions keep so that all that is written
+-- fits. No public contract cites it.
 use Prim.Native.Nat.{ℕ, _+_, _-_, _*_, _≤_, _<_, min}
-use mathlib.Core.Bool.{Bool, not}
-use mathlib.Core.List.{List, [], _∷_}
-use lib.Dec.{leb, eqb}
-use Rattle.protocol.specs.Rows.{Row, row}
-use Rattle.protocol.specs.declared.error.ProtocolError.the-variants.{InvalidLine, InvalidField, TooManyLines, StoreTooShort}
+use mathlib.Core.List.{List}
+use Rattle.protocol.specs.Rows.{decide}
+use Rattle.protocol.specs.declared.check.Check.the-variants.{Passed}
+use Rattle.scene_line.specs.declared.kind.Kind.{Kind}
 use Rattle.scene_reader.specs.declared.state.State.{State}
 use Rattle.scene_reader.specs.declared.state.Step.{Step}
 use Rattle.scene_reader.specs.declared.state.Step.the-variants.{Next, Refused}
-use Rattle.scene_reader.specs.Reader.{Held, Outcome, refused, held}
+use Rattle.scene_reader.specs.Reader.{Held, Outcome, refused, held, heldAfter, lineRows, rowsOf, endRows, put, linePut}
 
 -- the state in the code, with the store and the table
 abbrev pub holding : State → List ℕ → List ℕ → Held
@@ -20,15 +19,17 @@ abbrev pub leaves : Step → List ℕ → List ℕ → Outcome
 leaves (Next s) store table = held (holding s store table)
 leaves (Refused e) store table = refused e
 
--- the rows of one line, in the order of document 01's table: 2, 4, 3, 6. Its kind's place, how many lines of the kind were read
--- with it, whether its fields have their forms, where its bytes end in the store, how long the store is
-unfoldable pub lineRows : ℕ → ℕ → Bool → ℕ → ℕ → List Row
-lineRows place seen ok end store =
-    row (not (eqb place 0)) InvalidLine
-    ∷ row (leb seen 64) TooManyLines
-    ∷ row ok InvalidField
-    ∷ row (leb end store) StoreTooShort
-    ∷ []
+-- a line of kind k with the fields fs: its rows, and then it is put down
+abbrev pub stepAs : Held → Kind → List (List ℕ) → Outcome
+stepAs h k fs = heldAfter (decide Passed (lineRows h k fs)) (put h k fs)
+
+-- a line of the text
+abbrev pub step : Held → List ℕ → Outcome
+step h line = heldAfter (decide Passed (rowsOf h line)) (linePut h line)
+
+-- what follows the last line's ending
+abbrev pub finish : Held → List ℕ → Outcome
+finish h rest = heldAfter (decide Passed (endRows h rest)) h
 
 -- the table's entries in use after lines up to the seen-th of the kind at place last, at most: 8 counts, 6 for each line before
 -- verdicts, 18 for verdicts

@@ -21,13 +21,13 @@ fn read_checked(scene: &[u8], store: &mut [u8], table: &mut [u32]) -> Step
     requires { ⌜ (now store ≡ replicate (length (now store)) 0) × (now table ≡ replicate (length (now table)) 0) ⌝ }
     ensures { λ r. ⌜ leaves r (now (store .exit)) (now (table .exit)) ≡ readOf (now (scene .entry)) (length (now (store .entry))) (length (now (table .entry))) ⌝ }
 {
-    if 1048576 < scene.len() {
-        return Step::Refused(ProtocolError::SceneTooLong);
+    let checked = Check::Passed
+        .require(scene.len() <= 1048576, ProtocolError::SceneTooLong)
+        .require(2048 <= table.len(), ProtocolError::StoreTooShort);
+    match checked {
+        Check::Failed(error) => Step::Refused(error),
+        Check::Passed => read_lines(scene, store, table),
     }
-    if table.len() < 2048 {
-        return Step::Refused(ProtocolError::StoreTooShort);
-    }
-    read_lines(scene, store, table)
 }
 
 // Reads a scene into the store and the table. Both are all zero after a refusal.

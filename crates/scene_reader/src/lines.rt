@@ -4,6 +4,7 @@ use crate::state::State;
 use crate::state::Step;
 use protocol::Check;
 use protocol::ProtocolError;
+use scene_line::FieldsFound;
 use scene_line::Kind;
 use scene_line::check_fields;
 use scene_line::first_form;
@@ -13,17 +14,17 @@ use scene_text::find;
 use scene_text::head;
 use scene_text::tail;
 ghost use mathlib.Core.Path.{_≡_};
-ghost use mathlib.Core.Bool.{true, cond, _&&_};
-ghost use Prim.Native.Nat.{_≤_};
-ghost use lib.Dec.{eqb};
+ghost use mathlib.Core.Bool.{true};
+ghost use mathlib.Core.List.{List};
+ghost use Prim.Native.Nat.{ℕ, _+_, _≤_};
 ghost use lib.ListN.{length, replicate};
 ghost use Rattle.protocol.specs.Rows.{decide};
 ghost use Rattle.protocol.specs.declared.check.Check.the-variants.{Passed};
-ghost use Rattle.protocol.specs.declared.error.ProtocolError.the-variants.{InvalidLine};
 ghost use Rattle.scene_text.specs.Text.{pieces};
-ghost use Rattle.scene_line.specs.Kind.{place, fieldCount, follows};
-ghost use Rattle.scene_reader.specs.Reader.{seenWith, stepAs, step, run, start};
-ghost use Rattle.scene_reader.specs.Room.{lineRows, Ready, Kept, holding, leaves};
+ghost use Rattle.scene_line.specs.Kind.{place, fieldCount, firstForm, follows};
+ghost use Rattle.scene_line.specs.Line.{fieldsFound};
+ghost use Rattle.scene_reader.specs.Reader.{seenWith, lineRows, run, start};
+ghost use Rattle.scene_reader.specs.Room.{stepAs, step, finish, Ready, Kept, holding, leaves};
 
 // How many lines of the kind at place k were read, with this one.
 pub(crate) fn seen_with(last: usize, seen: usize, k: usize) -> usize
@@ -36,16 +37,18 @@ pub(crate) fn seen_with(last: usize, seen: usize, k: usize) -> usize
     1
 }
 
-// What the rows of a line find: its kind's place, how many lines of the kind were read, whether its fields have their forms, where its
-// bytes end in a store of room bytes.
-fn check_line(place: usize, seen: usize, ok: bool, end: usize, room: usize) -> Check
-    ensures { λ r. ⌜ r ≡ decide Passed (lineRows place seen ok end room) ⌝ }
+// What the rows of a line of kind k find, its fields and a store of room bytes being as found.
+fn check_line(k: Kind, s: State, found: FieldsFound, room: usize) -> Check
+    requires { ⌜ (s .seen ≤ 64) × (s .used + found .bytes ≤ 1048576) ⌝ }
+    ensures { λ r. ⌜ ((fs : List (List ℕ)) (store table : List ℕ) → found ≡ fieldsFound (firstForm k) fs → room ≡ length store → r ≡ decide Passed (lineRows (holding s store table) k fs)) ⌝ }
 {
+    let p = place_of(k);
+    let seen = seen_with(s.last, s.seen, p);
     Check::Passed
-        .require(place != 0, ProtocolError::InvalidLine)
+        .require(p != 0, ProtocolError::InvalidLine)
         .require(seen <= 64, ProtocolError::TooManyLines)
-        .require(ok, ProtocolError::InvalidField)
-        .require(end <= room, ProtocolError::StoreTooShort)
+        .require(found.ok, ProtocolError::InvalidField)
+        .require(s.used + found.bytes <= room, ProtocolError::StoreTooShort)
 }
 
 // A line of kind k: its rows, and then it is put down.
@@ -55,10 +58,8 @@ fn read_as(k: Kind, fields: &[u8], s: State, store: &mut [u8], table: &mut [u32]
     ensures { λ r. ⌜ leaves r (now (store .exit)) (now (table .exit)) ≡ stepAs (holding s (now (store .entry)) (now (table .entry))) k (pieces 44 (now (fields .entry))) ⌝ }
     ensures { λ r. ⌜ Kept s (length (now (fields .entry))) (length (now (store .entry))) (length (now (table .entry))) r ⌝ }
 {
-    let p = place_of(k);
-    let seen = seen_with(s.last, s.seen, p);
     let found = check_fields(first_form(k), fields);
-    match check_line(p, seen, found.ok, s.used + found.bytes, store.len()) {
+    match check_line(k, s, found, store.len()) {
         Check::Failed(error) => Step::Refused(error),
         Check::Passed => Step::Next(put_line(k, fields, s, found.bytes, store, table)),
     }
@@ -79,17 +80,17 @@ fn read_line(line: &[u8], s: State, store: &mut [u8], table: &mut [u32]) -> Step
     read_as(k, fields, s, store, table)
 }
 
-// The end of a scene with n bytes behind the last line.
-fn finish_at(s: State, n: usize) -> Step
-    ensures { λ r. ⌜ r ≡ cond (eqb n 0 && eqb (s .last) 7) (Step.Next s) (Step.Refused InvalidLine) ⌝ }
+// The end of a scene: what follows the last line's ending.
+fn finish_at(s: State, rest: &[u8]) -> Step
+    ensures { λ r. ⌜ ((store table : List ℕ) → leaves r store table ≡ finish (holding s store table) (now (rest .entry))) ⌝ }
 {
-    if n != 0 {
-        return Step::Refused(ProtocolError::InvalidLine);
+    let checked = Check::Passed
+        .require(rest.len() == 0, ProtocolError::InvalidLine)
+        .require(s.last == 7, ProtocolError::InvalidLine);
+    match checked {
+        Check::Failed(error) => Step::Refused(error),
+        Check::Passed => Step::Next(s),
     }
-    if s.last != 7 {
-        return Step::Refused(ProtocolError::InvalidLine);
-    }
-    Step::Next(s)
 }
 
 // All lines, into a store and a table that are all zero.
@@ -108,7 +109,7 @@ pub(crate) fn read_lines(scene: &[u8], store: &mut [u8], table: &mut [u32]) -> S
     loop {
         let e = find(rest, 10);
         if e == rest.len() {
-            return finish_at(s, e);
+            return finish_at(s, rest);
         }
         let step = read_line(head(rest, e), s, store, table);
         let Step::Next(after) = step else {

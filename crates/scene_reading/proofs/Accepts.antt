@@ -16,7 +16,7 @@ use Rattle.scene_reading.specs.Lines.{Passes, kindOfLine, countOk, formO
 use Rattle.scene_table.proofs.Truth.{and-both, both-and}
 use Rattle.scene_reading.proofs.Order.{Order}
 use Rattle.scene_reading.proofs.Ordered.{order-kinds, kinds-order}
-use Rattle.scene_reading.proofs.Run.{LinesPass, Ran, putLines, lines-run, run-lines}
+use Rattle.scene_reading.proofs.Run.{LinesPass, Ran, putLines, lines-run, run-text}
 
 -- what the rows say of all lines together
 record Together (last seen used size : ℕ) (ls : List (List ℕ)) : Type 0 where
@@ -55,7 +55,7 @@ module _ (text : List ℕ) (n m : ℕ) where
   pub accepted-passes : (g : Held) → run (start n m) (pieces 10 text) ≡ held g → Passes text n
   unfolding start
   accepted-passes g e =
-      let r : Ran (start n m) g (pieces 10 text) = run-lines (pieces 10 text) (start n m) g e in
+      let r : Ran (start n m) g (pieces 10 text) = run-text text (start n m) g e in
       let t = together (r .lines) 0 0 0 (length (replicate n 0)) zero-le (r .pass) in
       let k = order-kinds (map kindOfLine (r .lines)) (t .order) in
       record {

@@ -2,22 +2,25 @@
 -- Assumes nothing.
 use Prim.Native.Nat.{ℕ, suc, _+_, _≤_}
 use mathlib.Core.Bool.{Bool, true, false, cond, not, _&&_, false≢true}
-use mathlib.Core.Path.{_≡_, refl, sym, ap}
+use mathlib.Core.Path.{_≡_, refl, sym, ap, _∙_}
 use mathlib.Core.List.{List, [], _∷_, _++_}
 use native.Mathlib.Omega.{arith}
 use lib.ListN.{length}
 use lib.Seq.{length-sets}
 use lib.Dec.{ltb, leb, eqb}
-use borrow.Author.Tests.{ltb-false, le-ltb, eqb-true, ne-eqb, eq-eqb}
-use Rattle.protocol.specs.declared.error.ProtocolError.{ProtocolError}
-use Rattle.protocol.specs.declared.error.ProtocolError.the-variants.{InvalidLine, InvalidField, TooManyLines, StoreTooShort}
+use borrow.Author.Tests.{leb-true, le-leb, eqb-true, ne-eqb, eq-eqb, not-true}
+use Rattle.protocol.specs.Rows.{decide, Hold}
+use Rattle.protocol.specs.declared.check.Check.{Check}
+use Rattle.protocol.specs.declared.check.Check.the-variants.{Passed, Failed}
+use Rattle.protocol.proofs.Hold.{passed-hold, hold-passed}
 use Rattle.scene_text.specs.Text.{pieces}
 use Rattle.scene_line.specs.declared.kind.Kind.{Kind}
 use Rattle.scene_line.specs.declared.kind.Kind.the-variants.{Unknown}
 use Rattle.scene_line.specs.Kind.{place, fieldCount, firstForm, kindOf, follows, lineKind, fieldsOf}
 use Rattle.scene_line.specs.Line.{formsOk, lineBytes}
 use Rattle.octets.specs.Lists.{same}
-use Rattle.scene_reader.specs.Reader.{Held, Outcome, refused, held, seenWith, put, stepAs, step, finish, andThen, isLast, run}
+use Rattle.scene_reader.specs.Reader.{Held, refused, held, seenWith, put, lineRows, rowsOf, linePut, endRows, run}
+use Rattle.scene_reader.proofs.Runs.{run-passed, run-failed, run-last, held-passed, pieces-some}
 use Rattle.scene_reading.specs.Lines.{wordOf, kindOfLine, fieldsOfLine, countOk, formOk, bytesOfLine}
 use Rattle.scene_table.proofs.Truth.{and-both}
 
@@ -77,65 +80,46 @@ module _ (last : ℕ) where
 
 -- ---- one line
 
--- a refusal holds nothing
-never : {A : Type 0} (a : ProtocolError) (g : Held) → refused a ≡ held g → A
-never a g e = absurd (let z : _≡_ {A = ℕ} 0 1 = cc in omega arith)
-
-pub past : (b : Bool) (a : ProtocolError) (o : Outcome) (g : Held) → cond b (refused a) o ≡ held g → (b ≡ false) × (o ≡ held g)
-past true a o g e = never a g e
-past false a o g e = (refl, e)
-
-within : (b : Bool) (a : ProtocolError) (o : Outcome) (g : Held) → cond b o (refused a) ≡ held g → (b ≡ true) × (o ≡ held g)
-within true a o g e = (refl, e)
-within false a o g e = never a g e
-
 pub held-same : (g h : Held) → held g ≡ held h → g ≡ h
 held-same g h e = cc
 
--- the rows 4, 3 and 6 of a line whose kind is known
-record Rows (h g : Held) (k : Kind) (fs : List (List ℕ)) : Type 0 where
+-- every row passes a line of a kind with a place
+record Rows (h : Held) (k : Kind) (fs : List (List ℕ)) : Type 0 where
   known : eqb (place k) 0 ≡ false
   few : seenWith (h .last) (h .seen) (place k) ≤ 64
   form : formsOk true (firstForm k) fs ≡ true
   room : h .used + length (lineBytes (firstForm k) fs) ≤ length (h .store)
-  result : g ≡ put h k fs
 
-rows-of : (h g : Held) (k : Kind) (fs : List (List ℕ)) → stepAs h k fs ≡ held g → Rows h g k fs
-unfolding stepAs
-rows-of h g k fs e =
-    let n = seenWith (h .last) (h .seen) (place k) in
-    let u = h .used + length (lineBytes (firstForm k) fs) in
-    let a = past (eqb (place k) 0) InvalidLine _ g e in
-    let b = past (ltb 64 n) TooManyLines _ g (a .1) in
-    let c = within (formsOk true (firstForm k) fs) InvalidField _ g (b .1) in
-    let d = past (ltb (length (h .store)) u) StoreTooShort _ g (c .1) in
+rows-of : (h : Held) (k : Kind) (fs : List (List ℕ)) → Hold (lineRows h k fs) → Rows h k fs
+unfolding lineRows
+rows-of h k fs z =
     record {
-      known = a .0;
-      few = ltb-false 64 n (b .0);
-      form = c .0;
-      room = ltb-false (length (h .store)) u (d .0);
-      result = held-same g (put h k fs) (sym (d .1));
+      known = not-true (eqb (place k) 0) (z .0);
+      few = leb-true (seenWith (h .last) (h .seen) (place k)) 64 (z .1 .0);
+      form = z .1 .1 .0;
+      room = leb-true (h .used + length (lineBytes (firstForm k) fs)) (length (h .store)) (z .1 .1 .1 .0);
     }
 
-module _ (h : Held) (l : List ℕ) where
-  step-line : LinePasses (h .last) (h .seen) (h .used) (length (h .store)) l → step h l ≡ held (putLine h l)
-  unfolding step stepAs putLine kindOfLine fieldsOfLine countOk formOk bytesOfLine
-  step-line p =
-      rw (
-        kind-known (h .last) (pieces 44 l) (p .order) (p .count),
-        ne-eqb (place (kindOf (wordOf (pieces 44 l)))) 0 (follows-none (h .last) _ (p .order)),
-        le-ltb 64 _ (p .few),
-        p .form,
-        le-ltb (length (h .store)) _ (p .room),
-      )
+of-rows : (h : Held) (k : Kind) (fs : List (List ℕ)) → Rows h k fs → Hold (lineRows h k fs)
+unfolding lineRows
+of-rows h k fs r = (rw (r .known), (le-leb _ 64 (r .few), (r .form, (le-leb _ (length (h .store)) (r .room), tt))))
 
-  line-step : (g : Held) → step h l ≡ held g → LinePasses (h .last) (h .seen) (h .used) (length (h .store)) l × (g ≡ putLine h l)
-  unfolding step putLine kindOfLine fieldsOfLine countOk formOk bytesOfLine
-  line-step g e =
-      let r = rows-of h g (lineKind (h .last) (pieces 44 l)) (fieldsOf (pieces 44 l)) e in
+module _ (h : Held) (l : List ℕ) where
+  -- every row passes a line
+  line-holds : LinePasses (h .last) (h .seen) (h .used) (length (h .store)) l → Hold (rowsOf h l) × (linePut h l ≡ putLine h l)
+  unfolding rowsOf linePut putLine kindOfLine fieldsOfLine countOk formOk bytesOfLine
+  line-holds p =
+      let k = kind-known (h .last) (pieces 44 l) (p .order) (p .count) in
+      let known = ne-eqb (place (kindOf (wordOf (pieces 44 l)))) 0 (follows-none (h .last) _ (p .order)) in
+      (rw k (of-rows h _ _ (record { known = known; few = p .few; form = p .form; room = p .room })), rw k)
+
+  holds-line : Hold (rowsOf h l) → LinePasses (h .last) (h .seen) (h .used) (length (h .store)) l × (linePut h l ≡ putLine h l)
+  unfolding rowsOf linePut putLine kindOfLine fieldsOfLine countOk formOk bytesOfLine
+  holds-line z =
+      let r = rows-of h (lineKind (h .last) (pieces 44 l)) (fieldsOf (pieces 44 l)) z in
       let k = known-kind (h .last) (pieces 44 l) (r .known) in (
         record { order = k .0; count = k .1 .0; few = rw (k .1 .1) at (r .few); form = rw (k .1 .1) at (r .form); room = rw (k .1 .1) at (r .room) },
-        rw (k .1 .1) at (r .result),
+        rw (k .1 .1),
       )
 
 -- ---- the lines
@@ -152,16 +136,24 @@ module _ (h : Held) (l : List ℕ) (ls : List (List ℕ)) where
   unfolding putLine put bytesOfLine
   from p = rw (length-sets (h .store) (h .used) _) at p
 
-some-left : (ls : List (List ℕ)) (l : List ℕ) → isLast (ls ++ (l ∷ [])) ≡ false
-some-left [] l = refl
-some-left (x ∷ ls) l = refl
+-- behind a line that passes come those behind it, and the end
+line-run : (h : Held) (l : List ℕ) (ls : List (List ℕ)) → decide Passed (rowsOf h l) ≡ Passed → run h (l ∷ (ls ++ ([] ∷ []))) ≡ run (linePut h l) (ls ++ ([] ∷ []))
+line-run h l [] e = run-passed h l [] [] e
+line-run h l (k ∷ ls) e = run-passed h l k (ls ++ ([] ∷ [])) e
+
+-- the end passes behind verdicts
+ends : (h : Held) → h .last ≡ 7 → Hold (endRows h [])
+unfolding endRows
+ends h e = (refl, (eq-eqb (h .last) 7 e, tt))
 
 -- lines that pass are put down
 pub lines-run : (ls : List (List ℕ)) (h : Held) → LinesPass (h .last) (h .seen) (h .used) (length (h .store)) ls
     → run h (ls ++ ([] ∷ [])) ≡ held (putLines h ls)
-unfolding run finish LinesPass putLines andThen
-lines-run [] h p = rw (eq-eqb (h .last) 7 p)
-lines-run (l ∷ ls) h p = rw (some-left ls [], step-line h l (p .0)) (lines-run ls (putLine h l) (onto h l ls (p .1)))
+unfolding LinesPass putLines
+lines-run [] h p = run-last h [] _ refl ∙ rw (hold-passed (endRows h []) (ends h p))
+lines-run (l ∷ ls) h p =
+    let z = line-holds h l (p .0) in
+    line-run h l ls (hold-passed (rowsOf h l) (z .0)) ∙ rw (z .1) (lines-run ls (putLine h l) (onto h l ls (p .1)))
 
 -- lines that a run holds pass
 pub record Ran (h g : Held) (P : List (List ℕ)) : Type 0 where
@@ -174,23 +166,25 @@ no-bytes : (l : List ℕ) → eqb (length l) 0 ≡ true → l ≡ []
 no-bytes [] e = refl
 no-bytes (x ∷ l) e = absurd (let z : suc (length l) ≡ 0 = eqb-true (suc (length l)) 0 e in omega arith)
 
-ran-last : (h g : Held) (l : List ℕ) → finish h l ≡ held g → Ran h g (l ∷ [])
-unfolding finish LinesPass putLines
+ran-last : (h g : Held) (l : List ℕ) → run h (l ∷ []) ≡ held g → Ran h g (l ∷ [])
+unfolding endRows LinesPass putLines
 ran-last h g l e =
-    let w = within (eqb (length l) 0 && eqb (h .last) 7) InvalidLine (held h) g e in
-    let b = and-both (eqb (length l) 0) (eqb (h .last) 7) (w .0) in
-    record { lines = []; ended = rw (no-bytes l (b .0)); pass = eqb-true (h .last) 7 (b .1); result = held-same g h (sym (w .1)) }
+    let p = held-passed _ _ g (sym (run-last h l _ refl) ∙ e) in
+    let b = passed-hold (endRows h l) (p .0) in
+    record { lines = []; ended = rw (no-bytes l (b .0)); pass = eqb-true (h .last) 7 (b .1 .0); result = sym (p .1) }
 
-pub run-lines : (P : List (List ℕ)) (h g : Held) → run h P ≡ held g → Ran h g P
-unfolding run andThen LinesPass putLines
-run-lines [] h g e = never InvalidLine g e
-run-lines (l ∷ []) h g e = ran-last h g l e
-run-lines (l ∷ k ∷ ls) h g e = on (step h l) refl (λ j q. run-lines (k ∷ ls) j g q) e
+run-lines : (l : List ℕ) (ls : List (List ℕ)) (h g : Held) → run h (l ∷ ls) ≡ held g → Ran h g (l ∷ ls)
+unfolding LinesPass putLines
+run-lines l [] h g e = ran-last h g l e
+run-lines l (k ∷ ls) h g e = on (decide Passed (rowsOf h l)) refl (λ j q. run-lines k ls j g q)
   where
-    on : (o : Outcome) → step h l ≡ o → ((j : Held) → run j (k ∷ ls) ≡ held g → Ran j g (k ∷ ls)) → andThen o (λ (j : Held). run j (k ∷ ls)) ≡ held g
-        → Ran h g (l ∷ k ∷ ls)
-    on (refused a) s rec e = never a g e
-    on (held j) s rec e =
-        let p = line-step h l j s in
-        let r = rec (putLine h l) (rw (p .1) at e) in
+    on : (c : Check) → decide Passed (rowsOf h l) ≡ c → ((j : Held) → run j (k ∷ ls) ≡ held g → Ran j g (k ∷ ls)) → Ran h g (l ∷ k ∷ ls)
+    on (Failed a) s rec = absurd (let r : refused a ≡ held g = sym (run-failed h l k ls a s) ∙ e in let z : _≡_ {A = ℕ} 0 1 = cc in omega arith)
+    on Passed s rec =
+        let p = holds-line h l (passed-hold (rowsOf h l) s) in
+        let r = rec (putLine h l) (rw (p .1) at (sym (run-passed h l k ls s) ∙ e)) in
         record { lines = l ∷ r .lines; ended = ap (λ (t : List (List ℕ)). l ∷ t) (r .ended); pass = (p .0, from h l (r .lines) (r .pass)); result = r .result }
+
+-- so do those of a text, which has at least one piece
+pub run-text : (text : List ℕ) (h g : Held) → run h (pieces 10 text) ≡ held g → Ran h g (pieces 10 text)
+run-text text h g e = let q = pieces-some 10 text in rw (q .2) (run-lines (q .0) (q .1) h g (rw (q .2) at e))

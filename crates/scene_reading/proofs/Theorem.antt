@@ -7,17 +7,17 @@ use mathlib.Core.List.{List, [], _∷_, append-cancel-right}
 use mathlib.Core.Logic.{_↔_}
 use native.Mathlib.Omega.{arith}
 use lib.ListN.{length}
-use lib.Dec.{ltb}
-use borrow.Author.Tests.{ltb-false, le-ltb}
-use Rattle.protocol.specs.declared.error.ProtocolError.the-variants.{SceneTooLong, StoreTooShort}
+use borrow.Author.Tests.{le-leb}
 use Rattle.protocol.specs.declared.check.Check.the-variants.{Passed}
+use Rattle.protocol.proofs.Hold.{hold-passed, hold-split}
 use Rattle.scene_text.specs.Text.{pieces}
-use Rattle.scene_reader.specs.Reader.{Held, Outcome, refused, held, run, start, readOf, answerOf}
+use Rattle.scene_reader.specs.Reader.{Held, Outcome, refused, held, run, start, limitRows, sceneRows, readOf, answerOf}
+use Rattle.scene_reader.proofs.Runs.{limits-within, limits-passed}
+use Rattle.scene_reader.proofs.Theorem as rows
 use Rattle.scene_table.specs.Scene.{sceneNumbers}
 use Rattle.scene_reading.specs.Lines.{Passes}
 use Rattle.scene_reading.specs.Reading.{readingOf}
 use Rattle.scene_reading.specs.Left.{Leaves}
-use Rattle.scene_reading.proofs.Run.{past}
 use Rattle.scene_reading.proofs.Accepts.{accepted-passes, passes-accepted}
 use Rattle.scene_reading.proofs.Leaves.{bytes-fit, passes-leaves}
 use Rattle.scene_reading.proofs.PrintBack.{reading-ok}
@@ -30,17 +30,17 @@ passed-held (held g) h = (g, refl)
 
 module _ (text : List ℕ) (n m : ℕ) where
   accepted : answerOf (readOf text n m) ≡ Passed → (length text ≤ 1048576) × ((2048 ≤ m) × Passes text n)
-  unfolding readOf
+  unfolding sceneRows
   accepted e =
+      let l = hold-passed _ (hold-split (limitRows text m) _ (rows.reader-accepts text n m .0 e) .0) in
+      let w = limits-within text m l in
       let h = passed-held (readOf text n m) e in
-      let a = past (ltb 1048576 (length text)) SceneTooLong _ (h .0) (h .1) in
-      let b = past (ltb m 2048) StoreTooShort _ (h .0) (a .1) in
-      (ltb-false 1048576 (length text) (a .0), (ltb-false m 2048 (b .0), accepted-passes text n m (h .0) (b .1)))
+      (w .0, (w .1, accepted-passes text n m (h .0) (sym (limits-passed text n m l) ∙ h .1)))
 
   -- within the limits the run decides
   within-limits : length text ≤ 1048576 → 2048 ≤ m → readOf text n m ≡ run (start n m) (pieces 10 text)
-  unfolding readOf
-  within-limits a b = rw (le-ltb 1048576 (length text) a, le-ltb m 2048 b)
+  unfolding limitRows
+  within-limits a b = limits-passed text n m (hold-passed (limitRows text m) (le-leb (length text) 1048576 a, (le-leb 2048 m b, tt)))
 
   accepting : (length text ≤ 1048576) × ((2048 ≤ m) × Passes text n) → answerOf (readOf text n m) ≡ Passed
   accepting h = rw (within-limits (h .0) (h .1 .0), passes-accepted text n m (h .1 .1) .1)

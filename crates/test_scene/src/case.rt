@@ -106,8 +106,9 @@ pub(crate) fn add(case: Case, fields: &[u8], ending: &[u8], scene: &mut [u8]) ->
     }
 }
 
-fn all_zero(words: &[u32]) -> bool {
-    let mut i: usize = 0;
+// Whether all entries from the place `from` on are zero.
+fn zero_from(words: &[u32], from: usize) -> bool {
+    let mut i = from;
     while i < words.len() {
         if words[i] != 0 {
             return false;
@@ -117,16 +118,41 @@ fn all_zero(words: &[u32]) -> bool {
     true
 }
 
+fn fill_bytes(bytes: &mut [u8]) {
+    let mut i: usize = 0;
+    while i < bytes.len() {
+        bytes[i] = 255;
+        i += 1;
+    }
+}
+
+fn fill_words(words: &mut [u32]) {
+    let mut i: usize = 0;
+    while i < words.len() {
+        words[i] = 4294967295;
+        i += 1;
+    }
+}
+
 fn wide(x: u8) -> u64 {
     x as u64
 }
 
-// The number of a scene; 99 where a refusal left something in the store or the table.
+// The number of a scene, read into a store and a table without a zero. 99 where a refusal left something in them, 98 where an
+// accepted scene left something behind the most that it can fill: its own length, and 925 entries.
 fn number(scene: &[u8], store: &mut [u8], table: &mut [u32]) -> u64 {
+    fill_bytes(store);
+    fill_words(table);
     match read_scene(scene, store, table) {
-        Check::Passed => 0,
+        Check::Passed => {
+            if all_between(tail(store, scene.len()), 0, 0) & zero_from(table, 925) {
+                0
+            } else {
+                98
+            }
+        }
         Check::Failed(error) => {
-            if all_between(store, 0, 0) & all_zero(table) {
+            if all_between(store, 0, 0) & zero_from(table, 0) {
                 wide(error_number(error))
             } else {
                 99

@@ -1,5 +1,6 @@
-// Runs the list of scenes of standard input, each refusal and each boundary of the reader. It writes the number of each, and
-// then how many passed: the number is the expected one, and after a refusal store and table are all zero. The lines of the list:
+// Runs the list of scenes of standard input, each refusal and each boundary of the reader, each with a store and a table without a
+// zero. It writes the number of each, and then how many passed: the number is the expected one, and store and table are all zero
+// after a refusal, else behind what the scene can fill. The lines of the list:
 //   case,NAME,NUMBER,STORE,TABLE   a scene begins: the expected number, and the lengths of the store and the table
 //   add,COUNT,TEXT                 the text, COUNT times
 //   line,COUNT,TEXT                the same, each with its ending

@@ -4,16 +4,17 @@ use lib.ListN.{length, take}
 use borrow.Author.Needs.{needs}
 use mathlib.Core.Bool.{and-false}
 use Rattle.scene_reader.proofs.Runs.{kept-more, step-cut}
+use Rattle.protocol.specs.Rows.{_▷_, decide}
 use Rattle.scene_text.specs.Text.{pieces}
 use Rattle.scene_line.proofs.KindLaws.{shape, counted}
 use Rattle.scene_line.specs.Kind.{lineKind, kindOf, fieldsOf}
-use Rattle.scene_reader.specs.Reader.{stepAs, step}
+use Rattle.scene_reader.specs.Reader.{lineRows, rowsOf}
 use Rattle.scene_reader.specs.Room.{holding}
 use Rattle.scene_reader.proofs.lines.read_line.Statement.{statement}
 use Rattle.scene_reader.proofs.lines.read_line.Tie as tie
 
 returns : tie.Need-returns
-unfolding step lineKind fieldsOf stepAs
+unfolding rowsOf lineRows lineKind fieldsOf decide _▷_
 returns c = (rw (c .before .find .ensures .whole (c .if1 .taken), counted (kindOf (take (c .before .find .result) (c .before .before .before .before .before .args .line .now))), and-false), tt)
 
 read-as-requires : tie.Need-read-as-requires

@@ -3,18 +3,14 @@ use borrow.Author.Needs.{needs}
 use native.Mathlib.Omega.{arith}
 use Prim.Native.Nat.{_+_}
 use mathlib.Core.Path.{_≡_, refl, sym, ap, _∙_}
-use mathlib.Core.List.{[]}
 use lib.ListN.{length, take, drop}
-use mathlib.Core.Bool.{cond, _&&_}
-use lib.Seq.{length-take-le}
-use lib.Dec.{eqb}
-use Rattle.scene_reader.specs.Reader.{held, refused, step, Held, start, run, finish}
-use Rattle.protocol.specs.declared.error.ProtocolError.the-variants.{InvalidLine}
-use Rattle.scene_reader.specs.declared.state.Step.the-variants.{Next, Refused}
+use lib.Seq.{take-all}
+use Rattle.scene_reader.specs.Reader.{Held, start, run}
+use Rattle.scene_reader.specs.declared.state.Step.the-variants.{Next}
 use Rattle.scene_reader.specs.declared.state.Step.{Step}
-use Rattle.scene_reader.specs.Room.{Ready, Kept, holding, leaves}
+use Rattle.scene_reader.specs.Room.{step, Ready, Kept, holding, leaves}
 use Rattle.scene_text.specs.Text.{pieces}
-use Rattle.scene_reader.proofs.Runs.{starts, leaves-cond, run-last, run-on, run-off}
+use Rattle.scene_reader.proofs.Runs.{starts, run-last, run-on, run-off}
 use Rattle.scene_reader.proofs.lines.read_lines.Statement.{statement}
 use Rattle.scene_reader.proofs.lines.read_lines.Tie as tie
 
@@ -35,18 +31,14 @@ loop-holds c =
     )
 
 returns : tie.Need-returns Inv-loop μ-loop
-unfolding finish
 returns c =
     let l = c .before .before .before .loop in
     let s = l .rest .now in
     let e = c .before .before .find .result in
     let h = holding (l .s) (l .store) (l .table) in
-    let n : length (take e s) ≡ e = length-take-le e s (c .before .before .find .ensures .within) in
-    let end : run (start (length (c .before .before .before .before .before .before .before .args .store .now)) (length (c .before .before .before .before .before .before .before .args .table .now))) (pieces 10 (c .before .before .before .before .before .before .before .args .scene .now)) ≡ cond (eqb e 0 && eqb (l .s .last) 7) (held h) (refused InvalidLine) =
-    l .inv .0 ∙ run-last h (take e s) [] _ (c .before .before .find .ensures .whole (c .before .if1 .taken)) ∙ rw n in
-    ap (λ (x : Step). leaves x (l .store) (l .table)) (c .finish-at .ensures)
-    ∙ leaves-cond (eqb e 0 && eqb (l .s .last) 7) (Next (l .s)) (Refused InvalidLine) (l .store) (l .table)
-    ∙ sym end
+    let all : take e s ≡ s = take-all e s (omega arith) in
+    c .finish-at .ensures (l .store) (l .table)
+    ∙ sym (l .inv .0 ∙ run-last h s _ (c .before .before .find .ensures .whole (c .before .if1 .taken) ∙ rw all))
 
 read-line-requires : tie.Need-read-line-requires Inv-loop μ-loop
 read-line-requires c κs =
@@ -64,7 +56,7 @@ returns-2 c =
     let tb = c .before .before .before .before .before .before .read-line .last .1 .1 .1 .0 in
     let done : leaves (c .before .before .before .before .before .before .read-line .result) st tb ≡ step (holding (l .s) (l .store) (l .table)) (take e s) = rw (c .before .before .before .before .before .before .before .before .before .head .ensures .0) at (c .before .before .before .before .before .before .read-line .ensures .0) in
     let told : leaves (c .before .before .before .before .before .before .read-line .result) st tb ≡ _ = ap (λ (x : Step). leaves x st tb) (c .enum-told .given .1) in
-    told ∙ sym (l .inv .0 ∙ run-off (holding (l .s) (l .store) (l .table)) (take e s) (drop (e + 1) s) _ _ cut (sym done ∙ told))
+    told ∙ sym (l .inv .0 ∙ run-off (holding (l .s) (l .store) (l .table)) (take e s) (drop (e + 1) s) _ cut _ (sym done ∙ told))
 
 loop-again : tie.Need-loop-again Inv-loop μ-loop
 loop-again c =
@@ -78,7 +70,7 @@ loop-again c =
     let after = c .before .before .step .given .0 .0 in
     let is : c .before .before .before .before .before .before .before .before .read-line .result ≡ Next after = c .before .before .step .given .1 in
     let k : Kept (l .s) (length (c .before .before .before .before .before .before .before .before .before .before .before .head .result .now)) (length (l .store)) (length (l .table)) (Next after) = rw is at (c .before .before .before .before .before .before .before .before .read-line .ensures .1) in (
-      l .inv .0 ∙ run-on (holding (l .s) (l .store) (l .table)) (take e s) (drop (e + 1) s) _ (holding after st tb) cut (sym done ∙ ap (λ (x : Step). leaves x st tb) is) ∙ rw (c .tail .ensures .0),
+      l .inv .0 ∙ run-on (holding (l .s) (l .store) (l .table)) (take e s) (drop (e + 1) s) _ cut (holding after st tb) (sym done ∙ ap (λ (x : Step). leaves x st tb) is) ∙ rw (c .tail .ensures .0),
       c .before .before .before .before .before .before .before .before .read-line .kept .1 .1 .0 ∙ l .inv .1,
       c .before .before .before .before .before .before .before .before .read-line .kept .1 .1 .1 .0 ∙ l .inv .2,
       record { known = k .0 .known; few = k .0 .few; inside = omega arith; small = omega arith; enough = l .inv .3 .enough; fits = k .0 .fits },
