@@ -31,7 +31,7 @@ use Rattle.group_sighash.specs.Witnesses.{countRows, witnessRows, groupRows, ot
 use Rattle.state_transition.specs.Resolve as resolve
 use Rattle.state_transition.specs.Transition as transition
 use Rattle.decision.specs.Proofs.{Setting, limitRows, entryRows, proofRows, requestOf}
-use Rattle.decision.specs.Walk.{Outcome, outcome, verdict, earned, weighed, ended, orElse, walk, walkList, walkLock}
+use Rattle.decision.specs.Walk.{Outcome, outcome, verdict, earned, endRows, orElse, walk, walkList, walkLock}
 use Rattle.account_lock.specs.Lock as lock
 use Rattle.account_lock.specs.Decides.{LockNumber}
 
@@ -160,20 +160,18 @@ proof-refusal c used p =
     search depth 12
 
 -- behind the last proof
-ended-refusal : (clean : Bool) (weight threshold : ℕ) → Refuses LockRefusal (ended clean weight threshold)
-unfolding ended weighed
-ended-refusal false weight threshold = original-refusal InvalidWitness (search arith)
-ended-refusal true weight threshold = go (ltb weight threshold)
-  where
-    go : (b : Bool) → Refuses LockRefusal (cond b (Failed ThresholdUnsatisfied) Passed)
-    go true = original-refusal ThresholdUnsatisfied (search arith)
-    go false = tt
+end-refusal : (clean : Bool) (weight threshold : ℕ) → Each LockRefusal (endRows clean weight threshold)
+unfolding endRows
+end-refusal clean weight threshold =
+    let witness = original-refusal InvalidWitness (search arith) in
+    let unsatisfied = original-refusal ThresholdUnsatisfied (search arith) in
+    search depth 12
 
 -- one proof, and those behind it
 walk-refusal : (c : Setting) (clean : Bool) (i weight : ℕ) (made : List ℕ) (ps : List ProofReading)
     → Refuses LockRefusal (walk c clean i weight made ps .found)
 unfolding walk orElse
-walk-refusal c clean i weight made [] = ended-refusal clean weight (c .threshold)
+walk-refusal c clean i weight made [] = each-refuses LockRefusal _ (end-refusal clean weight (c .threshold))
 walk-refusal c clean i weight made (p ∷ ps) =
     go (decide Passed (proofRows c (length made) p)) (each-refuses LockRefusal _ (proof-refusal c (length made) p)) (eqb (verdict c i) 2)
     (walk c clean (i + 1) (weight + earned c i p) (made ++ requestOf c p) ps) (walk-refusal c clean (i + 1) _ _ ps)
