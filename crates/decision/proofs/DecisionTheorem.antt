@@ -14,7 +14,7 @@ use Rattle.account_witness.specs.Walk.{proofsRows}
 use Rattle.decision.specs.Proofs.{Setting, requestsOf}
 use Rattle.decision.specs.Walk.{listed, walk, walkList, walkLock}
 use Rattle.decision.specs.Decision.{EachPasses, proofsOf, ProofsPass, Quorum}
-use Rattle.decision.proofs.Quorum.{LastNumber, last-number, decision, answers, answers-always}
+use Rattle.decision.proofs.Quorum.{ZeroOr28, zero-or-28, decision, answers, answers-always}
 use Rattle.decision.proofs.Listed.{listed-clean, listed-proofs, listed-rising}
 
 -- where no layout is faulty these are the lock's
@@ -31,6 +31,12 @@ lock-decides c lock = (there, back)
         ↔ ((listed lock .clean ≡ true) × EachPasses c 0 0 (listed lock .proofs) × Quorum c (listed lock .proofs))
     decides = decision c (listed lock .clean) (listed lock .proofs) (listed-rising lock (numberAt lock 6 1) 16 0)
 
+    back : ProofsPass c lock × Quorum c (proofsOf lock) → walkLock c lock .found ≡ Passed
+    back h =
+        let l = h .0 .layout in
+        let e = listed-of lock l in
+        decides .1 (listed-clean lock (numberAt lock 6 1) 16 0 .1 l, rw e (h .0 .each), rw e (h .1))
+
     there : walkLock c lock .found ≡ Passed → ProofsPass c lock × Quorum c (proofsOf lock)
     there h =
         let z = decides .0 h in
@@ -38,28 +44,22 @@ lock-decides c lock = (there, back)
         let e = listed-of lock l in
         (record { layout = l; each = rw e at (z .1) }, rw e at (z .2))
 
-    back : ProofsPass c lock × Quorum c (proofsOf lock) → walkLock c lock .found ≡ Passed
-    back h =
-        let l = h .0 .layout in
-        let e = listed-of lock l in
-        decides .1 (listed-clean lock (numberAt lock 6 1) 16 0 .1 l, rw e (h .0 .each), rw e (h .1))
-
 -- its number is 0 or 28 exactly where every row before the one for 28 passes
-pub lock-last-number : (c : Setting) (lock : List ℕ) → LastNumber (checkNumber (walkLock c lock .found)) ↔ ProofsPass c lock
+pub lock-zero-or-28 : (c : Setting) (lock : List ℕ) → ZeroOr28 (checkNumber (walkLock c lock .found)) ↔ ProofsPass c lock
 unfolding walkLock walkList
-lock-last-number c lock = (there, back)
+lock-zero-or-28 c lock = (there, back)
   where
-    number : LastNumber (checkNumber (walk c (listed lock .clean) 0 0 [] (listed lock .proofs) .found))
+    number : ZeroOr28 (checkNumber (walk c (listed lock .clean) 0 0 [] (listed lock .proofs) .found))
         ↔ ((listed lock .clean ≡ true) × EachPasses c 0 0 (listed lock .proofs))
-    number = last-number c (listed lock .clean) (listed lock .proofs)
+    number = zero-or-28 c (listed lock .clean) (listed lock .proofs)
 
-    there : LastNumber (checkNumber (walkLock c lock .found)) → ProofsPass c lock
+    there : ZeroOr28 (checkNumber (walkLock c lock .found)) → ProofsPass c lock
     there h =
         let z = number .0 h in
         let l = listed-clean lock (numberAt lock 6 1) 16 0 .0 (z .0) in
         record { layout = l; each = rw (listed-of lock l) at (z .1) }
 
-    back : ProofsPass c lock → LastNumber (checkNumber (walkLock c lock .found))
+    back : ProofsPass c lock → ZeroOr28 (checkNumber (walkLock c lock .found))
     back h = number .1 (listed-clean lock (numberAt lock 6 1) 16 0 .1 (h .layout), rw (listed-of lock (h .layout)) (h .each))
 
 -- where every row before the one for 28 passes: one request for each proof, in order

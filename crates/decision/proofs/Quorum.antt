@@ -9,14 +9,14 @@ use Prim.Native.Nat.{ℕ, zero, suc, _+_, _≤_, _<_, zero-le, suc-le-suc}
 use native.Mathlib.Nat.{le-of-suc-le-suc, le-refl}
 use native.Mathlib.Omega.{arith}
 use native.Mathlib.Decide.{ℕ-discrete}
-use lib.ListN.{length, getD, take, length-append}
-use lib.Dec.{eqb, leb, ltb}
+use lib.ListN.{length, getD, take, drop, length-append}
+use lib.Dec.{eqb}
 use borrow.Author.Tests.{eq-eqb, ne-eqb, eqb-true, eqb-false, leb-true, le-leb, ltb-true, lt-ltb}
 use Rattle.octets.specs.Lists.{Rising}
 use Rattle.protocol.specs.Errors.{errorNumber}
-use Rattle.protocol.specs.Rows.{row, _▷_, decide, checkNumber}
+use Rattle.protocol.specs.Rows.{_▷_, decide, checkNumber}
 use Rattle.protocol.specs.declared.error.ProtocolError.{ProtocolError}
-use Rattle.protocol.specs.declared.error.ProtocolError.the-variants.{BufferTooShort, InvalidWitness, ThresholdUnsatisfied, InvalidCapability, InvalidVerifierRef, VerifierFailure, InvalidRequest, LengthOverflow}
+use Rattle.protocol.specs.declared.error.ProtocolError.the-variants.{BufferTooShort, InvalidWitness, InvalidCapability, InvalidVerifierRef, VerifierFailure, InvalidRequest, LengthOverflow}
 use Rattle.protocol.specs.declared.check.Check.{Check}
 use Rattle.protocol.specs.declared.check.Check.the-variants.{Passed, Failed}
 use Rattle.protocol.proofs.ErrorNumbers.{not-0}
@@ -24,7 +24,7 @@ use Rattle.protocol.proofs.Hold.{passed-hold, hold-passed}
 use Rattle.protocol.proofs.Each.{Each, Refuses, each-refuses}
 use Rattle.account_witness.specs.Reading.{ProofReading}
 use Rattle.decision.specs.Proofs.{Setting, known, entryFor, capable, limitRows, entryRows, proofRows, requestOf, requestsOf}
-use Rattle.decision.specs.Walk.{Outcome, outcome, verdict, earned, endRows, orElse, walk}
+use Rattle.decision.specs.Walk.{Outcome, outcome, verdict, earned, lastRows, orElse, walk}
 use Rattle.decision.specs.Decision.{slots, EachPasses, Approved, weightOf, Quorum}
 
 -- The three ways on from a proof.
@@ -50,12 +50,12 @@ module _ (c : Setting) (clean : Bool) (i weight : ℕ) (made : List ℕ) (p : Pr
 -- ---- which numbers come from behind the last proof
 
 -- 0 and 28
-abbrev pub LastNumber : ℕ → Type 0
-LastNumber n = (n ≡ 0) ⊎ (n ≡ 28)
+abbrev pub ZeroOr28 : ℕ → Type 0
+ZeroOr28 n = (n ≡ 0) ⊎ (n ≡ 28)
 
 -- the refusal of a row before those
 abbrev Earlier : ProtocolError → Type 0
-Earlier e = ¬ LastNumber (errorNumber e)
+Earlier e = ¬ ZeroOr28 (errorNumber e)
 
 earlier : (e : ProtocolError) → errorNumber e ≢ 28 → Earlier e
 earlier e n (inl z) = not-0 e z
@@ -71,28 +71,28 @@ proof-earlier c used p =
     let request = earlier InvalidRequest (λ z. omega arith) in
     let overflow = earlier LengthOverflow (λ z. omega arith) in
     let room = earlier BufferTooShort (λ z. omega arith) in
-    (witness, (capability, (verifier, (request, (overflow, (request, (room, tt)))))))
+    search depth 12
 
 -- A walk that came behind its last proof: each turn's rows passed and its verdict was not 2.
 turn-last : (k : Check) (v : ℕ) (onward : Outcome) (i j : ℕ) (m l : List ℕ) → Refuses Earlier k
-    → LastNumber (checkNumber (orElse k i m (cond (eqb v 2) (outcome (Failed VerifierFailure) j l) onward) .found))
-    → (k ≡ Passed) × (v ≢ 2) × LastNumber (checkNumber (onward .found))
+    → ZeroOr28 (checkNumber (orElse k i m (cond (eqb v 2) (outcome (Failed VerifierFailure) j l) onward) .found))
+    → (k ≡ Passed) × (v ≢ 2) × ZeroOr28 (checkNumber (onward .found))
 unfolding orElse
 turn-last (Failed e) v onward i j m l r h = absurd (r h)
 turn-last Passed v onward i j m l r h = go (eqb v 2) refl h
   where
-    go : (b : Bool) → eqb v 2 ≡ b → LastNumber (checkNumber (cond b (outcome (Failed VerifierFailure) j l) onward .found))
-        → (_≡_ {A = Check} Passed Passed) × (v ≢ 2) × LastNumber (checkNumber (onward .found))
+    go : (b : Bool) → eqb v 2 ≡ b → ZeroOr28 (checkNumber (cond b (outcome (Failed VerifierFailure) j l) onward .found))
+        → (_≡_ {A = Check} Passed Passed) × (v ≢ 2) × ZeroOr28 (checkNumber (onward .found))
     go true q h = absurd (earlier VerifierFailure (λ z. omega arith) h)
     go false q h = (refl, eqb-false v 2 q, h)
 
-end-last : (clean : Bool) (weight threshold : ℕ) → LastNumber (checkNumber (decide Passed (endRows clean weight threshold))) → clean ≡ true
-unfolding endRows decide _▷_
+end-last : (clean : Bool) (weight threshold : ℕ) → ZeroOr28 (checkNumber (decide Passed (lastRows clean weight threshold))) → clean ≡ true
+unfolding lastRows decide _▷_
 end-last true weight threshold h = refl
 end-last false weight threshold h = absurd (earlier InvalidWitness (λ z. omega arith) h)
 
 module _ (c : Setting) (clean : Bool) where
-  last-each : (i weight : ℕ) (made : List ℕ) (ps : List ProofReading) → LastNumber (checkNumber (walk c clean i weight made ps .found))
+  last-each : (i weight : ℕ) (made : List ℕ) (ps : List ProofReading) → ZeroOr28 (checkNumber (walk c clean i weight made ps .found))
       → (clean ≡ true) × EachPasses c i (length made) ps
   unfolding walk
   last-each i weight made [] h = (end-last clean weight (c .threshold) h, tt)
@@ -103,28 +103,29 @@ module _ (c : Setting) (clean : Bool) where
       (r .0, (passed-hold (proofRows c (length made) p) (z .0), z .1, rw length-append at (r .1)))
 
 -- Behind the last proof, with nothing that follows it, only 28 refuses,
-end-number : (weight threshold : ℕ) → LastNumber (checkNumber (decide Passed (endRows true weight threshold)))
-unfolding endRows decide _▷_
-end-number weight threshold = go (ltb 0 threshold) (leb threshold weight)
+end-number : (weight threshold : ℕ) → ZeroOr28 (checkNumber (decide Passed (lastRows true weight threshold)))
+unfolding lastRows decide _▷_
+end-number weight threshold =
+    let later = drop 1 (lastRows true weight threshold) in
+    go (decide Passed later) (each-refuses (λ e. errorNumber e ≡ 28) later (refl, (refl, tt)))
   where
-    go : (a b : Bool) → LastNumber (checkNumber (cond a Passed (Failed ThresholdUnsatisfied) ▷ row b ThresholdUnsatisfied))
-    go true true = inl refl
-    go true false = inr refl
-    go false b = inr refl
+    go : (k : Check) → Refuses (λ e. errorNumber e ≡ 28) k → ZeroOr28 (checkNumber k)
+    go Passed h = inl refl
+    go (Failed e) h = inr h
 
 -- and nothing is found exactly where the weight reaches a threshold above zero.
 end-passes : (clean : Bool) (weight threshold : ℕ)
-    → (decide Passed (endRows clean weight threshold) ≡ Passed) ↔ ((clean ≡ true) × (0 < threshold) × (threshold ≤ weight))
-unfolding endRows
+    → (decide Passed (lastRows clean weight threshold) ≡ Passed) ↔ ((clean ≡ true) × (0 < threshold) × (threshold ≤ weight))
+unfolding lastRows
 end-passes clean weight threshold = (there, back)
   where
-    there : decide Passed (endRows clean weight threshold) ≡ Passed → (clean ≡ true) × (0 < threshold) × (threshold ≤ weight)
+    there : decide Passed (lastRows clean weight threshold) ≡ Passed → (clean ≡ true) × (0 < threshold) × (threshold ≤ weight)
     there h =
-        let z = passed-hold (endRows clean weight threshold) h in
+        let z = passed-hold (lastRows clean weight threshold) h in
         (z .0, omega (arith, ltb-true, z .1 .0), omega (arith, leb-true, z .1 .1 .0))
 
-    back : (clean ≡ true) × (0 < threshold) × (threshold ≤ weight) → decide Passed (endRows clean weight threshold) ≡ Passed
-    back h = hold-passed (endRows clean weight threshold) (h .0, (lt-ltb _ _ (h .1), (le-leb _ _ (h .2), tt)))
+    back : (clean ≡ true) × (0 < threshold) × (threshold ≤ weight) → decide Passed (lastRows clean weight threshold) ≡ Passed
+    back h = hold-passed (lastRows clean weight threshold) (h .0, (lt-ltb _ _ (h .1), (le-leb _ _ (h .2), tt)))
 
 -- The sum over a rising list is at most that over a rising list with the same members and more.
 after : {least s : ℕ} (xs : List ℕ) → Rising least xs → List·Memᴰ s xs → least ≤ s
@@ -228,7 +229,7 @@ module _ (c : Setting) where
   -- where every proof's rows pass, the walk makes every request and weighs the approved
   walk-each : (clean : Bool) (i weight : ℕ) (made : List ℕ) (ps : List ProofReading) → EachPasses c i (length made) ps
       → walk c clean i weight made ps
-      ≡ outcome (decide Passed (endRows clean (weight + weightOf c (approved i ps)) (c .threshold))) (i + length ps) (made ++ requestsOf c ps)
+      ≡ outcome (decide Passed (lastRows clean (weight + weightOf c (approved i ps)) (c .threshold))) (i + length ps) (made ++ requestsOf c ps)
   unfolding walk requestsOf
   walk-each clean i weight made [] pass =
       let a : weight + 0 ≡ weight = omega arith in
@@ -261,17 +262,17 @@ module _ (c : Setting) where
 
 -- where every proof's rows pass, the walk finds what the approved weight makes of the rows behind the last proof
 each-found : (c : Setting) (clean : Bool) (ps : List ProofReading) → EachPasses c 0 0 ps
-    → walk c clean 0 0 [] ps .found ≡ decide Passed (endRows clean (weightOf c (approved c 0 ps)) (c .threshold))
+    → walk c clean 0 0 [] ps .found ≡ decide Passed (lastRows clean (weightOf c (approved c 0 ps)) (c .threshold))
 each-found c clean ps pass =
     let z : 0 + weightOf c (approved c 0 ps) ≡ weightOf c (approved c 0 ps) = omega arith in
     ap (λ (o : Outcome). o .found) (walk-each c clean 0 0 [] ps pass) ∙ rw z
 
 -- Its number is 0 or 28 exactly where nothing follows the proofs and each proof's rows pass.
-pub last-number : (c : Setting) (clean : Bool) (ps : List ProofReading)
-    → LastNumber (checkNumber (walk c clean 0 0 [] ps .found)) ↔ ((clean ≡ true) × EachPasses c 0 0 ps)
-last-number c clean ps = (last-each c clean 0 0 [] ps, back)
+pub zero-or-28 : (c : Setting) (clean : Bool) (ps : List ProofReading)
+    → ZeroOr28 (checkNumber (walk c clean 0 0 [] ps .found)) ↔ ((clean ≡ true) × EachPasses c 0 0 ps)
+zero-or-28 c clean ps = (last-each c clean 0 0 [] ps, back)
   where
-    back : (clean ≡ true) × EachPasses c 0 0 ps → LastNumber (checkNumber (walk c clean 0 0 [] ps .found))
+    back : (clean ≡ true) × EachPasses c 0 0 ps → ZeroOr28 (checkNumber (walk c clean 0 0 [] ps .found))
     back h = rw (each-found c clean ps (h .1), h .0) (end-number (weightOf c (approved c 0 ps)) (c .threshold))
 
 -- Passed exactly where nothing follows the proofs, each proof's rows pass, and there is a quorum.
@@ -287,7 +288,7 @@ decision c clean ps rises = (there, back)
 
     there : walk c clean 0 0 [] ps .found ≡ Passed → (clean ≡ true) × EachPasses c 0 0 ps × Quorum c ps
     there h =
-        let z = last-number c clean ps .0 (inl (ap checkNumber h)) in
+        let z = zero-or-28 c clean ps .0 (inl (ap checkNumber h)) in
         let e = end-passes clean (weightOf c (approved c 0 ps)) (c .threshold) .0 (sym (each-found c clean ps (z .1)) ∙ h) in
         let quorum : Quorum c ps = record {
           set = approved c 0 ps;

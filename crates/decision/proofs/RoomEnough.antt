@@ -29,7 +29,7 @@ use Rattle.account_witness.proofs.WalkLaws.{proof-holds}
 use Rattle.verifier_request.specs.Writer.{requestTotal}
 use Rattle.verifier_request.proofs.Form.{length-request}
 use Rattle.decision.specs.Proofs.{Setting, noEntry, entryFor, requestSize, limitRows, entryRows, proofRows, requestReading, requestOf, requestsOf}
-use Rattle.decision.specs.Walk.{Outcome, outcome, verdict, earned, endRows, orElse, walk, proofsFrom, walkList, walkLock}
+use Rattle.decision.specs.Walk.{Outcome, outcome, verdict, earned, lastRows, orElse, walk, proofsFrom, walkList, walkLock}
 use Rattle.decision.specs.Decision.{slots}
 use Rattle.decision.proofs.Listed.{listed-stops, listed-goes, listed-rising, Behind}
 
@@ -143,10 +143,10 @@ turn-room Passed i made onward k o = o
 turn-room (Failed e) i made onward k o = k
 
 -- what follows the proofs is 22, 28 or nothing
-end-room : (clean : Bool) (weight threshold : ℕ) → checkNumber (decide Passed (endRows clean weight threshold)) ≢ 5
-unfolding endRows
+end-room : (clean : Bool) (weight threshold : ℕ) → checkNumber (decide Passed (lastRows clean weight threshold)) ≢ 5
+unfolding lastRows
 end-room clean weight threshold =
-    without-found 5 (endRows clean weight threshold) (λ z. omega arith) (λ _ z. omega arith, (λ _ z. omega arith, (λ _ z. omega arith, tt)))
+    without-found 5 (lastRows clean weight threshold) (λ z. omega arith) (λ _ z. omega arith, (λ _ z. omega arith, (λ _ z. omega arith, tt)))
 
 -- a walk whose buffer has room for the requests of all proofs that are left never gives 5
 pub walk-room : (c : Setting) → length (c .digest) ≡ 32 → (clean : Bool) (i weight : ℕ) (made : List ℕ) (ps : List ProofReading)

@@ -33,8 +33,8 @@ earned c i p = cond (eqb (verdict c i) 0) (entryFor (p .slot) (c .entries) .weig
 
 -- behind the last proof that could be read: `clean` says that nothing follows it; else a proof with a faulty layout, or "bytes after
 -- the last proof: 22". "approved weight below threshold: 28"; demand 3: "reaches the threshold, itself above zero"
-unfoldable pub endRows : Bool → ℕ → ℕ → List Row
-endRows clean weight threshold =
+unfoldable pub lastRows : Bool → ℕ → ℕ → List Row
+lastRows clean weight threshold =
     row clean InvalidWitness
     ∷ row (ltb 0 threshold) ThresholdUnsatisfied
     ∷ row (leb threshold weight) ThresholdUnsatisfied
@@ -47,7 +47,7 @@ orElse (Failed e) count made onward = outcome (Failed e) count made
 
 -- from proof i on, with this approved weight and these bytes made. A verdict of 2 is 31, after its request was made
 unfoldable pub walk : Setting → Bool → ℕ → ℕ → List ℕ → List ProofReading → Outcome
-walk c clean i weight made [] = outcome (decide Passed (endRows clean weight (c .threshold))) i made
+walk c clean i weight made [] = outcome (decide Passed (lastRows clean weight (c .threshold))) i made
 walk c clean i weight made (p ∷ ps) =
     orElse (decide Passed (proofRows c (length made) p)) i made
     (cond (eqb (verdict c i) 2) (outcome (Failed VerifierFailure) (i + 1) (made ++ requestOf c p))

@@ -24,7 +24,7 @@ use Rattle.account_witness.specs.declared.walk.ProofCursor.{ProofCursor}
 use Rattle.scene_table.specs.Lent.{sceneFrom, lentScene, blankScene}
 use Rattle.scene_table.specs.Places.{verdictAt, verdictOf}
 use Rattle.decision.specs.Proofs.{Setting, settingFor, thresholdOf, known, entryFor, entryRows, proofRows, requestOf}
-use Rattle.decision.specs.Walk.{Outcome, outcome, verdict, earned, endRows, orElse, walk, orFault, proofsFrom, walkList, walkLock, answered}
+use Rattle.decision.specs.Walk.{Outcome, outcome, verdict, earned, lastRows, orElse, walk, orFault, proofsFrom, walkList, walkLock, answered}
 use Rattle.proof_walk.specs.Answer.{sceneDeps, walkSetting, walkProofs, walkedOf}
 use Rattle.proof_walk.specs.Steps.{readAt, Went, TurnIs}
 use Rattle.proof_walk.specs.declared.walk.Turn.the-variants as turn
@@ -105,7 +105,7 @@ head-first c lock answer₀ count e =
 walk-faulty : (c : Setting) (lock : List ℕ) (n : ℕ) (cursor : ProofCursor) (i weight : ℕ) (made : List ℕ) (e : ProtocolError)
     → decide Passed (witness.proofRows lock (cursor .offset) (cursor .least)) ≡ Failed e
     → walkFrom c lock (suc n) cursor i weight made ≡ outcome (Failed e) i made
-unfolding proofsFrom orFault walk endRows decide _▷_
+unfolding proofsFrom orFault walk lastRows decide _▷_
 walk-faulty c lock n cursor i weight made e h =
     rw h (ap (λ (x : ProtocolError). outcome (Failed x) i made) (layout-error lock (cursor .offset) (cursor .least) e h))
 
@@ -154,7 +154,7 @@ module _ (table store state : List ℕ) (operation : ℕ) (digest : List ℕ) {l
 
   -- every proof is passed
   pub passed-all : count ≤ i
-      → walkLock C lock ≡ outcome (decide Passed (endRows (eqb (cursor .offset) (length lock)) weight (thresholdOf operation state))) i (h .made)
+      → walkLock C lock ≡ outcome (decide Passed (lastRows (eqb (cursor .offset) (length lock)) weight (thresholdOf operation state))) i (h .made)
   unfolding walk proofsFrom walkSetting settingFor
   passed-all e = let z : count - i ≡ 0 = omega arith in h .goes ∙ rw z
 

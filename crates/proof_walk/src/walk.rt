@@ -17,7 +17,7 @@ ghost use lib.Dec.{eqb};
 ghost use lib.ListN.{length};
 ghost use Rattle.protocol.specs.Rows.{decide};
 ghost use Rattle.decision.specs.Proofs.{thresholdOf};
-ghost use Rattle.decision.specs.Walk.{walkLock, answered, endRows};
+ghost use Rattle.decision.specs.Walk.{walkLock, answered, lastRows};
 ghost use Rattle.proof_walk.specs.Answer.{walkSetting, walkProofs, walkedOf};
 ghost use Rattle.proof_walk.specs.Steps.{judgedAs, TurnIs};
 
@@ -76,7 +76,7 @@ fn walk_proof(
 
 // The checks behind the last proof, where the walk stands at `offset`.
 fn check_end(state: &[u8], lock: &[u8], operation: u8, offset: usize, weight: u32) -> Check
-    ensures { λ r. ⌜ r ≡ decide Check.Passed (endRows (eqb offset (length (now (lock .entry)))) weight (thresholdOf operation (now (state .entry)))) ⌝ }
+    ensures { λ r. ⌜ r ≡ decide Check.Passed (lastRows (eqb offset (length (now (lock .entry)))) weight (thresholdOf operation (now (state .entry)))) ⌝ }
 {
     let threshold = threshold(state, operation) as u32;
     Check::Passed

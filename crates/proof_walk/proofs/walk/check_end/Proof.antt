@@ -1,14 +1,15 @@
 -- `proof_walk::walk::check_end` meets its contract. Assumes nothing.
+use mathlib.Core.Path.{refl}
 use Rattle.protocol.specs.Rows.{decide, _▷_}
-use Rattle.decision.specs.Walk.{endRows}
+use Rattle.decision.specs.Walk.{lastRows}
 use borrow.Author.Needs.{needs}
 use Rattle.proof_walk.proofs.walk.check_end.Statement.{statement}
 use Rattle.proof_walk.proofs.walk.check_end.Tie as tie
 
 returns : tie.Need-returns
-unfolding endRows decide _▷_
+unfolding lastRows decide _▷_
 returns c =
-    rw (c .require3 .ensures, c .before .require2 .ensures, c .before .before .require .ensures, c .before .before .before .threshold .ensures)
+    rw (c .require3 .ensures, c .before .require2 .ensures, c .before .before .require .ensures, c .before .before .before .threshold .ensures) refl
 
 pub check-end-spec : {M : Type 1} → statement M
 check-end-spec =
