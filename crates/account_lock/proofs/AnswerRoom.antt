@@ -39,7 +39,7 @@ scene-never-five s room r = go (decide Passed (earlyRows s)) refl
   where
     go : (k : Check) → decide Passed (earlyRows s) ≡ k → checkNumber (orWalked k (walkResult s room) .found) ≢ 5
     go Passed h = early-room s room r (passed-hold (earlyRows s) h)
-    go (Failed e) h = λ z. let n = early-number s e h in omega arith
+    go (Failed e) h = λ z. omega (arith, early-number s e h .0 .0)
 
 -- nor is any table and store: an invalid table is 7
 pub lock-never-five : (table store : List ℕ) (room : ℕ) → 148992 ≤ room → checkNumber (lockOf table store room .found) ≢ 5

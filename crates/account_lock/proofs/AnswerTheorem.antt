@@ -1,7 +1,7 @@
 -- Demand 3, the answer: where every earlier row passes, the buffer holds one request for each proof, in order, each readable as
--- exactly that, and then its old bytes; the digest is document 01's.
+-- exactly that, with the lock's digest in it, and then its old bytes; the digest is document 01's.
 -- Assumes nothing.
-use mathlib.Core.Path.{_≡_, refl, ap, _∙_}
+use mathlib.Core.Path.{_≡_, refl, sym, ap, _∙_}
 use mathlib.Core.Bool.{Bool, true, false}
 use mathlib.Core.List.{List}
 use Prim.Native.Nat.{ℕ}
@@ -20,6 +20,7 @@ use Rattle.cell_search.specs.Search.{cellsOf, cellAt, noCell}
 use Rattle.cell_search.specs.Cells.{cellCount, cellPlaces}
 use Rattle.cell_search.proofs.CellLaws.{cell-there, cell-missing}
 use Rattle.state_transition.specs.Resolve.{stateCell, currentState}
+use Rattle.decision.specs.Proofs.{settingFor}
 use Rattle.decision.specs.Walk.{answered}
 use Rattle.decision.specs.Requests.{SettingFits}
 use Rattle.decision.proofs.DecisionTheorem.{lock-answers}
@@ -59,7 +60,7 @@ module _ (table store before : List ℕ) (b : Bytes store) (pass : EarlierPass t
   setting-fits = state-fits (current (lentScene table store)) _ _ _ _ _ (current-bytes table store b) (state-passes (lentScene table store) (pass .early)) (length-hash _)
 
   pub lock-answer : Answers table store before
-  unfolding walkResult walked answered
+  unfolding walkResult walked answered settingOf settingFor
   lock-answer =
       let s = lentScene table store in
       let made = lock-answers (settingOf s (length before)) (witnessLock s) (pass .proofs) in
@@ -67,6 +68,7 @@ module _ (table store before : List ℕ) (b : Bytes store) (pass : EarlierPass t
         count = ap (λ (r : Result). r .count) walk-given ∙ made .0;
         buffer = ap (λ (r : Result). answered before (r .made)) walk-given ∙ ap (answered before) (made .1);
         read = lock-requests-read (settingOf s (length before)) (witnessLock s) setting-fits (pass .proofs);
+        carried = sym (ap (λ (r : Result). r .digest) walk-given);
         reached = ap (λ (r : Result). r .reached) walk-given;
         digest = lock-digest table store (length before) (ap (λ (r : Result). r .reached) walk-given);
       }

@@ -78,6 +78,7 @@ module _ (s : Scene) (h : Hold (earlyRows s)) where
       let r = hold-split (successorRows (current s) (successor s)) _ c .1 in
       (rw q at r) .0
 
+  -- so in the lock no threshold is 0: 28 is "approved weight below threshold" alone
   pub threshold-above : 0 < thresholdOf (operation s) (current s)
   unfolding thresholdOf isOperation
   threshold-above = go (eqb (operation s) 1) (eqb (operation s) 2) (eqb (operation s) 3) refl refl refl
@@ -105,7 +106,7 @@ module _ (table store : List ℕ) (room : ℕ) where
       let s = lentScene table store in
       let z = from-walk (decide Passed (earlyRows s)) (walkResult s room) e in
       let early = passed-hold (earlyRows s) (z .0) in
-      let d = lock-decides (settingOf s room) (witnessLock s) (threshold-above s early) .0 (z .1) in
+      let d = lock-decides (settingOf s room) (witnessLock s) .0 (z .1) in
       (record { valid = v; early = early; proofs = d .0 }, d .1)
 
   pub lock-accepts : (lockOf table store room .found ≡ Passed) ↔ (EarlierPass table store room × LockQuorum table store room)
@@ -122,7 +123,7 @@ module _ (table store : List ℕ) (room : ℕ) where
       back h =
           let s = lentScene table store in
           rw (h .0 .valid, hold-passed (earlyRows s) (h .0 .early))
-          (lock-decides (settingOf s room) (witnessLock s) (threshold-above s (h .0 .early)) .1 (h .0 .proofs, h .1))
+          (lock-decides (settingOf s room) (witnessLock s) .1 (h .0 .proofs, h .1))
 
 -- ---- what the lock promises, from what it found of its table
 

@@ -7,7 +7,7 @@ use mathlib.Core.Bool.{Bool, true, false, cond}
 use mathlib.Core.List.{List, [], _∷_, _++_}
 use Prim.Native.Nat.{ℕ, zero, suc, _+_, _%_, _≤_}
 use native.Mathlib.Omega.{arith}
-use lib.Dec.{eqb, ltb}
+use lib.Dec.{eqb}
 use lib.ListN.{length, drop}
 use Rattle.octets.specs.Le.{numberAt}
 use Rattle.protocol.specs.Args.{argsRows}
@@ -31,7 +31,7 @@ use Rattle.group_sighash.specs.Witnesses.{countRows, witnessRows, groupRows, ot
 use Rattle.state_transition.specs.Resolve as resolve
 use Rattle.state_transition.specs.Transition as transition
 use Rattle.decision.specs.Proofs.{Setting, limitRows, entryRows, proofRows, requestOf}
-use Rattle.decision.specs.Walk.{Outcome, outcome, verdict, earned, weighed, ended, orElse, walk, walkList, walkLock}
+use Rattle.decision.specs.Walk.{Outcome, outcome, verdict, earned, lastRows, orElse, walk, walkList, walkLock}
 use Rattle.account_lock.specs.Lock as lock
 use Rattle.account_lock.specs.Decides.{LockNumber}
 
@@ -39,103 +39,106 @@ use Rattle.account_lock.specs.Decides.{LockNumber}
 abbrev pub Original : ProtocolError → Type 0
 Original e = (20 ≤ errorNumber e) × (errorNumber e ≤ 39)
 
--- ---- the rows before the proofs: each refusal is one of the original's
+-- ---- the rows before the proofs: each refusal is one of the original's, and none is 28
+
+abbrev pub Early : ProtocolError → Type 0
+Early e = Original e × (errorNumber e ≢ 28)
 
 -- a state's header
-head-original : (s : List ℕ) → Each Original (state.headRows s)
+head-early : (s : List ℕ) → Each Early (state.headRows s)
 unfolding state.headRows
-head-original s = search arith depth 20
+head-early s = search arith depth 20
 
 -- one of its entries
-entry-original : (e : List ℕ) (least : ℕ) → Each Original (state.entryRows e least)
+entry-early : (e : List ℕ) (least : ℕ) → Each Early (state.entryRows e least)
 unfolding state.entryRows state.layoutRows state.fieldRows
-entry-original e least = search arith depth 20
+entry-early e least = search arith depth 20
 
 -- its entries
-entries-original : (n : ℕ) (e : List ℕ) (least : ℕ) → Each Original (state.entriesRows n e least)
+entries-early : (n : ℕ) (e : List ℕ) (least : ℕ) → Each Early (state.entriesRows n e least)
 unfolding state.entriesRows
-entries-original zero e least = tt
-entries-original (suc n) e least =
-    each-append Original (state.entryRows e least) _ (entry-original e least) (entries-original n (drop (lengthOf e) e) (slotOf e + 1))
+entries-early zero e least = tt
+entries-early (suc n) e least =
+    each-append Early (state.entryRows e least) _ (entry-early e least) (entries-early n (drop (lengthOf e) e) (slotOf e + 1))
 
 -- its recovery
-recovery-original : (flags threshold since weight : ℕ) → Each Original (state.recoveryRows flags threshold since weight)
+recovery-early : (flags threshold since weight : ℕ) → Each Early (state.recoveryRows flags threshold since weight)
 unfolding state.recoveryRows
-recovery-original flags threshold since weight = each-cond Original (eqb (flags % 2) 1) _ _ (search arith) (search arith)
+recovery-early flags threshold since weight = each-cond Early (eqb (flags % 2) 1) _ _ (search arith) (search arith)
 
 -- what follows its entries
-tail-original : (s : List ℕ) (n : ℕ) (e : List ℕ) → Each Original (state.tailRows s n e)
+tail-early : (s : List ℕ) (n : ℕ) (e : List ℕ) → Each Early (state.tailRows s n e)
 unfolding state.tailRows state.endRows state.thresholdRows
-tail-original s n e = search (arith, recovery-original) depth 12
+tail-early s n e = search (arith, recovery-early) depth 12
 
 -- the whole state
-state-original : (s : List ℕ) → Each Original (state.stateRows s)
+state-early : (s : List ℕ) → Each Early (state.stateRows s)
 unfolding state.stateRows
-state-original s =
-    each-append Original (state.headRows s) _ (head-original s)
-    (each-append Original (state.entriesRows (numberAt s 22 1) (drop 32 s) 0) _ (entries-original _ _ 0) (tail-original s _ _))
+state-early s =
+    each-append Early (state.headRows s) _ (head-early s)
+    (each-append Early (state.entriesRows (numberAt s 22 1) (drop 32 s) 0) _ (entries-early _ _ 0) (tail-early s _ _))
 
 -- the script
-script-original : (script : List ℕ) → Each Original (lock.scriptRows script)
+script-early : (script : List ℕ) → Each Early (lock.scriptRows script)
 unfolding lock.scriptRows molecule.argsRows tableRows molecule.bytesRows argsRows
-script-original script = search arith depth 20
+script-early script = search arith depth 20
 
 -- the first witness of the group
-group-original : (s : Scene) → Each Original (groupRows s)
+group-early : (s : Scene) → Each Early (groupRows s)
 unfolding groupRows witnessRows molecule.lockRows tableRows molecule.bytesRows headerRows countRows
-group-original s = search arith depth 30
+group-early s = search arith depth 30
 
 -- the other hashed witnesses
-other-original : (s : Scene) → Each Original (otherRows s)
+other-early : (s : Scene) → Each Early (otherRows s)
 unfolding otherRows
-other-original s = search arith
+other-early s = search arith
 
 -- the cells of the state
-resolve-original : (operation : ℕ) (id : List ℕ) (s : Scene) → Each Original (resolve.resolveRows operation id s)
+resolve-early : (operation : ℕ) (id : List ℕ) (s : Scene) → Each Early (resolve.resolveRows operation id s)
 unfolding resolve.resolveRows resolve.spendRows resolve.changeRows resolve.typeRows
-resolve-original operation id s =
-    each-cond Original (eqb operation 1) (resolve.spendRows id s) (resolve.changeRows id s) (search arith depth 12) (search arith depth 12)
+resolve-early operation id s =
+    each-cond Early (eqb operation 1) (resolve.spendRows id s) (resolve.changeRows id s) (search arith depth 12) (search arith depth 12)
 
 -- the data of the current state and of its successor
-data-original : (current successor : List ℕ) → Each Original (transition.dataRows current successor)
+data-early : (current successor : List ℕ) → Each Early (transition.dataRows current successor)
 unfolding transition.dataRows
-data-original current successor = search arith
+data-early current successor = search arith
 
 -- the current state and the witness sequence
-current-original : (sequence : ℕ) (current : List ℕ) → Each Original (transition.currentRows sequence current)
+current-early : (sequence : ℕ) (current : List ℕ) → Each Early (transition.currentRows sequence current)
 unfolding transition.currentRows
-current-original sequence current = each-append Original (state.stateRows current) _ (state-original current) (search arith)
+current-early sequence current = each-append Early (state.stateRows current) _ (state-early current) (search arith)
 
 -- the successor and the recovery
-change-original : (operation since : ℕ) (current successor : List ℕ) → Each Original (transition.successionRows operation since current successor)
+change-early : (operation since : ℕ) (current successor : List ℕ) → Each Early (transition.successionRows operation since current successor)
 unfolding transition.successionRows transition.successorRows transition.recoveryRows
-change-original operation since current successor =
-    each-append Original (transition.successorRows current successor) _
-    (each-append Original (state.stateRows successor) _ (state-original successor) (search arith))
-    (each-cond Original (eqb operation 3) (transition.recoveryRows since current) [] (search arith) tt)
+change-early operation since current successor =
+    each-append Early (transition.successorRows current successor) _
+    (each-append Early (state.stateRows successor) _ (state-early successor) (search arith))
+    (each-cond Early (eqb operation 3) (transition.recoveryRows since current) [] (search arith) tt)
 
 -- both states
-transition-original : (operation sequence since : ℕ) (current successor : List ℕ)
-    → Each Original (transition.transitionRows operation sequence since current successor)
+transition-early : (operation sequence since : ℕ) (current successor : List ℕ)
+    → Each Early (transition.transitionRows operation sequence since current successor)
 unfolding transition.transitionRows
-transition-original operation sequence since current successor =
-    each-append Original (transition.currentRows sequence current) _ (current-original sequence current)
-    (each-cond Original (eqb operation 1) [] (transition.successionRows operation since current successor) tt (change-original operation since current successor))
+transition-early operation sequence since current successor =
+    each-append Early (transition.currentRows sequence current) _ (current-early sequence current)
+    (each-cond Early (eqb operation 1) [] (transition.successionRows operation since current successor) tt (change-early operation since current successor))
 
 -- every row before the proofs
-early-original : (s : Scene) → Each Original (lock.earlyRows s)
+pub early-each : (s : Scene) → Each Early (lock.earlyRows s)
 unfolding lock.earlyRows lock.lateRows lock.stateRowsOf
-early-original s =
-    each-append Original (lock.scriptRows (s .script)) _ (script-original (s .script))
-    (each-append Original (groupRows s) _ (group-original s)
-    (each-append Original (resolve.resolveRows (lock.operation s) (lock.account s) s) _ (resolve-original _ _ s)
-    (each-append Original (lock.stateRowsOf s) _
-    (each-append Original (transition.dataRows (lock.current s) (lock.successor s)) _ (data-original _ _) (transition-original _ _ _ _ _))
-    (other-original s))))
+early-each s =
+    each-append Early (lock.scriptRows (s .script)) _ (script-early (s .script))
+    (each-append Early (groupRows s) _ (group-early s)
+    (each-append Early (resolve.resolveRows (lock.operation s) (lock.account s) s) _ (resolve-early _ _ s)
+    (each-append Early (lock.stateRowsOf s) _
+    (each-append Early (transition.dataRows (lock.current s) (lock.successor s)) _ (data-early _ _) (transition-early _ _ _ _ _))
+    (other-early s))))
 
--- a refusal before the proofs is one of the original's
-pub early-number : (s : Scene) (e : ProtocolError) → decide Passed (lock.earlyRows s) ≡ Failed e → 20 ≤ errorNumber e
-early-number s e f = each-failed Original (lock.earlyRows s) e (early-original s) f .0
+-- a refusal before the proofs is such
+pub early-number : (s : Scene) (e : ProtocolError) → decide Passed (lock.earlyRows s) ≡ Failed e → Early e
+early-number s e f = each-failed Early (lock.earlyRows s) e (early-each s) f
 
 -- ---- the proofs
 
@@ -159,20 +162,18 @@ proof-refusal c used p =
     search depth 12
 
 -- behind the last proof
-ended-refusal : (clean : Bool) (weight threshold : ℕ) → Refuses LockRefusal (ended clean weight threshold)
-unfolding ended weighed
-ended-refusal false weight threshold = original-refusal InvalidWitness (search arith)
-ended-refusal true weight threshold = go (ltb weight threshold)
-  where
-    go : (b : Bool) → Refuses LockRefusal (cond b (Failed ThresholdUnsatisfied) Passed)
-    go true = original-refusal ThresholdUnsatisfied (search arith)
-    go false = tt
+end-refusal : (clean : Bool) (weight threshold : ℕ) → Each LockRefusal (lastRows clean weight threshold)
+unfolding lastRows
+end-refusal clean weight threshold =
+    let witness = original-refusal InvalidWitness (search arith) in
+    let unsatisfied = original-refusal ThresholdUnsatisfied (search arith) in
+    search depth 12
 
 -- one proof, and those behind it
 walk-refusal : (c : Setting) (clean : Bool) (i weight : ℕ) (made : List ℕ) (ps : List ProofReading)
     → Refuses LockRefusal (walk c clean i weight made ps .found)
 unfolding walk orElse
-walk-refusal c clean i weight made [] = ended-refusal clean weight (c .threshold)
+walk-refusal c clean i weight made [] = each-refuses LockRefusal _ (end-refusal clean weight (c .threshold))
 walk-refusal c clean i weight made (p ∷ ps) =
     go (decide Passed (proofRows c (length made) p)) (each-refuses LockRefusal _ (proof-refusal c (length made) p)) (eqb (verdict c i) 2)
     (walk c clean (i + 1) (weight + earned c i p) (made ++ requestOf c p) ps) (walk-refusal c clean (i + 1) _ _ ps)
@@ -188,11 +189,11 @@ walk-refusal c clean i weight made (p ∷ ps) =
 -- over a scene
 scene-refusal : (s : Scene) (room : ℕ) → Refuses LockRefusal (lock.lockScene s room .found)
 unfolding lock.lockScene lock.orWalked lock.refused lock.walkResult lock.walked walkLock walkList
-scene-refusal s room = go (decide Passed (lock.earlyRows s)) (each-refuses Original _ (early-original s))
+scene-refusal s room = go (decide Passed (lock.earlyRows s)) (each-refuses Early _ (early-each s))
   where
-    go : (k : Check) → Refuses Original k → Refuses LockRefusal (lock.orWalked k (lock.walkResult s room) .found)
+    go : (k : Check) → Refuses Early k → Refuses LockRefusal (lock.orWalked k (lock.walkResult s room) .found)
     go Passed h = walk-refusal _ _ 0 0 [] _
-    go (Failed e) h = original-refusal e h
+    go (Failed e) h = original-refusal e (h .0)
 
 -- the number of what it finds there
 scene-number : (k : Check) → Refuses LockRefusal k → LockNumber (checkNumber k)

@@ -40,6 +40,8 @@ pub record Answers (table store before : List ℕ) : Type 0 where
       ++ drop (length (requestsOf (settingOf (lentScene table store) (length before)) (proofsOf (witnessLock (lentScene table store))))) before
   -- the request reader reads each as what it was made from
   pub read : RequestsRead (settingOf (lentScene table store) (length before)) (proofsOf (witnessLock (lentScene table store)))
+  -- and the digest in each is the lock's
+  pub carried : settingOf (lentScene table store) (length before) .digest ≡ lockOf table store (length before) .digest
   -- the digest is reached, and is CKB's hash of document 01's input
   pub reached : lockOf table store (length before) .reached ≡ true
   pub digest : lockOf table store (length before) .digest

@@ -1,20 +1,20 @@
 -- Demand 3 for the proofs of a witness lock: the walk passes exactly where every row before the one for 28 passes and there is a
--- quorum, and then it has made one request per proof.
+-- quorum, and then it has made one request per proof; its number is 0 or 28 exactly where those rows pass.
 -- Assumes nothing.
 use mathlib.Core.Path.{_≡_}
 use mathlib.Core.Logic.{_↔_}
 use mathlib.Core.Bool.{true}
 use mathlib.Core.List.{List, []}
-use Prim.Native.Nat.{ℕ, _<_}
+use Prim.Native.Nat.{ℕ}
 use lib.ListN.{length, take}
 use Rattle.octets.specs.Le.{numberAt}
-use Rattle.protocol.specs.Rows.{Hold}
+use Rattle.protocol.specs.Rows.{Hold, checkNumber}
 use Rattle.protocol.specs.declared.check.Check.the-variants.{Passed}
 use Rattle.account_witness.specs.Walk.{proofsRows}
 use Rattle.decision.specs.Proofs.{Setting, requestsOf}
 use Rattle.decision.specs.Walk.{listed, walk, walkList, walkLock}
 use Rattle.decision.specs.Decision.{EachPasses, proofsOf, ProofsPass, Quorum}
-use Rattle.decision.proofs.Quorum.{decision, answers, answers-always}
+use Rattle.decision.proofs.Quorum.{ZeroOr28, zero-or-28, decision, answers, answers-always}
 use Rattle.decision.proofs.Listed.{listed-clean, listed-proofs, listed-rising}
 
 -- where no layout is faulty these are the lock's
@@ -22,14 +22,20 @@ pub listed-of : (lock : List ℕ) → Hold (proofsRows lock (numberAt lock 6 1) 
 unfolding proofsOf
 listed-of lock h = listed-proofs lock (numberAt lock 6 1) 16 0 h
 
-pub lock-decides : (c : Setting) (lock : List ℕ) → 0 < c .threshold
+pub lock-decides : (c : Setting) (lock : List ℕ)
     → (walkLock c lock .found ≡ Passed) ↔ (ProofsPass c lock × Quorum c (proofsOf lock))
 unfolding walkLock walkList
-lock-decides c lock above = (there, back)
+lock-decides c lock = (there, back)
   where
     decides : (walk c (listed lock .clean) 0 0 [] (listed lock .proofs) .found ≡ Passed)
         ↔ ((listed lock .clean ≡ true) × EachPasses c 0 0 (listed lock .proofs) × Quorum c (listed lock .proofs))
-    decides = decision c (listed lock .clean) (listed lock .proofs) (listed-rising lock (numberAt lock 6 1) 16 0) above
+    decides = decision c (listed lock .clean) (listed lock .proofs) (listed-rising lock (numberAt lock 6 1) 16 0)
+
+    back : ProofsPass c lock × Quorum c (proofsOf lock) → walkLock c lock .found ≡ Passed
+    back h =
+        let l = h .0 .layout in
+        let e = listed-of lock l in
+        decides .1 (listed-clean lock (numberAt lock 6 1) 16 0 .1 l, rw e (h .0 .each), rw e (h .1))
 
     there : walkLock c lock .found ≡ Passed → ProofsPass c lock × Quorum c (proofsOf lock)
     there h =
@@ -38,11 +44,23 @@ lock-decides c lock above = (there, back)
         let e = listed-of lock l in
         (record { layout = l; each = rw e at (z .1) }, rw e at (z .2))
 
-    back : ProofsPass c lock × Quorum c (proofsOf lock) → walkLock c lock .found ≡ Passed
-    back h =
-        let l = h .0 .layout in
-        let e = listed-of lock l in
-        decides .1 (listed-clean lock (numberAt lock 6 1) 16 0 .1 l, rw e (h .0 .each), rw e (h .1))
+-- its number is 0 or 28 exactly where every row before the one for 28 passes
+pub lock-zero-or-28 : (c : Setting) (lock : List ℕ) → ZeroOr28 (checkNumber (walkLock c lock .found)) ↔ ProofsPass c lock
+unfolding walkLock walkList
+lock-zero-or-28 c lock = (there, back)
+  where
+    number : ZeroOr28 (checkNumber (walk c (listed lock .clean) 0 0 [] (listed lock .proofs) .found))
+        ↔ ((listed lock .clean ≡ true) × EachPasses c 0 0 (listed lock .proofs))
+    number = zero-or-28 c (listed lock .clean) (listed lock .proofs)
+
+    there : ZeroOr28 (checkNumber (walkLock c lock .found)) → ProofsPass c lock
+    there h =
+        let z = number .0 h in
+        let l = listed-clean lock (numberAt lock 6 1) 16 0 .0 (z .0) in
+        record { layout = l; each = rw (listed-of lock l) at (z .1) }
+
+    back : ProofsPass c lock → ZeroOr28 (checkNumber (walkLock c lock .found))
+    back h = number .1 (listed-clean lock (numberAt lock 6 1) 16 0 .1 (h .layout), rw (listed-of lock (h .layout)) (h .each))
 
 -- where every row before the one for 28 passes: one request for each proof, in order
 pub lock-answers : (c : Setting) (lock : List ℕ) → ProofsPass c lock

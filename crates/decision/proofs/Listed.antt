@@ -34,7 +34,7 @@ module _ (lock : List ℕ) (n at least : ℕ) where
   pub listed-goes : decide Passed (proofRows lock at least) ≡ Passed
       → proofsFrom lock (suc n) at least ≡ record { proofs = proofReading lock (proofAt lock at) ∷ Behind .proofs; clean = Behind .clean }
   unfolding proofsFrom orFault
-  listed-goes h = rw h
+  listed-goes h = rw h refl
 
 faulty-clean : (ps : ProofList) (k : Check) → orFault k ps .clean ≡ true → (k ≡ Passed) × (ps .clean ≡ true)
 unfolding orFault

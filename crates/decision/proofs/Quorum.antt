@@ -1,26 +1,30 @@
--- The walk over a list of proofs passes exactly where every proof's rows pass and there is a quorum; and what it has written.
+-- The walk over a list of proofs passes exactly where every proof's rows pass and there is a quorum; its number is 0 or 28 exactly
+-- where every proof's rows pass; and what it has written.
 -- Assumes nothing.
 use mathlib.Core.Path.{_≡_, refl, sym, ap, _∙_}
-use mathlib.Core.Logic.{_↔_, _≢_, ⊎-elim}
+use mathlib.Core.Logic.{_↔_, _≢_, _⊎_, inl, inr, ⊎-elim}
 use mathlib.Core.Bool.{Bool, true, false, cond}
 use mathlib.Core.List.{List, [], _∷_, _++_, append-assoc, append-nil, List·Memᴰ, Memᴰ·cast, List·Memᴰ·head, List·Memᴰ·tail, List·Memᴰ·not-nil, List·Memᴰ·cases-cons}
 use Prim.Native.Nat.{ℕ, zero, suc, _+_, _≤_, _<_, zero-le, suc-le-suc}
 use native.Mathlib.Nat.{le-of-suc-le-suc, le-refl}
 use native.Mathlib.Omega.{arith}
 use native.Mathlib.Decide.{ℕ-discrete}
-use lib.ListN.{length, getD, take, length-append}
-use lib.Dec.{ltb, eqb}
-use borrow.Author.Tests.{eq-eqb, ne-eqb, eqb-true, eqb-false, ltb-false, le-ltb}
+use lib.ListN.{length, getD, take, drop, length-append}
+use lib.Dec.{eqb}
+use borrow.Author.Tests.{eq-eqb, ne-eqb, eqb-true, eqb-false, leb-true, le-leb, ltb-true, lt-ltb}
 use Rattle.octets.specs.Lists.{Rising}
-use Rattle.protocol.specs.Rows.{decide}
+use Rattle.protocol.specs.Errors.{errorNumber}
+use Rattle.protocol.specs.Rows.{_▷_, decide, checkNumber}
 use Rattle.protocol.specs.declared.error.ProtocolError.{ProtocolError}
-use Rattle.protocol.specs.declared.error.ProtocolError.the-variants.{InvalidWitness, VerifierFailure, ThresholdUnsatisfied}
+use Rattle.protocol.specs.declared.error.ProtocolError.the-variants.{BufferTooShort, InvalidWitness, InvalidCapability, InvalidVerifierRef, VerifierFailure, InvalidRequest, LengthOverflow}
 use Rattle.protocol.specs.declared.check.Check.{Check}
 use Rattle.protocol.specs.declared.check.Check.the-variants.{Passed, Failed}
-use Rattle.protocol.proofs.Hold.{failed-passed, passed-hold, hold-passed}
+use Rattle.protocol.proofs.ErrorNumbers.{not-0}
+use Rattle.protocol.proofs.Hold.{passed-hold, hold-passed}
+use Rattle.protocol.proofs.Each.{Each, Refuses, each-refuses}
 use Rattle.account_witness.specs.Reading.{ProofReading}
-use Rattle.decision.specs.Proofs.{Setting, known, entryFor, capable, entryRows, proofRows, requestOf, requestsOf}
-use Rattle.decision.specs.Walk.{Outcome, outcome, verdict, earned, weighed, ended, orElse, walk}
+use Rattle.decision.specs.Proofs.{Setting, known, entryFor, capable, limitRows, entryRows, proofRows, requestOf, requestsOf}
+use Rattle.decision.specs.Walk.{Outcome, outcome, verdict, earned, lastRows, orElse, walk}
 use Rattle.decision.specs.Decision.{slots, EachPasses, Approved, weightOf, Quorum}
 
 -- The three ways on from a proof.
@@ -43,45 +47,85 @@ module _ (c : Setting) (clean : Bool) (i weight : ℕ) (made : List ℕ) (p : Pr
   unfolding walk orElse
   walk-goes h v = rw (h, ne-eqb (verdict c i) 2 v)
 
--- A walk that passed: each turn's rows passed and its verdict was not 2.
-turn-passed : (k : Check) (v : ℕ) (onward : Outcome) (i j : ℕ) (m l : List ℕ)
-    → orElse k i m (cond (eqb v 2) (outcome (Failed VerifierFailure) j l) onward) .found ≡ Passed
-    → (k ≡ Passed) × (v ≢ 2) × (onward .found ≡ Passed)
+-- ---- which numbers come from behind the last proof
+
+-- 0 and 28
+abbrev pub ZeroOr28 : ℕ → Type 0
+ZeroOr28 n = (n ≡ 0) ⊎ (n ≡ 28)
+
+-- the refusal of a row before those
+abbrev Earlier : ProtocolError → Type 0
+Earlier e = ¬ ZeroOr28 (errorNumber e)
+
+earlier : (e : ProtocolError) → errorNumber e ≢ 28 → Earlier e
+earlier e n (inl z) = not-0 e z
+earlier e n (inr z) = n z
+
+-- every row of a proof is before them
+proof-earlier : (c : Setting) (used : ℕ) (p : ProofReading) → Each Earlier (proofRows c used p)
+unfolding proofRows entryRows limitRows
+proof-earlier c used p =
+    let witness = earlier InvalidWitness (λ z. omega arith) in
+    let capability = earlier InvalidCapability (λ z. omega arith) in
+    let verifier = earlier InvalidVerifierRef (λ z. omega arith) in
+    let request = earlier InvalidRequest (λ z. omega arith) in
+    let overflow = earlier LengthOverflow (λ z. omega arith) in
+    let room = earlier BufferTooShort (λ z. omega arith) in
+    search depth 12
+
+-- A walk that came behind its last proof: each turn's rows passed and its verdict was not 2.
+turn-last : (k : Check) (v : ℕ) (onward : Outcome) (i j : ℕ) (m l : List ℕ) → Refuses Earlier k
+    → ZeroOr28 (checkNumber (orElse k i m (cond (eqb v 2) (outcome (Failed VerifierFailure) j l) onward) .found))
+    → (k ≡ Passed) × (v ≢ 2) × ZeroOr28 (checkNumber (onward .found))
 unfolding orElse
-turn-passed (Failed e) v onward i j m l h = failed-passed e h
-turn-passed Passed v onward i j m l h = go (eqb v 2) refl h
+turn-last (Failed e) v onward i j m l r h = absurd (r h)
+turn-last Passed v onward i j m l r h = go (eqb v 2) refl h
   where
-    go : (b : Bool) → eqb v 2 ≡ b → cond b (outcome (Failed VerifierFailure) j l) onward .found ≡ Passed
-        → (_≡_ {A = Check} Passed Passed) × (v ≢ 2) × (onward .found ≡ Passed)
-    go true q h = failed-passed VerifierFailure h
+    go : (b : Bool) → eqb v 2 ≡ b → ZeroOr28 (checkNumber (cond b (outcome (Failed VerifierFailure) j l) onward .found))
+        → (_≡_ {A = Check} Passed Passed) × (v ≢ 2) × ZeroOr28 (checkNumber (onward .found))
+    go true q h = absurd (earlier VerifierFailure (λ z. omega arith) h)
     go false q h = (refl, eqb-false v 2 q, h)
 
-ended-clean : (clean : Bool) (weight threshold : ℕ) → ended clean weight threshold ≡ Passed → clean ≡ true
-unfolding ended
-ended-clean true weight threshold h = refl
-ended-clean false weight threshold h = failed-passed InvalidWitness h
-
-enough-weighed : (weight threshold : ℕ) → threshold ≤ weight → weighed weight threshold ≡ Passed
-unfolding weighed
-enough-weighed weight threshold h = rw (le-ltb weight threshold h)
-
-weighed-enough : (weight threshold : ℕ) → weighed weight threshold ≡ Passed → threshold ≤ weight
-unfolding weighed
-weighed-enough weight threshold h = go (ltb weight threshold) refl h
-  where
-    go : (b : Bool) → ltb weight threshold ≡ b → cond b (Failed ThresholdUnsatisfied) Passed ≡ Passed → threshold ≤ weight
-    go true q h = failed-passed ThresholdUnsatisfied h
-    go false q h = ltb-false weight threshold q
+end-last : (clean : Bool) (weight threshold : ℕ) → ZeroOr28 (checkNumber (decide Passed (lastRows clean weight threshold))) → clean ≡ true
+unfolding lastRows decide _▷_
+end-last true weight threshold h = refl
+end-last false weight threshold h = absurd (earlier InvalidWitness (λ z. omega arith) h)
 
 module _ (c : Setting) (clean : Bool) where
-  passed-each : (i weight : ℕ) (made : List ℕ) (ps : List ProofReading) → walk c clean i weight made ps .found ≡ Passed
+  last-each : (i weight : ℕ) (made : List ℕ) (ps : List ProofReading) → ZeroOr28 (checkNumber (walk c clean i weight made ps .found))
       → (clean ≡ true) × EachPasses c i (length made) ps
   unfolding walk
-  passed-each i weight made [] h = (ended-clean clean weight (c .threshold) h, tt)
-  passed-each i weight made (p ∷ ps) h =
-      let z = turn-passed (decide Passed (proofRows c (length made) p)) (verdict c i) _ _ _ _ _ h in
-      let r = passed-each (i + 1) (weight + earned c i p) (made ++ requestOf c p) ps (z .2) in
+  last-each i weight made [] h = (end-last clean weight (c .threshold) h, tt)
+  last-each i weight made (p ∷ ps) h =
+      let k = each-refuses Earlier _ (proof-earlier c (length made) p) in
+      let z = turn-last (decide Passed (proofRows c (length made) p)) (verdict c i) _ _ _ _ _ k h in
+      let r = last-each (i + 1) (weight + earned c i p) (made ++ requestOf c p) ps (z .2) in
       (r .0, (passed-hold (proofRows c (length made) p) (z .0), z .1, rw length-append at (r .1)))
+
+-- Behind the last proof, with nothing that follows it, only 28 refuses,
+end-number : (weight threshold : ℕ) → ZeroOr28 (checkNumber (decide Passed (lastRows true weight threshold)))
+unfolding lastRows decide _▷_
+end-number weight threshold =
+    let later = drop 1 (lastRows true weight threshold) in
+    go (decide Passed later) (each-refuses (λ e. errorNumber e ≡ 28) later (refl, (refl, tt)))
+  where
+    go : (k : Check) → Refuses (λ e. errorNumber e ≡ 28) k → ZeroOr28 (checkNumber k)
+    go Passed h = inl refl
+    go (Failed e) h = inr h
+
+-- and nothing is found exactly where the weight reaches a threshold above zero.
+end-passes : (clean : Bool) (weight threshold : ℕ)
+    → (decide Passed (lastRows clean weight threshold) ≡ Passed) ↔ ((clean ≡ true) × (0 < threshold) × (threshold ≤ weight))
+unfolding lastRows
+end-passes clean weight threshold = (there, back)
+  where
+    there : decide Passed (lastRows clean weight threshold) ≡ Passed → (clean ≡ true) × (0 < threshold) × (threshold ≤ weight)
+    there h =
+        let z = passed-hold (lastRows clean weight threshold) h in
+        (z .0, omega (arith, ltb-true, z .1 .0), omega (arith, leb-true, z .1 .1 .0))
+
+    back : (clean ≡ true) × (0 < threshold) × (threshold ≤ weight) → decide Passed (lastRows clean weight threshold) ≡ Passed
+    back h = hold-passed (lastRows clean weight threshold) (h .0, (lt-ltb _ _ (h .1), (le-leb _ _ (h .2), tt)))
 
 -- The sum over a rising list is at most that over a rising list with the same members and more.
 after : {least s : ℕ} (xs : List ℕ) → Rising least xs → List·Memᴰ s xs → least ≤ s
@@ -185,7 +229,7 @@ module _ (c : Setting) where
   -- where every proof's rows pass, the walk makes every request and weighs the approved
   walk-each : (clean : Bool) (i weight : ℕ) (made : List ℕ) (ps : List ProofReading) → EachPasses c i (length made) ps
       → walk c clean i weight made ps
-      ≡ outcome (ended clean (weight + weightOf c (approved i ps)) (c .threshold)) (i + length ps) (made ++ requestsOf c ps)
+      ≡ outcome (decide Passed (lastRows clean (weight + weightOf c (approved i ps)) (c .threshold))) (i + length ps) (made ++ requestsOf c ps)
   unfolding walk requestsOf
   walk-each clean i weight made [] pass =
       let a : weight + 0 ≡ weight = omega arith in
@@ -216,18 +260,26 @@ module _ (c : Setting) where
       go Passed false o h = (suc (h .0), suc-le-suc (h .1), omega (arith, h .2), h .3 ∙ append-assoc made (requestOf c p) (requestsOf c (take (h .0) ps)))
       go (Failed e) b o h = (zero, zero-le, omega arith, sym (append-nil made))
 
--- Passed exactly where nothing follows the proofs, each proof's rows pass, and there is a quorum.
-pub decision : (c : Setting) (clean : Bool) (ps : List ProofReading) → Rising 0 (slots ps) → 0 < c .threshold
-    → (walk c clean 0 0 [] ps .found ≡ Passed) ↔ ((clean ≡ true) × EachPasses c 0 0 ps × Quorum c ps)
-unfolding ended
-decision c clean ps rises above = (there, back)
-  where
-    weighs : clean ≡ true → EachPasses c 0 0 ps
-        → walk c clean 0 0 [] ps .found ≡ weighed (weightOf c (approved c 0 ps)) (c .threshold)
-    weighs e pass =
-        let z : 0 + weightOf c (approved c 0 ps) ≡ weightOf c (approved c 0 ps) = omega arith in
-        ap (λ (o : Outcome). o .found) (walk-each c clean 0 0 [] ps pass) ∙ rw (e, z)
+-- where every proof's rows pass, the walk finds what the approved weight makes of the rows behind the last proof
+each-found : (c : Setting) (clean : Bool) (ps : List ProofReading) → EachPasses c 0 0 ps
+    → walk c clean 0 0 [] ps .found ≡ decide Passed (lastRows clean (weightOf c (approved c 0 ps)) (c .threshold))
+each-found c clean ps pass =
+    let z : 0 + weightOf c (approved c 0 ps) ≡ weightOf c (approved c 0 ps) = omega arith in
+    ap (λ (o : Outcome). o .found) (walk-each c clean 0 0 [] ps pass) ∙ rw z
 
+-- Its number is 0 or 28 exactly where nothing follows the proofs and each proof's rows pass.
+pub zero-or-28 : (c : Setting) (clean : Bool) (ps : List ProofReading)
+    → ZeroOr28 (checkNumber (walk c clean 0 0 [] ps .found)) ↔ ((clean ≡ true) × EachPasses c 0 0 ps)
+zero-or-28 c clean ps = (last-each c clean 0 0 [] ps, back)
+  where
+    back : (clean ≡ true) × EachPasses c 0 0 ps → ZeroOr28 (checkNumber (walk c clean 0 0 [] ps .found))
+    back h = rw (each-found c clean ps (h .1), h .0) (end-number (weightOf c (approved c 0 ps)) (c .threshold))
+
+-- Passed exactly where nothing follows the proofs, each proof's rows pass, and there is a quorum.
+pub decision : (c : Setting) (clean : Bool) (ps : List ProofReading) → Rising 0 (slots ps)
+    → (walk c clean 0 0 [] ps .found ≡ Passed) ↔ ((clean ≡ true) × EachPasses c 0 0 ps × Quorum c ps)
+decision c clean ps rises = (there, back)
+  where
     approves : EachPasses c 0 0 ps → (s : ℕ) → List·Memᴰ s (approved c 0 ps) → Approved c ps s
     approves pass s m =
         let f = approved-from c 0 0 ps pass s m in
@@ -236,17 +288,16 @@ decision c clean ps rises above = (there, back)
 
     there : walk c clean 0 0 [] ps .found ≡ Passed → (clean ≡ true) × EachPasses c 0 0 ps × Quorum c ps
     there h =
-        let z = passed-each c clean 0 0 [] ps h in (
-          z .0,
-          z .1,
-          record {
-            set = approved c 0 ps;
-            isSet = approved-rising c 0 0 ps rises;
-            each = approves (z .1);
-            enough = weighed-enough (weightOf c (approved c 0 ps)) (c .threshold) (sym (weighs (z .0) (z .1)) ∙ h);
-            above = above;
-          },
-        )
+        let z = zero-or-28 c clean ps .0 (inl (ap checkNumber h)) in
+        let e = end-passes clean (weightOf c (approved c 0 ps)) (c .threshold) .0 (sym (each-found c clean ps (z .1)) ∙ h) in
+        let quorum : Quorum c ps = record {
+          set = approved c 0 ps;
+          isSet = approved-rising c 0 0 ps rises;
+          each = approves (z .1);
+          enough = e .2;
+          above = e .1;
+        } in
+        (z .0, z .1, quorum)
 
     member : (q : Quorum c ps) (s : ℕ) → List·Memᴰ s (q .set) → List·Memᴰ s (approved c 0 ps)
     member q s m =
@@ -258,7 +309,8 @@ decision c clean ps rises above = (there, back)
     back h =
         let q = h .2 in
         let le = weightOf-le c (q .set) (approved c 0 ps) 0 0 (q .isSet) (approved-rising c 0 0 ps rises) (member q) in
-        weighs (h .0) (h .1) ∙ enough-weighed (weightOf c (approved c 0 ps)) (c .threshold) (omega (arith, q .enough))
+        each-found c clean ps (h .1)
+        ∙ end-passes clean (weightOf c (approved c 0 ps)) (c .threshold) .1 (h .0, q .above, omega (arith, q .enough))
 
 -- Where each proof's rows pass: one request for each proof, in order.
 pub answers : (c : Setting) (clean : Bool) (ps : List ProofReading) → EachPasses c 0 0 ps

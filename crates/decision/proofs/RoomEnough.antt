@@ -8,7 +8,7 @@ use mathlib.Core.Bool.{Bool, true, false, cond}
 use mathlib.Core.List.{List, [], _∷_, _++_}
 use Prim.Native.Nat.{ℕ, zero, suc, _+_, _*_, _-_, _≤_}
 use native.Mathlib.Omega.{arith}
-use lib.Dec.{eqb, leb, ltb}
+use lib.Dec.{eqb, leb}
 use lib.ListN.{length, drop, length-append, length-take, length-drop}
 use borrow.Author.Tests.{leb-true, leb-false, eqb-true, le-leb, lt-leb}
 use Rattle.octets.specs.Le.{numberAt}
@@ -17,7 +17,7 @@ use Rattle.octets.proofs.Arrays.{length-array}
 use Rattle.protocol.specs.Errors.{errorNumber}
 use Rattle.protocol.specs.Rows.{Row, decide, Hold, First, checkNumber}
 use Rattle.protocol.specs.declared.error.ProtocolError.{ProtocolError}
-use Rattle.protocol.specs.declared.error.ProtocolError.the-variants.{BufferTooShort, VerifierFailure, ThresholdUnsatisfied}
+use Rattle.protocol.specs.declared.error.ProtocolError.the-variants.{BufferTooShort, VerifierFailure}
 use Rattle.protocol.specs.declared.check.Check.{Check}
 use Rattle.protocol.specs.declared.check.Check.the-variants.{Passed, Failed}
 use Rattle.protocol.proofs.Hold.{passed-hold, hold-split, failed-first}
@@ -29,7 +29,7 @@ use Rattle.account_witness.proofs.WalkLaws.{proof-holds}
 use Rattle.verifier_request.specs.Writer.{requestTotal}
 use Rattle.verifier_request.proofs.Form.{length-request}
 use Rattle.decision.specs.Proofs.{Setting, noEntry, entryFor, requestSize, limitRows, entryRows, proofRows, requestReading, requestOf, requestsOf}
-use Rattle.decision.specs.Walk.{Outcome, outcome, verdict, earned, weighed, ended, orElse, walk, proofsFrom, walkList, walkLock}
+use Rattle.decision.specs.Walk.{Outcome, outcome, verdict, earned, lastRows, orElse, walk, proofsFrom, walkList, walkLock}
 use Rattle.decision.specs.Decision.{slots}
 use Rattle.decision.proofs.Listed.{listed-stops, listed-goes, listed-rising, Behind}
 
@@ -143,20 +143,16 @@ turn-room Passed i made onward k o = o
 turn-room (Failed e) i made onward k o = k
 
 -- what follows the proofs is 22, 28 or nothing
-ended-room : (clean : Bool) (weight threshold : ℕ) → checkNumber (ended clean weight threshold) ≢ 5
-unfolding ended weighed
-ended-room false weight threshold = λ z. omega arith
-ended-room true weight threshold = go (ltb weight threshold)
-  where
-    go : (b : Bool) → checkNumber (cond b (Failed ThresholdUnsatisfied) Passed) ≢ 5
-    go true = λ z. omega arith
-    go false = λ z. omega arith
+end-room : (clean : Bool) (weight threshold : ℕ) → checkNumber (decide Passed (lastRows clean weight threshold)) ≢ 5
+unfolding lastRows
+end-room clean weight threshold =
+    without-found 5 (lastRows clean weight threshold) (λ z. omega arith) (λ _ z. omega arith, (λ _ z. omega arith, (λ _ z. omega arith, tt)))
 
 -- a walk whose buffer has room for the requests of all proofs that are left never gives 5
 pub walk-room : (c : Setting) → length (c .digest) ≡ 32 → (clean : Bool) (i weight : ℕ) (made : List ℕ) (ps : List ProofReading)
     → length made + length (requestsOf c ps) ≤ c .room → checkNumber (walk c clean i weight made ps .found) ≢ 5
 unfolding walk requestsOf
-walk-room c d clean i weight made [] h = ended-room clean weight (c .threshold)
+walk-room c d clean i weight made [] h = end-room clean weight (c .threshold)
 walk-room c d clean i weight made (p ∷ ps) h =
     let n = length-append (requestOf c p) (requestsOf c ps) in
     let m = length-append made (requestOf c p) in

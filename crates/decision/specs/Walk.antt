@@ -3,9 +3,9 @@ use Prim.Native.Nat.{ℕ, zero, suc, _+_}
 use mathlib.Core.Bool.{Bool, false, cond}
 use mathlib.Core.List.{List, [], _∷_, _++_}
 use lib.ListN.{length, drop}
-use lib.Dec.{eqb, ltb}
+use lib.Dec.{eqb, leb, ltb}
 use Rattle.octets.specs.Le.{numberAt}
-use Rattle.protocol.specs.Rows.{decide}
+use Rattle.protocol.specs.Rows.{Row, row, decide}
 use Rattle.protocol.specs.declared.error.ProtocolError.the-variants.{InvalidWitness, VerifierFailure, ThresholdUnsatisfied}
 use Rattle.protocol.specs.declared.check.Check.{Check}
 use Rattle.protocol.specs.declared.check.Check.the-variants.{Passed, Failed}
@@ -31,14 +31,14 @@ outcome found count made = record { found = found; count = count; made = made }
 unfoldable pub earned : Setting → ℕ → ProofReading → ℕ
 earned c i p = cond (eqb (verdict c i) 0) (entryFor (p .slot) (c .entries) .weight) 0
 
--- "approved weight below threshold: 28"
-unfoldable pub weighed : ℕ → ℕ → Check
-weighed weight threshold = cond (ltb weight threshold) (Failed ThresholdUnsatisfied) Passed
-
--- after the last proof that could be read: `clean` says that nothing follows it; else a proof with a faulty layout, or bytes after
--- the last proof (22)
-unfoldable pub ended : Bool → ℕ → ℕ → Check
-ended clean weight threshold = cond clean (weighed weight threshold) (Failed InvalidWitness)
+-- behind the last proof that could be read: `clean` says that nothing follows it; else a proof with a faulty layout, or "bytes after
+-- the last proof: 22". "approved weight below threshold: 28"; demand 3: "reaches the threshold, itself above zero"
+unfoldable pub lastRows : Bool → ℕ → ℕ → List Row
+lastRows clean weight threshold =
+    row clean InvalidWitness
+    ∷ row (ltb 0 threshold) ThresholdUnsatisfied
+    ∷ row (leb threshold weight) ThresholdUnsatisfied
+    ∷ []
 
 -- a refusal ends the walk
 unfoldable pub orElse : Check → ℕ → List ℕ → Outcome → Outcome
@@ -47,7 +47,7 @@ orElse (Failed e) count made onward = outcome (Failed e) count made
 
 -- from proof i on, with this approved weight and these bytes made. A verdict of 2 is 31, after its request was made
 unfoldable pub walk : Setting → Bool → ℕ → ℕ → List ℕ → List ProofReading → Outcome
-walk c clean i weight made [] = outcome (ended clean weight (c .threshold)) i made
+walk c clean i weight made [] = outcome (decide Passed (lastRows clean weight (c .threshold))) i made
 walk c clean i weight made (p ∷ ps) =
     orElse (decide Passed (proofRows c (length made) p)) i made
     (cond (eqb (verdict c i) 2) (outcome (Failed VerifierFailure) (i + 1) (made ++ requestOf c p))

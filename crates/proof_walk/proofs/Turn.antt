@@ -1,16 +1,16 @@
--- One turn of the walk: its layout, its step and its verdict; and what is checked behind the last proof.
+-- One turn of the walk: its layout, its step and its verdict.
 -- Assumes nothing.
 use mathlib.Core.Path.{_≡_, refl, sym, _∙_}
 use mathlib.Core.Logic.{_⊎_, inl, inr, ⊎-elim}
 use mathlib.Core.Bool.{Bool, true, false, cond}
 use mathlib.Core.List.{List, [], _∷_}
 use Prim.Native.Nat.{ℕ}
-use lib.Dec.{eqb, leb}
+use lib.Dec.{eqb}
 use lib.ListN.{take, drop}
-use borrow.Author.Tests.{eqb-true, eqb-false, leb-true, leb-false, lt-ltb, le-ltb}
-use Rattle.protocol.specs.Rows.{Row, row, _▷_, _then_, decide, First}
+use borrow.Author.Tests.{eqb-true, eqb-false}
+use Rattle.protocol.specs.Rows.{Row, _then_, decide, First}
 use Rattle.protocol.specs.declared.error.ProtocolError.{ProtocolError}
-use Rattle.protocol.specs.declared.error.ProtocolError.the-variants.{InvalidWitness, ThresholdUnsatisfied}
+use Rattle.protocol.specs.declared.error.ProtocolError.the-variants.{InvalidWitness}
 use Rattle.protocol.specs.declared.check.Check.{Check}
 use Rattle.protocol.specs.declared.check.Check.the-variants.{Passed, Failed}
 use Rattle.protocol.proofs.Hold.{failed-passed, failed-first}
@@ -21,24 +21,10 @@ use Rattle.account_witness.specs.declared.walk.ProofCursor.{ProofCursor}
 use Rattle.account_witness.specs.declared.walk.ProofStep.the-variants as proof-step
 use Rattle.account_witness.proofs.WalkLaws.{step-next, step-refused}
 use Rattle.decision.specs.Proofs.{Setting, entryFor, proofRows}
-use Rattle.decision.specs.Walk.{verdict, earned, weighed, ended, walk}
+use Rattle.decision.specs.Walk.{verdict, earned}
 use Rattle.proof_walk.specs.Steps.{proofOf, StepIs, Made, readAt, turnCheck, judgedAs, Went, TurnIs}
 use Rattle.proof_walk.specs.declared.request.Step.the-variants as step
 use Rattle.proof_walk.specs.declared.walk.Turn.the-variants as turn
-
--- ---- behind the last proof
-
-weighed-row : (weight threshold : ℕ) (b : Bool) → leb threshold weight ≡ b
-    → cond b Passed (Failed ThresholdUnsatisfied) ≡ weighed weight threshold
-unfolding weighed
-weighed-row weight threshold true h = rw (le-ltb weight threshold (leb-true threshold weight h))
-weighed-row weight threshold false h = rw (lt-ltb weight threshold (leb-false threshold weight h))
-
-pub ended-rows : (clean : Bool) (weight threshold : ℕ)
-    → Passed ▷ row clean InvalidWitness ▷ row (leb threshold weight) ThresholdUnsatisfied ≡ ended clean weight threshold
-unfolding _▷_ ended
-ended-rows true weight threshold = weighed-row weight threshold (leb threshold weight) refl
-ended-rows false weight threshold = refl
 
 -- ---- one turn
 

@@ -2,7 +2,7 @@
 -- Assumes nothing.
 use mathlib.Core.Path.{_≡_, refl, sym, ap, _∙_}
 use mathlib.Core.Logic.{_≢_, ⊎-elim}
-use mathlib.Core.Bool.{cond}
+use mathlib.Core.Bool.{true, false, cond}
 use mathlib.Core.List.{List, [], _∷_, _++_}
 use Prim.Native.Nat.{ℕ, suc, _+_, _-_, _*_, _≤_, _<_}
 use native.Mathlib.Nat.{sub-zero}
@@ -12,9 +12,10 @@ use lib.ListN.{length, length-append}
 use borrow.Author.Tests.{ne-eqb}
 use borrow.Rule.Slice.PartMut.{mid-len}
 use Rattle.octets.specs.Le.{numberAt}
-use Rattle.protocol.specs.Rows.{row, decide}
+use Rattle.protocol.specs.Policy.{isOperation}
+use Rattle.protocol.specs.Rows.{row, _▷_, decide}
 use Rattle.protocol.specs.declared.error.ProtocolError.{ProtocolError}
-use Rattle.protocol.specs.declared.error.ProtocolError.the-variants.{InvalidWitness, VerifierFailure}
+use Rattle.protocol.specs.declared.error.ProtocolError.the-variants.{InvalidWitness, VerifierFailure, InvalidOperation}
 use Rattle.protocol.specs.declared.check.Check.{Check}
 use Rattle.protocol.specs.declared.check.Check.the-variants.{Passed, Failed}
 use Rattle.account_witness.specs.Reading.{ProofReading}
@@ -23,8 +24,8 @@ use Rattle.account_witness.specs.declared.walk.ProofCursor.{ProofCursor}
 use Rattle.scene_table.specs.Lent.{sceneFrom, lentScene, blankScene}
 use Rattle.scene_table.specs.Places.{verdictAt, verdictOf}
 use Rattle.decision.specs.Proofs.{Setting, settingFor, thresholdOf, known, entryFor, entryRows, proofRows, requestOf}
-use Rattle.decision.specs.Walk.{Outcome, outcome, verdict, earned, ended, orElse, walk, orFault, proofsFrom, walkList, walkLock, answered}
-use Rattle.proof_walk.specs.Answer.{sceneDeps, walkSetting, walkedOf}
+use Rattle.decision.specs.Walk.{Outcome, outcome, verdict, earned, lastRows, orElse, walk, orFault, proofsFrom, walkList, walkLock, answered}
+use Rattle.proof_walk.specs.Answer.{sceneDeps, walkSetting, walkProofs, walkedOf}
 use Rattle.proof_walk.specs.Steps.{readAt, Went, TurnIs}
 use Rattle.proof_walk.specs.declared.walk.Turn.the-variants as turn
 use Rattle.proof_walk.specs.declared.walk.Walked.{Walked}
@@ -62,6 +63,19 @@ module _ (table store state : List ℕ) (operation : ℕ) (digest : List ℕ) wh
   unfolding earned verdict verdictAt walkSetting settingFor
   earned-alike a b i p = refl
 
+  -- ---- the operation, before the first proof
+
+  module _ (room : ℕ) (lock : List ℕ) where
+    -- one from 1 to 3 is walked,
+    pub walk-known : isOperation operation ≡ true → walkProofs (S room) lock ≡ walkLock (S room) lock
+    unfolding walkProofs walkSetting settingFor
+    walk-known h = rw h
+
+    -- another is 37
+    pub walk-unknown : isOperation operation ≡ false → walkProofs (S room) lock ≡ outcome (Failed InvalidOperation) 0 []
+    unfolding walkProofs walkSetting settingFor
+    walk-unknown h = rw h
+
 -- ---- the head of the loop
 
 -- the walk from a cursor on, n proofs being left
@@ -91,7 +105,7 @@ head-first c lock answer₀ count e =
 walk-faulty : (c : Setting) (lock : List ℕ) (n : ℕ) (cursor : ProofCursor) (i weight : ℕ) (made : List ℕ) (e : ProtocolError)
     → decide Passed (witness.proofRows lock (cursor .offset) (cursor .least)) ≡ Failed e
     → walkFrom c lock (suc n) cursor i weight made ≡ outcome (Failed e) i made
-unfolding proofsFrom orFault walk ended
+unfolding proofsFrom orFault walk lastRows decide _▷_
 walk-faulty c lock n cursor i weight made e h =
     rw h (ap (λ (x : ProtocolError). outcome (Failed x) i made) (layout-error lock (cursor .offset) (cursor .least) e h))
 
@@ -140,7 +154,7 @@ module _ (table store state : List ℕ) (operation : ℕ) (digest : List ℕ) {l
 
   -- every proof is passed
   pub passed-all : count ≤ i
-      → walkLock C lock ≡ outcome (ended (eqb (cursor .offset) (length lock)) weight (thresholdOf operation state)) i (h .made)
+      → walkLock C lock ≡ outcome (decide Passed (lastRows (eqb (cursor .offset) (length lock)) weight (thresholdOf operation state))) i (h .made)
   unfolding walk proofsFrom walkSetting settingFor
   passed-all e = let z : count - i ≡ 0 = omega arith in h .goes ∙ rw z
 

@@ -1,11 +1,15 @@
 -- What the walk over a lent table, store and state answers.
 use Prim.Native.Nat.{ℕ}
-use mathlib.Core.List.{List}
+use mathlib.Core.Bool.{cond}
+use mathlib.Core.List.{List, []}
 use lib.ListN.{length}
+use Rattle.protocol.specs.Policy.{isOperation}
+use Rattle.protocol.specs.declared.error.ProtocolError.the-variants.{InvalidOperation}
+use Rattle.protocol.specs.declared.check.Check.the-variants.{Failed}
 use Rattle.scene_table.specs.Scene.{Cell}
 use Rattle.scene_table.specs.Lent.{lentScene}
 use Rattle.decision.specs.Proofs.{Setting, settingFor}
-use Rattle.decision.specs.Walk.{Outcome}
+use Rattle.decision.specs.Walk.{Outcome, outcome, walkLock}
 use Rattle.proof_walk.specs.declared.walk.Walked.{Walked}
 
 -- the deps of the lent scene
@@ -16,6 +20,10 @@ sceneDeps table store = lentScene table store .deps
 unfoldable pub walkSetting : List ℕ → List ℕ → List ℕ → ℕ → List ℕ → ℕ → Setting
 walkSetting table store state operation digest room =
     settingFor state (sceneDeps table store) (lentScene table store .digits) operation digest room
+
+-- The Rust takes the operation's capability before the first proof. 01, writers: "Operation outside 1 to 3 is 37 in them"
+unfoldable pub walkProofs : Setting → List ℕ → Outcome
+walkProofs c lock = cond (isOperation (c .operation)) (walkLock c lock) (outcome (Failed InvalidOperation) 0 [])
 
 -- what the walk answers of its outcome
 unfoldable pub walkedOf : Outcome → Walked

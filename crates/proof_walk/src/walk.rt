@@ -10,13 +10,15 @@ use octets::part;
 use octets::u8_at;
 use protocol::Check;
 use protocol::ProtocolError;
+use protocol::is_operation;
 use scene_table::verdict;
 ghost use mathlib.Core.Path.{_≡_};
 ghost use lib.Dec.{eqb};
 ghost use lib.ListN.{length};
+ghost use Rattle.protocol.specs.Rows.{decide};
 ghost use Rattle.decision.specs.Proofs.{thresholdOf};
-ghost use Rattle.decision.specs.Walk.{walkLock, answered, ended};
-ghost use Rattle.proof_walk.specs.Answer.{walkSetting, walkedOf};
+ghost use Rattle.decision.specs.Walk.{walkLock, answered, lastRows};
+ghost use Rattle.proof_walk.specs.Answer.{walkSetting, walkProofs, walkedOf};
 ghost use Rattle.proof_walk.specs.Steps.{judgedAs, TurnIs};
 
 // What the walk answers: what the checks found, how many requests were made, and how many bytes they take.
@@ -74,11 +76,12 @@ fn walk_proof(
 
 // The checks behind the last proof, where the walk stands at `offset`.
 fn check_end(state: &[u8], lock: &[u8], operation: u8, offset: usize, weight: u32) -> Check
-    ensures { λ r. ⌜ r ≡ ended (eqb offset (length (now (lock .entry)))) weight (thresholdOf operation (now (state .entry))) ⌝ }
+    ensures { λ r. ⌜ r ≡ decide Check.Passed (lastRows (eqb offset (length (now (lock .entry)))) weight (thresholdOf operation (now (state .entry)))) ⌝ }
 {
     let threshold = threshold(state, operation) as u32;
     Check::Passed
         .require(offset == lock.len(), ProtocolError::InvalidWitness)
+        .require(0 < threshold, ProtocolError::ThresholdUnsatisfied)
         .require(threshold <= weight, ProtocolError::ThresholdUnsatisfied)
 }
 
@@ -94,7 +97,7 @@ fn told(found: Check, count: u8, length: usize) -> Walked
 }
 
 // Walks the proofs of a witness lock, and writes each request into the rest of the answer buffer, behind the last one.
-pub fn walk_proofs(
+fn walk_lock(
     table: &[u32],
     store: &[u8],
     state: &[u8],
@@ -129,4 +132,24 @@ pub fn walk_proofs(
     }
     let found = check_end(state, lock, operation, cursor.offset, weight);
     told(found, i, total)
+}
+
+// The walk for an operation from 1 to 3; another is 37, before the first proof.
+pub fn walk_proofs(
+    table: &[u32],
+    store: &[u8],
+    state: &[u8],
+    lock: &[u8],
+    operation: u8,
+    digest: [u8; 32],
+    answer: &mut [u8],
+) -> Walked
+    ensures { λ r. ⌜ r ≡ walkedOf (walkProofs (walkSetting (now (table .entry)) (now (store .entry)) (now (state .entry)) operation digest (length (now (answer .entry)))) (now (lock .entry))) ⌝ }
+    ensures { λ _. ⌜ now (answer .exit) ≡ answered (now (answer .entry)) (walkProofs (walkSetting (now (table .entry)) (now (store .entry)) (now (state .entry)) operation digest (length (now (answer .entry)))) (now (lock .entry)) .made) ⌝ }
+{
+    if is_operation(operation) {
+        walk_lock(table, store, state, lock, operation, digest, answer)
+    } else {
+        told(Check::Failed(ProtocolError::InvalidOperation), 0, 0)
+    }
 }

@@ -5,6 +5,7 @@ use Rattle.scene_table.specs.Lent.{lentScene}
 use Rattle.decision.specs.Walk.{answered}
 use Rattle.account_lock.specs.Lock.{operation, digest, settingOf, walked, walkResult, told}
 use Rattle.proof_walk.specs.Answer.{sceneDeps, walkSetting, walkedOf}
+use Rattle.proof_walk.proofs.WalkLaws.{walk-known}
 use Rattle.account_lock.proofs.LockLaws.{named-authorized}
 use borrow.Author.Needs.{needs}
 use Rattle.account_lock.proofs.account.walk_account.Statement.{statement}
@@ -20,9 +21,10 @@ unfolding told walkResult walked walkedOf walkSetting sceneDeps settingOf digest
 returns c =
     let p = c .before .before .before .before .before .before .before .before .before .before .before .before in
     let w = c .before .before in
-    let given = p .pre .named in (
-      rw (w .walk-proofs .ensures .0, c .before .before .before .before .digest-of .ensures, c .before .before .before .before .before .u8-at .ensures, p .pre .current, given .account, given .witness),
-      w .walk-proofs .ensures .1 ∙ rw (c .before .before .before .before .digest-of .ensures, c .before .before .before .before .before .u8-at .ensures, p .pre .current, given .account, given .witness),
+    let given = p .pre .named in
+    let known = named-authorized _ _ (lentScene (now (p .args .table)) (now (p .args .store))) given .known in (
+      rw (w .walk-proofs .ensures .0, c .before .before .before .before .digest-of .ensures, c .before .before .before .before .before .u8-at .ensures, walk-known, p .pre .current, given .account, given .witness),
+      w .walk-proofs .ensures .1 ∙ rw (c .before .before .before .before .digest-of .ensures, c .before .before .before .before .before .u8-at .ensures, walk-known, p .pre .current, given .account, given .witness),
     )
 
 pub walk-account-spec : {M : Type 1} → statement M
