@@ -30,7 +30,7 @@ argsIn script = molecule.bytesIn script (molecule.readScriptArgs script)
 unfoldable pub accountIn : List ℕ → List ℕ
 accountIn script = accountOf (argsIn script)
 
--- "script above 512 bytes, its table, args: 20; 32"
+-- "script above 512 bytes, its table, args", 20; 32
 unfoldable pub scriptRows : List ℕ → List Row
 scriptRows script = row (leb (length script) 512) InvalidArgs ∷ (molecule.argsRows script ++ argsRows (argsIn script))
 
@@ -104,7 +104,7 @@ lateResult s room = orWalked (decide Passed (lateRows s)) (walkResult s room)
 unfoldable pub lockScene : Scene → ℕ → Result
 lockScene s room = orWalked (decide Passed (earlyRows s)) (walkResult s room)
 
--- "lock: a table that the reader, scene length aside, leaves for no accepted scene with a store this long: 7"
+-- "lock: a table that the reader, scene length aside, leaves for no accepted scene with a store this long", 7
 unfoldable pub lockOf : List ℕ → List ℕ → ℕ → Result
 lockOf table store room =
     cond (validTable table (length store)) (lockScene (lentScene table store) room) (refused (Failed SlicesDisagree))

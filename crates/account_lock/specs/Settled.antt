@@ -1,5 +1,5 @@
--- What the private functions of the lock know of what they are lent: each is the scene's. No public
--- contract cites it.
+-- Private: no public contract cites this file.
+-- What the lock's functions know of what they are lent: each is the scene's.
 use mathlib.Core.Path.{_≡_}
 use mathlib.Core.Bool.{true}
 use mathlib.Core.List.{List}

@@ -24,7 +24,7 @@ ghost use Rattle.account_lock.specs.Decides.{EarlierPass, LockQuorum};
 pub use self::answer::LockAnswer;
 pub use self::answer::refused;
 
-// The lock over a transaction whose table is one that a scene leaves.
+// The lock over a transaction whose table is one that a scene, its length aside, leaves.
 fn lock_scene(table: &[u32], store: &[u8], answer: &mut [u8]) -> LockAnswer
     ensures { λ r. ⌜ r ≡ told (lockScene (lentScene (now (table .entry)) (now (store .entry))) (length (now (answer .entry)))) ⌝ }
     ensures { λ _. ⌜ now (answer .exit) ≡ answered (now (answer .entry)) (lockScene (lentScene (now (table .entry)) (now (store .entry))) (length (now (answer .entry))) .made) ⌝ }

@@ -1,5 +1,5 @@
--- What the private walk over the entries gives: their weights and the count of bytes behind them, or the first refusal. No public
--- contract cites it.
+-- Private: no public contract cites this file.
+-- What the walk over the entries gives: their weights and the count of bytes behind them, or the first refusal.
 use Prim.Native.Nat.{ℕ, _+_, _*_, _≤_}
 use mathlib.Core.List.{List}
 use lib.ListN.{length, drop}

@@ -1,5 +1,6 @@
+-- Private: no public contract cites this file.
 -- The checks of a state that its writer laid out: those of the state's rows that such a state can fail, in their order, said of
--- what the slices say. Private to the writer; `state-checked` equates them with the state's own rows.
+-- what the slices say. `state-checked` equates them with the state's own rows.
 use Prim.Native.Nat.{ℕ, zero, suc, _+_}
 use mathlib.Core.List.{List, [], _∷_, _++_}
 use lib.Dec.{leb, eqb}

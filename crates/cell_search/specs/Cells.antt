@@ -1,3 +1,4 @@
+-- Private: no public contract cites this file.
 -- The rows of the lent table that hold a list of cells: how many, and the places of each.
 use Prim.Native.Nat.{ℕ}
 use mathlib.Core.Bool.{cond}

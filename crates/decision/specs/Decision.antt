@@ -1,5 +1,5 @@
--- Demand 3: "the lock accepts exactly when every earlier check passes and a set of current-state slots with the capability and an
--- approved proof reaches the threshold, itself above zero; then the answer buffer holds one request per proof."
+-- Demand 3: the lock accepts exactly when every earlier check passes and a set of current-state slots with the capability and an
+-- approved proof reaches the threshold, itself above zero; then the answer buffer holds one request for each proof.
 use Prim.Native.Nat.{ℕ, _+_, _≤_, _<_}
 use mathlib.Core.Path.{_≡_}
 use mathlib.Core.Logic.{_≢_}

@@ -81,7 +81,7 @@ unfoldable pub requestSize : ℕ → ℕ → ℕ
 requestSize aux proof = 96 + aux + proof
 
 -- 01, main.rs: "In the lock a request of above 69,728 bytes is 39, tested before aux above 4,096 (35); a proof above 65,536 is 35
--- before either."; "answer buffer too short for this request: 5", where `left` bytes of it are left
+-- before either."; "answer buffer too short for this request", 5, where `left` bytes of it are left
 unfoldable pub limitRows : ℕ → ℕ → ℕ → List Row
 limitRows aux proof left =
     row (leb proof 65536) InvalidRequest
@@ -90,8 +90,8 @@ limitRows aux proof left =
     ∷ row (leb (requestSize aux proof) left) BufferTooShort
     ∷ []
 
--- 01, "Where each refusal is raised": "each proof: .. slot unknown 22; capability 29; verifier none or several 30; request 35, 39;
--- answer buffer too short for this request 5"
+-- 01, "Where each refusal is raised": "each proof: .. slot unknown", 22; "capability", 29; "verifier none or several", 30; "request",
+-- 35, 39; "answer buffer too short for this request", 5
 unfoldable pub entryRows : ℕ → List Cell → EntryReading → ℕ → ℕ → List Row
 entryRows operation deps e proof left =
     row (capable operation (e .capabilities)) InvalidCapability

@@ -32,7 +32,7 @@ unfoldable pub earned : Setting → ℕ → ProofReading → ℕ
 earned c i p = cond (eqb (verdict c i) 0) (entryFor (p .slot) (c .entries) .weight) 0
 
 -- behind the last proof that could be read: `clean` says that nothing follows it; else a proof with a faulty layout, or "bytes after
--- the last proof: 22". "approved weight below threshold: 28"; demand 3: "reaches the threshold, itself above zero"
+-- the last proof", 22; "approved weight below threshold", 28; demand 3: the threshold is above zero
 unfoldable pub lastRows : Bool → ℕ → ℕ → List Row
 lastRows clean weight threshold =
     row clean InvalidWitness

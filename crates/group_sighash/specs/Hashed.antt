@@ -1,5 +1,5 @@
--- What the private functions say of the hashed witnesses, by the rows of the table. No public
--- contract cites it.
+-- Private: no public contract cites this file.
+-- The hashed witnesses, by the rows of the table.
 use mathlib.Core.Path.{_≡_}
 use Prim.Native.Nat.{ℕ, _≤_, _<_}
 use mathlib.Core.Bool.{Bool, true, false, cond}

@@ -37,7 +37,7 @@ otherWitnesses s = drop 1 (groupOf s) ++ drop (length (s .inputs)) (s .witnesses
 unfoldable pub lockIn : List ℕ → List ℕ
 lockIn witness = bytesIn witness (readLock witness)
 
--- 01, "Where each refusal is raised": "first group witness missing, above 132,096, table, empty lock, header, count: 22"
+-- 01, "Where each refusal is raised": "first group witness missing, above 132,096, table, empty lock, header, count", 22
 unfoldable pub countRows : List ℕ → List Row
 countRows lock = countRow lock ∷ []
 
@@ -49,7 +49,7 @@ witnessRows witness =
 unfoldable pub groupRows : Scene → List Row
 groupRows s = row (leb 1 (length (groupOf s))) InvalidWitness ∷ witnessRows (firstWitness s)
 
--- "another hashed witness above 132,096: 22"
+-- "another hashed witness above 132,096", 22
 unfoldable pub witnessFits : List ℕ → Bool
 witnessFits w = leb (length w) 132096
 

@@ -1,3 +1,4 @@
+-- Private: no public contract cites this file.
 -- What each step of the walk gives: the search for an entry, the request of a proof, a turn.
 use Prim.Native.Nat.{ℕ, _≤_}
 use mathlib.Core.Path.{_≡_}

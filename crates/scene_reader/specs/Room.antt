@@ -1,5 +1,6 @@
+-- Private: no public contract cites this file.
 -- The state in the code beside its definition, one line by its rows, and what private functions keep so that all that is written
--- fits. No public contract cites it.
+-- fits.
 use Prim.Native.Nat.{ℕ, _+_, _-_, _*_, _≤_, _<_, min}
 use mathlib.Core.List.{List}
 use Rattle.protocol.specs.Rows.{decide}

@@ -41,11 +41,11 @@ kindsOf inputs outputs deps witnesses =
     ++ times witnesses Witness
     ++ (Verdicts ∷ [])
 
--- "line: kind, order, field count, ending, or a needed line missing: 2", of the field count
+-- "line: kind, order, field count, ending, or a needed line missing", 2, of the field count
 unfoldable pub countOk : List ℕ → Bool
 countOk l = eqb (length (fieldsOfLine l)) (fieldCount (kindOfLine l))
 
--- "line: a field's form, or just one of TYPEHASH and TYPESCRIPT empty: 3"
+-- "line: a field's form, or just one of TYPEHASH and TYPESCRIPT empty", 3
 unfoldable pub formOk : List ℕ → Bool
 formOk l = formsOk true (firstForm (kindOfLine l)) (fieldsOfLine l)
 

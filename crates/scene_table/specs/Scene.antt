@@ -11,7 +11,7 @@ pub record Cell : Type 0 where
   pub typeScript : List ℕ
   pub content : List ℕ
 
--- "`input,GROUP,SINCE,` .. with the last four"
+-- "`input,GROUP,SINCE,TYPEHASH,DATAHASH,TYPESCRIPT,DATA`"
 pub record Input : Type 0 where
   pub group : ℕ
   pub since : ℕ

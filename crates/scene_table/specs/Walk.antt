@@ -1,3 +1,4 @@
+-- Private: no public contract cites this file.
 -- The walk over a table's rows that decides `validTable`: each row's bytes begin where those of the row before it end.
 use Prim.Native.Nat.{ℕ, zero, suc, _+_}
 use mathlib.Core.Bool.{Bool, true, _&&_}

@@ -1,4 +1,4 @@
-// The lent table: whether a scene leaves it, and what it and the store hold.
+// The lent table: whether a scene, its length aside, leaves it, and what it and the store hold.
 mod places; // places.rt
 mod validity; // validity.rt
 

@@ -1,4 +1,4 @@
-// Whether a scene leaves a table: a walk over its rows.
+// Whether a scene, its length aside, leaves a table: a walk over its rows.
 use crate::places::deps_at;
 use crate::places::digit_count;
 use crate::places::entry_at;
@@ -228,7 +228,7 @@ fn rest_valid(table: &[u32], room: usize) -> bool
     rest.good
 }
 
-// Whether a scene leaves this table with a store of `room` bytes.
+// Whether a scene, its length aside, leaves this table with a store of `room` bytes.
 pub fn table_valid(table: &[u32], room: usize) -> bool
     ensures { λ r. ⌜ r ≡ validTable (now (table .entry)) room ⌝ }
 {

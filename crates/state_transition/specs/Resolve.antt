@@ -1,5 +1,4 @@
--- The cells of an account's state in a transaction: the current one, and its successor where the state changes. No public
--- contract cites `spendOf` and `changeOf`.
+-- The cells of an account's state in a transaction: the current one, and its successor where the state changes.
 use Prim.Native.Nat.{ℕ}
 use mathlib.Core.Bool.{cond}
 use mathlib.Core.List.{List, [], _∷_, _++_}
@@ -8,7 +7,6 @@ use lib.Dec.{eqb, leb}
 use Rattle.octets.specs.Lists.{same}
 use Rattle.protocol.specs.Policy.{isOperation}
 use Rattle.protocol.specs.Rows.{Row, row, decide}
-use Rattle.protocol.specs.declared.check.Check.{Check}
 use Rattle.protocol.specs.declared.check.Check.the-variants.{Passed}
 use Rattle.protocol.specs.declared.error.ProtocolError.the-variants.{InvalidState, StateNotFound, DuplicateState, StateConsumedOnSpend, InvalidTransition, InvalidOperation}
 use Rattle.scene_table.specs.Scene.{Cell, Input, Scene}
@@ -87,17 +85,4 @@ resolvedOf operation id s =
       found = decide Passed (operationRow operation ∷ resolveRows operation id s);
       current = statePlace (stateSource operation) id s;
       successor = cond (eqb operation 1) 0 (statePlace source.Output id s);
-    }
-
--- the same of a spend and of a change, behind what earlier rows found
-unfoldable pub spendOf : Check → List ℕ → Scene → ResolvedState
-spendOf earlier id s =
-    record { found = decide earlier (spendRows id s); current = statePlace source.CellDep id s; successor = 0 }
-
-unfoldable pub changeOf : Check → List ℕ → Scene → ResolvedState
-changeOf earlier id s =
-    record {
-      found = decide earlier (changeRows id s);
-      current = statePlace source.Input id s;
-      successor = statePlace source.Output id s;
     }

@@ -10,7 +10,7 @@ use Rattle.protocol.specs.Rows.{Row, row}
 use Rattle.protocol.specs.declared.error.ProtocolError.the-variants.{InvalidState, InvalidSequence, InvalidCapability, RecoveryLocked}
 use Rattle.account_state.specs.State.{stateRows}
 
--- "data above 16,384: 21", of the current state and of its successor
+-- "data above 16,384", 21, of the current state and of its successor
 unfoldable pub dataRows : List ℕ → List ℕ → List Row
 dataRows current successor =
     row (leb (length current) 16384) InvalidState ∷ row (leb (length successor) 16384) InvalidState ∷ []
@@ -19,16 +19,16 @@ dataRows current successor =
 unfoldable pub sequenceOf : List ℕ → ℕ
 sequenceOf state = numberAt state 8 8
 
--- "current state, then witness sequence: as above; 27"
+-- "current state, then witness sequence", as above; 27
 unfoldable pub currentRows : ℕ → List ℕ → List Row
 currentRows sequence current = stateRows current ++ (row (eqb sequence (sequenceOf current)) InvalidSequence ∷ [])
 
--- "successor state, its sequence not one more: as above; 27"
+-- "successor state, its sequence not one more", as above; 27
 unfoldable pub successorRows : List ℕ → List ℕ → List Row
 successorRows current successor =
     stateRows successor ++ (row (eqb (sequenceOf successor) (sequenceOf current + 1)) InvalidSequence ∷ [])
 
--- "recovery off; since too low: 29; 34"; flag 1 of the state, and "recovery_since and the input's since are compared as plain u64"
+-- "recovery off; since too low", 29; 34; flag 1 of the state, and "recovery_since and the input's since are compared as plain u64"
 unfoldable pub recoveryRows : ℕ → List ℕ → List Row
 recoveryRows since current =
     row (eqb (numberAt current 5 1 % 2) 1) InvalidCapability ∷ row (leb (numberAt current 24 8) since) RecoveryLocked ∷ []

@@ -20,7 +20,8 @@ ghost use lib.ListN.{getD};
 ghost use Rattle.protocol.specs.Rows.{decide};
 ghost use Rattle.scene_table.specs.Lent.{lentScene};
 ghost use Rattle.cell_search.specs.Search.{cellsOf, cellAt};
-ghost use Rattle.state_transition.specs.Resolve.{typeRows, resolvedOf, spendOf, changeOf, stateSource, noInput};
+ghost use Rattle.state_transition.specs.Branches.{spendOf, changeOf};
+ghost use Rattle.state_transition.specs.Resolve.{typeRows, resolvedOf, stateSource, noInput};
 
 // What the rows of the search found, and the places of the two cells: the current state's among the deps where it is spent
 // from, else among the inputs, and its successor's among the outputs.

@@ -7,7 +7,8 @@ use denote.Ref.{now}
 use Rattle.protocol.specs.Rows.{decide, _▷_, _then_}
 use Rattle.protocol.proofs.Hold.{decide-append, decide-then}
 use Rattle.protocol.specs.declared.check.Check.the-variants.{Passed}
-use Rattle.state_transition.specs.Resolve.{changeOf, changeRows, typeRows, statePlaces, statePlace, stateCell}
+use Rattle.state_transition.specs.Resolve.{changeRows, typeRows, statePlaces, statePlace, stateCell}
+use Rattle.state_transition.specs.Branches.{changeOf}
 use Rattle.scene_table.specs.Lent.{lentScene}
 use Rattle.cell_search.specs.Search.{cellSearch, matches, cellsOf}
 use Rattle.cell_search.specs.declared.cells.Source.the-variants as source

@@ -2,7 +2,8 @@
 use mathlib.Core.Path.{_≡_, refl, sym, ap, _∙_}
 use denote.Ref.{now}
 use Rattle.protocol.specs.Rows.{decide, _▷_, _then_}
-use Rattle.state_transition.specs.Resolve.{spendOf, spendRows, statePlaces, statePlace}
+use Rattle.state_transition.specs.Resolve.{spendRows, statePlaces, statePlace}
+use Rattle.state_transition.specs.Branches.{spendOf}
 use Rattle.scene_table.specs.Lent.{lentScene}
 use Rattle.cell_search.specs.Search.{cellSearch, matches, cellsOf}
 use Rattle.cell_search.specs.declared.cells.Source.the-variants as source

@@ -9,7 +9,8 @@ use Rattle.protocol.specs.declared.error.ProtocolError.the-variants.{InvalidOpe
 use Rattle.protocol.specs.declared.check.Check.{Check}
 use Rattle.protocol.specs.declared.check.Check.the-variants.{Passed}
 use Rattle.scene_table.specs.Lent.{lentScene}
-use Rattle.state_transition.specs.Resolve.{resolveRows, stateSource, operationRow, resolvedOf, spendOf, changeOf}
+use Rattle.state_transition.specs.Resolve.{resolveRows, stateSource, operationRow, resolvedOf}
+use Rattle.state_transition.specs.Branches.{spendOf, changeOf}
 use borrow.Author.Needs.{needs}
 use Rattle.state_transition.proofs.resolve.resolve_state.Statement.{statement}
 use Rattle.state_transition.proofs.resolve.resolve_state.Tie as tie
