@@ -1,4 +1,4 @@
--- Private: what the program's own functions promise one another.
+-- What the program's functions that read promise one another. No public contract cites it.
 use Prim.Native.Nat.{ℕ, _≤_}
 use Rattle.account_lock_cli.specs.declared.Input.{Input}
 use Rattle.account_lock_cli.specs.declared.Input.the-variants.{Read, Failed}

@@ -1,5 +1,6 @@
-//! Sample scenes as files: the smallest spend, a spend, a rotation and a recovery with two proofs each, and one for each
-//! number of the reader and of the lock that a scene of up to 65,536 bytes gives, with the answer to each in `answers.txt`.
+//! Sample scenes as files: the smallest spend, a spend, a rotation and a recovery with two proofs each, one for each number
+//! of the reader and of the lock that a scene of up to 65,536 bytes gives, and a spend of just that many bytes, with the
+//! answer to each in `answers.txt`.
 
 use super::faults::{build, rows, Row};
 use super::plan::Plan;
@@ -8,10 +9,13 @@ use crate::prng::Prng;
 use crate::samples::smallest_spend;
 use crate::scene::{self, ENTRIES};
 use crate::{original, scene_text};
-use ckb_std::Scene;
+use ckb_std::{Cell, Scene};
 use std::{fs, io};
 
 const LONGEST: usize = 65_536;
+
+/// Half of the longest scene in hexadecimal digits, less room for its other lines.
+const LONG_PROOF: usize = 31_000;
 
 /// Names, operations and rows.
 const ACCEPTED: [(&str, u8); 3] = [("spend_two_proofs", 1), ("rotation", 2), ("recovery", 3)];
@@ -39,6 +43,24 @@ const REFUSED: [(&str, u8, &str); 17] = [
     ),
 ];
 
+/// Makes the text just as long as the program reads, by the data of a dep that plays no part. A spend does not test the
+/// since of an input: two digits for one make an odd difference even.
+fn fill(scene: &mut Scene) {
+    let filler = Cell {
+        type_hash: None,
+        data_hash: [0; 32],
+        type_script: None,
+        data: Vec::new(),
+    };
+    scene.deps.push(filler);
+    scene.inputs[0].since = 0;
+    if (LONGEST - scene_text::text(scene).len()) % 2 == 1 {
+        scene.inputs[0].since = 10;
+    }
+    let rest = LONGEST - scene_text::text(scene).len();
+    scene.deps.last_mut().expect("a dep").data = vec![0; rest / 2];
+}
+
 struct Samples<'a> {
     folder: &'a str,
     prng: Prng,
@@ -65,6 +87,16 @@ impl Samples<'_> {
         let faults = row.map_or(&[][..], |row| &row.faults);
         let scene = build(&mut self.prng, plan, faults);
         self.scene(name, &scene, row.map_or(0, |row| row.number))
+    }
+
+    /// A spend with a long proof that is as long as the program reads, and the original's answer.
+    fn longest(&mut self) -> io::Result<()> {
+        let mut plan = Plan::full(&mut self.prng, 1, 1);
+        plan.lock.proofs[0].bytes = self.prng.bytes(LONG_PROOF);
+        let mut scene = build(&mut self.prng, plan, &[]);
+        fill(&mut scene);
+        assert_eq!(scene_text::text(&scene).len(), LONGEST);
+        self.scene("longest", &scene, 0)
     }
 
     /// A text that the reader refuses with this number.
@@ -106,5 +138,6 @@ pub fn write(folder: &str) -> io::Result<()> {
     for (name, operation, row) in REFUSED {
         samples.lock(name, operation, Some(named(row)))?;
     }
+    samples.longest()?;
     fs::write(format!("{folder}/answers.txt"), samples.answers)
 }
