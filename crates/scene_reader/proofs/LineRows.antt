@@ -1,4 +1,4 @@
--- A line's rows: what the code finds of them one by one, and what a line that passes them is. Assumes nothing.
+-- What a line that passes its rows is. Assumes nothing.
 use Prim.Native.Nat.{ℕ, _+_, _≤_}
 use mathlib.Core.Bool.{true}
 use mathlib.Core.Path.{_≡_}

@@ -1,9 +1,6 @@
 -- `scene_reader::lines::check_line` meets its contract. Assumes nothing.
-use mathlib.Core.Path.{sym, ap}
 use borrow.Author.Needs.{needs}
-use Prim.Native.Nat.{ℕ}
 use Rattle.protocol.specs.Rows.{decide}
-use Rattle.scene_line.specs.declared.fields.FieldsFound.{FieldsFound}
 use Rattle.scene_line.specs.Line.{fieldsFound}
 use Rattle.scene_reader.specs.Reader.{lineRows}
 use Rattle.scene_reader.proofs.lines.check_line.Statement.{statement}

@@ -1,5 +1,4 @@
 -- `scene_reader::lines::finish_at` meets its contract. Assumes nothing.
-use mathlib.Core.Path.{sym, _∙_}
 use borrow.Author.Needs.{needs}
 use Rattle.protocol.specs.Rows.{decide}
 use Rattle.scene_reader.specs.Reader.{endRows}
