@@ -1,12 +1,17 @@
 /* The functions of the static libraries. `include/fowlcredenza.rs` declares the same for Rust.
  *
- * A slice is a pointer and the number of its elements. The pointer is never NULL, not even where the number is 0. A slice
- * that is not `const` is written, and shares no memory with another slice of the same call.
+ * A caller must see to this; no function can test it:
+ * - A slice is a pointer and the number of its elements (of bytes for `uint8_t`, of entries for the wider ones). There are so
+ *   many elements behind the pointer, which is aligned for them and not NULL, not even where the number is 0.
+ * - A slice that is not `const` is written. It shares no memory with another slice of the same call; `const` slices may
+ *   share memory with each other.
+ * - `len` is aligned and not NULL. It shares no memory with a slice of the same call.
  *
- * `len` is never NULL either. A function returns the number of docs/NUMBERS.md, 0 accepted, unless its comment says
- * otherwise. docs/LAYOUTS.md has the layouts of slices.
- * Numbers go to `out` as 64-bit little-endian words from its front, as far as there is room, and places are offsets into
- * the input. A refusal leaves `out` and `len` as they were, except in the functions of libexports_lock.a. */
+ * A function returns the number of docs/NUMBERS.md, 0 accepted, unless its comment says otherwise. docs/LAYOUTS.md has the
+ * layouts of slices. A function with an `out` and no `len` stores its numbers as 64-bit little-endian words, or a hash as 32
+ * bytes, at the front of `out`; the bytes behind stay. Places are offsets into the input. An `out` that is too short for all
+ * of it is 5, after every other refusal. A refusal leaves `out` and `len` as they were. Where the functions of
+ * libexports_lock.a differ, their comment says it. */
 #ifndef FOWLCREDENZA_H
 #define FOWLCREDENZA_H
 
@@ -17,22 +22,22 @@
 extern "C" {
 #endif
 
-/* libexports.a: the hash, 32 bytes to the front of `out`, as far as there is room. */
+/* libexports.a: the hash, 32 bytes. */
 
-void fowlcredenza_ckb_hash(const uint8_t *data, size_t data_len, uint8_t *out, size_t out_len);
+uint32_t fowlcredenza_ckb_hash(const uint8_t *data, size_t data_len, uint8_t *out, size_t out_len);
 
 /* The same of bytes that are fed as the first `first` of them, then `step` at a time, or the rest at once where `step`
- * is 0. */
-void fowlcredenza_ckb_hash_parts(const uint8_t *data, size_t data_len, size_t first, size_t step,
-                                 uint8_t *out, size_t out_len);
+ * is 0. A `first` above `data_len` is 7. */
+uint32_t fowlcredenza_ckb_hash_parts(const uint8_t *data, size_t data_len, size_t first,
+                                     size_t step, uint8_t *out, size_t out_len);
 
 /* libexports.a: numbers of algorithms and operations. */
 
 /* 1 or 0. */
 uint32_t fowlcredenza_is_supported_algorithm(uint16_t algorithm);
 
-/* The capability bit, or 0 where there is no such operation. */
-uint32_t fowlcredenza_capability_for_operation(uint8_t operation);
+/* The capability bit, as a word. */
+uint32_t fowlcredenza_capability_for_operation(uint8_t operation, uint8_t *out, size_t out_len);
 
 /* libexports.a: readers. */
 
@@ -53,16 +58,16 @@ uint32_t fowlcredenza_validate_state(const uint8_t *state, size_t state_len, uin
 uint32_t fowlcredenza_next_entry(const uint8_t *state, size_t state_len, size_t offset,
                                  uint32_t least, uint8_t *out, size_t out_len);
 
-/* Operation, proof count, sequence. */
+/* Operation, proof count, sequence. More than 16 proofs are not refused here. */
 uint32_t fowlcredenza_parse_witness_header(const uint8_t *witness, size_t witness_len,
                                            uint8_t *out, size_t out_len);
 
-/* The same, of a witness lock whose every proof passes. */
+/* The same, of a witness lock whose every proof passes and that has at most 16 of them. */
 uint32_t fowlcredenza_validate_witness(const uint8_t *witness, size_t witness_len, uint8_t *out,
                                        size_t out_len);
 
 /* Slot, place and length of the proof, offset and least slot of the next one. The first proof has offset 16 and least
- * slot 0. */
+ * slot 0. A step does not count the proofs: after as many as the header says, the offset is where they end. */
 uint32_t fowlcredenza_next_proof(const uint8_t *witness, size_t witness_len, size_t offset,
                                  uint32_t least, uint8_t *out, size_t out_len);
 
@@ -120,11 +125,10 @@ uint32_t fowlcredenza_authorization_digest(uint8_t operation, const uint8_t *acc
                                            const uint8_t *sighash, size_t sighash_len, uint8_t *out,
                                            size_t out_len);
 
-/* The sighash, 32 bytes. */
-uint32_t fowlcredenza_sighash(const uint8_t *transaction_hash, size_t transaction_hash_len,
-                              const uint8_t *first, size_t first_len, const uint8_t *store,
-                              size_t store_len, const uint32_t *rows, size_t rows_len, uint8_t *out,
-                              size_t out_len);
+/* The sighash of what table and store hold, 32 bytes. A table that no scene leaves with a store of that length is 7. */
+uint32_t fowlcredenza_canonical_group_sighash(const uint32_t *table, size_t table_len,
+                                              const uint8_t *store, size_t store_len, uint8_t *out,
+                                              size_t out_len);
 
 /* libexports_scene.a */
 
@@ -138,12 +142,14 @@ uint32_t fowlcredenza_table_valid(const uint32_t *table, size_t table_len, uint6
 /* libexports_lock.a */
 
 /* Decides what table and store hold; the requests go to the front of `answer`. Whatever the number, `out` takes count and
- * length of the requests and 1 where there is a digest, as words, then the digest's 32 bytes, zeros where there is none. */
+ * length of the requests and 1 where there is a digest, as words, then the digest's 32 bytes, zeros where there is none. An
+ * `out` below 56 bytes is 7 before all else, and then nothing is written anywhere. */
 uint32_t fowlcredenza_lock(const uint32_t *table, size_t table_len, const uint8_t *store,
                            size_t store_len, uint8_t *answer, size_t answer_len, uint8_t *out,
                            size_t out_len);
 
-/* Reads a scene as `fowlcredenza_read_scene` does, and decides it as `fowlcredenza_lock` does. */
+/* Reads a scene as `fowlcredenza_read_scene` does, and decides it as `fowlcredenza_lock` does. An `out` below 56 bytes is 7
+ * here too. */
 uint32_t fowlcredenza_decide_scene(const uint8_t *scene, size_t scene_len, uint8_t *store,
                                    size_t store_len, uint32_t *table, size_t table_len,
                                    uint8_t *answer, size_t answer_len, uint8_t *out,

@@ -1,9 +1,14 @@
-//! The functions of the static libraries, as `include/fowlcredenza.h` declares them for C; what they do with what they are
-//! lent is said there.
+//! The functions of the static libraries, as `include/fowlcredenza.h` declares them for C; what a caller must see to, and
+//! what they do with what they are lent, is said there.
 
 #[link(name = "exports", kind = "static")]
 unsafe extern "C" {
-    pub fn fowlcredenza_ckb_hash(data: *const u8, data_len: usize, out: *mut u8, out_len: usize);
+    pub fn fowlcredenza_ckb_hash(
+        data: *const u8,
+        data_len: usize,
+        out: *mut u8,
+        out_len: usize,
+    ) -> u32;
     pub fn fowlcredenza_ckb_hash_parts(
         data: *const u8,
         data_len: usize,
@@ -11,9 +16,13 @@ unsafe extern "C" {
         step: usize,
         out: *mut u8,
         out_len: usize,
-    );
+    ) -> u32;
     pub fn fowlcredenza_is_supported_algorithm(algorithm: u16) -> u32;
-    pub fn fowlcredenza_capability_for_operation(operation: u8) -> u32;
+    pub fn fowlcredenza_capability_for_operation(
+        operation: u8,
+        out: *mut u8,
+        out_len: usize,
+    ) -> u32;
     pub fn fowlcredenza_parse_args(
         args: *const u8,
         args_len: usize,
@@ -168,15 +177,11 @@ unsafe extern "C" {
         out: *mut u8,
         out_len: usize,
     ) -> u32;
-    pub fn fowlcredenza_sighash(
-        transaction_hash: *const u8,
-        transaction_hash_len: usize,
-        first: *const u8,
-        first_len: usize,
+    pub fn fowlcredenza_canonical_group_sighash(
+        table: *const u32,
+        table_len: usize,
         store: *const u8,
         store_len: usize,
-        rows: *const u32,
-        rows_len: usize,
         out: *mut u8,
         out_len: usize,
     ) -> u32;

@@ -9,7 +9,7 @@ type Reader = unsafe extern "C" fn(*const u8, usize, *mut u8, usize) -> u32;
 type Step = unsafe extern "C" fn(*const u8, usize, usize, u32, *mut u8, usize) -> u32;
 
 /// CKB's hash of the data, at the front of `out`.
-pub fn ckb_hash(data: &[u8], out: &mut [u8]) {
+pub fn ckb_hash(data: &[u8], out: &mut [u8]) -> u32 {
     unsafe {
         library::fowlcredenza_ckb_hash(data.as_ptr(), data.len(), out.as_mut_ptr(), out.len())
     }
@@ -17,7 +17,7 @@ pub fn ckb_hash(data: &[u8], out: &mut [u8]) {
 
 /// The same of data that is fed as its first `first` bytes, then `step` bytes at a time, or the rest
 /// at once where `step` is 0.
-pub fn ckb_hash_parts(data: &[u8], first: usize, step: usize, out: &mut [u8]) {
+pub fn ckb_hash_parts(data: &[u8], first: usize, step: usize, out: &mut [u8]) -> u32 {
     unsafe {
         library::fowlcredenza_ckb_hash_parts(
             data.as_ptr(),
@@ -35,9 +35,11 @@ pub fn is_supported_algorithm(algorithm: u16) -> u32 {
     unsafe { library::fowlcredenza_is_supported_algorithm(algorithm) }
 }
 
-/// The bit, or 0 where there is no such operation.
-pub fn capability_for_operation(operation: u8) -> u32 {
-    unsafe { library::fowlcredenza_capability_for_operation(operation) }
+/// The bit.
+pub fn capability_for_operation(operation: u8, out: &mut [u8]) -> u32 {
+    unsafe {
+        library::fowlcredenza_capability_for_operation(operation, out.as_mut_ptr(), out.len())
+    }
 }
 
 fn read(reader: Reader, input: &[u8], out: &mut [u8]) -> u32 {

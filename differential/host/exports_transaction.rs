@@ -64,25 +64,14 @@ pub fn authorization_digest(digest: &LentDigest, out: &mut [u8]) -> u32 {
     }
 }
 
-/// What a sighash is over, as it is lent: place in the store and length of each further witness.
-pub struct LentSighash<'a> {
-    pub transaction_hash: &'a [u8],
-    pub first: &'a [u8],
-    pub store: &'a [u8],
-    pub rows: &'a [u32],
-}
-
-pub fn sighash(sighash: &LentSighash, out: &mut [u8]) -> u32 {
+/// The sighash of what table and store hold.
+pub fn canonical_group_sighash(table: &[u32], store: &[u8], out: &mut [u8]) -> u32 {
     unsafe {
-        library::fowlcredenza_sighash(
-            sighash.transaction_hash.as_ptr(),
-            sighash.transaction_hash.len(),
-            sighash.first.as_ptr(),
-            sighash.first.len(),
-            sighash.store.as_ptr(),
-            sighash.store.len(),
-            sighash.rows.as_ptr(),
-            sighash.rows.len(),
+        library::fowlcredenza_canonical_group_sighash(
+            table.as_ptr(),
+            table.len(),
+            store.as_ptr(),
+            store.len(),
             out.as_mut_ptr(),
             out.len(),
         )

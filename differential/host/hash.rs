@@ -10,27 +10,36 @@ const OUT: [usize; 6] = [0, 1, 31, 32, 33, 64];
 /// Bytes behind the buffer that is lent, to see that they stay.
 const BEHIND: usize = 16;
 const RANDOM_CASES: usize = 3000;
+/// The numbers of a buffer that is too short, and of a first part that is longer than the data.
+const TOO_SHORT: u32 = 5;
+const DISAGREE: u32 = 7;
 
 /// How the data is fed: its first bytes, then so many at a time.
 type Parts = Option<(usize, usize)>;
 
-/// The buffer after a call that is lent its first `out_len` bytes.
-fn result(data: &[u8], parts: Parts, before: &[u8], out_len: usize) -> Hex {
+/// The number and the buffer after a call that is lent its first `out_len` bytes.
+fn result(data: &[u8], parts: Parts, before: &[u8], out_len: usize) -> (u32, Hex) {
     let mut buffer = before.to_vec();
     let out = &mut buffer[..out_len];
-    match parts {
+    let number = match parts {
         None => exports::ckb_hash(data, out),
         Some((first, step)) => exports::ckb_hash_parts(data, first, step, out),
-    }
-    Hex(buffer)
+    };
+    (number, Hex(buffer))
 }
 
-/// The digest at the front of the lent bytes, as far as it fits; every other byte as before.
-fn expected(data: &[u8], before: &[u8], out_len: usize) -> Hex {
+/// The digest at the front of the lent bytes, where there is a first part and room; every other byte as before.
+fn expected(data: &[u8], parts: Parts, before: &[u8], out_len: usize) -> (u32, Hex) {
     let mut buffer = before.to_vec();
-    let fits = out_len.min(32);
-    buffer[..fits].copy_from_slice(&blake2b::ckb_hash(data)[..fits]);
-    Hex(buffer)
+    let number = match parts {
+        Some((first, _)) if first > data.len() => DISAGREE,
+        _ if out_len < 32 => TOO_SHORT,
+        _ => {
+            buffer[..32].copy_from_slice(&blake2b::ckb_hash(data));
+            0
+        }
+    };
+    (number, Hex(buffer))
 }
 
 fn compare(report: &mut Report, prng: &mut Prng, data: &[u8], parts: Parts, out_len: usize) {
@@ -41,7 +50,8 @@ fn compare(report: &mut Report, prng: &mut Prng, data: &[u8], parts: Parts, out_
     };
     let input = || format!("parts {parts:?}, out {out_len}, {:?}", Hex(data.to_vec()));
     let result = result(data, parts, &before, out_len);
-    let expected = expected(data, &before, out_len);
+    let expected = expected(data, parts, &before, out_len);
+    report.answered(name, result.0);
     report.compare(name, data.len(), input, &result, &expected);
 }
 
@@ -92,4 +102,7 @@ pub fn run(report: &mut Report) {
     random_lengths(report, &mut prng);
     let data = prng.bytes(1000);
     compare(report, &mut prng, &data, Some((usize::MAX, usize::MAX)), 32);
+    compare(report, &mut prng, &data, Some((usize::MAX, 0)), 31);
+    report.expect_answers("hash", &[0, 5]);
+    report.expect_answers("hash in parts", &[0, 5, 7]);
 }

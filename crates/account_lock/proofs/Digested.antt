@@ -1,4 +1,4 @@
--- The digest of a scene whose account, operation and first witness are there.
+-- The digest of a scene whose account, operation and hashed witnesses are there.
 -- Assumes nothing.
 use mathlib.Core.Path.{_≡_}
 use mathlib.Core.Bool.{true}
@@ -7,13 +7,9 @@ use Prim.Native.Nat.{ℕ}
 use Rattle.protocol.specs.Policy.{isOperation}
 use Rattle.protocol.specs.Rows.{Hold, decide, _▷_}
 use Rattle.protocol.proofs.Hold.{hold-passed}
-use Rattle.protocol.specs.declared.error.ProtocolError.the-variants.{InvalidWitness}
-use Rattle.molecule.specs.Table3.{tableRows}
 use Rattle.authorization.specs.Digest.{digestOf, digestAnswer, operationRows, authorizationOf}
-use Rattle.authorization.specs.Sighash.{sighashFound, sighashAnswer}
 use Rattle.scene_table.specs.Scene.{Scene}
-use Rattle.group_sighash.specs.Witnesses.{firstWitness}
-use Rattle.group_sighash.specs.GroupSighash.{groupSighash, groupAnswer}
+use Rattle.group_sighash.specs.GroupSighash.{sighashRows, sighashFound, groupSighash, groupAnswer}
 
 -- the operation is one: the answer has the digest
 pub digest-given : (operation : ℕ) (id : List ℕ) (sequence : ℕ) (state hash : List ℕ) → isOperation operation ≡ true
@@ -21,7 +17,7 @@ pub digest-given : (operation : ℕ) (id : List ℕ) (sequence : ℕ) (state has
 unfolding authorizationOf digestAnswer operationRows decide _▷_
 digest-given operation id sequence state hash e = rw e
 
--- the first witness passes its rows: the answer has the sighash
-pub sighash-given : (s : Scene) → Hold (tableRows InvalidWitness (firstWitness s)) → groupAnswer s .hash ≡ groupSighash s
-unfolding groupAnswer groupSighash sighashAnswer sighashFound
-sighash-given s h = rw (hold-passed (tableRows InvalidWitness (firstWitness s)) h)
+-- the hashed witnesses pass: the answer has the sighash
+pub sighash-given : (s : Scene) → Hold (sighashRows s) → groupAnswer s .hash ≡ groupSighash s
+unfolding groupAnswer sighashFound
+sighash-given s h = rw (hold-passed (sighashRows s) h)

@@ -13,7 +13,7 @@ use Rattle.octets.specs.Le.{numberAt}
 use Rattle.protocol.specs.Args.{argsRows, accountOf}
 use Rattle.protocol.specs.Policy.{isOperation}
 use Rattle.protocol.specs.Rows.{Row, Hold, decide, _▷_, _then_}
-use Rattle.protocol.proofs.Hold.{decide-append, decide-then, failed-passed, hold-split}
+use Rattle.protocol.proofs.Hold.{decide-append, decide-then, failed-passed, hold-append, hold-split}
 use Rattle.protocol.specs.declared.error.ProtocolError.{ProtocolError}
 use Rattle.protocol.specs.declared.error.ProtocolError.the-variants.{InvalidWitness}
 use Rattle.protocol.specs.declared.check.Check.{Check}
@@ -22,7 +22,8 @@ use Rattle.molecule.specs.Table3.{tableRows}
 use Rattle.molecule.specs.Bytes as molecule
 use Rattle.account_witness.specs.Header.{headerRows}
 use Rattle.scene_table.specs.Scene.{Scene}
-use Rattle.group_sighash.specs.Witnesses.{firstWitness, lockIn, witnessRows, countRows, groupRows, otherRows}
+use Rattle.group_sighash.specs.Witnesses.{firstWitness, lockIn, witnessRows, countRows, groupRows, otherRows, witnessFits}
+use Rattle.group_sighash.specs.GroupSighash.{sighashRows}
 use Rattle.state_transition.specs.Resolve.{resolveRows, operationRow, resolvedOf}
 use Rattle.account_lock.specs.Lock.{argsIn, accountIn, scriptRows, account, operation, stateRowsOf, lateRows, earlyRows, witnessLock, Result, refused, orWalked, walkResult, lateResult, lockScene}
 use Rattle.account_lock.specs.Settled.{Authorized, Named, resolved}
@@ -112,11 +113,16 @@ module _ (s : Scene) (h : Hold (groupRows s)) where
   unfolding witnessLock countRows
   group-count = leb-true _ _ (hold-split (headerRows (lockIn (firstWitness s))) (countRows (lockIn (firstWitness s))) (lock-rows .1) .1 .0)
 
-pub named-authorized : (id bytes : List ℕ) (s : Scene) → Named id bytes s → Authorized (numberAt bytes 5 1) id s
+-- what the sighash tests has passed
+pub group-hashed : (s : Scene) → Hold (groupRows s) → Hold (otherRows s) → Hold (sighashRows s)
+unfolding sighashRows groupRows witnessRows witnessFits
+group-hashed s g o = (g .0, (g .1 .0, hold-append (tableRows InvalidWitness (firstWitness s)) (otherRows s) (group-table s g) o))
+
+pub named-authorized : (id bytes : List ℕ) (s : Scene) → Named id bytes s → Hold (otherRows s) → Authorized (numberAt bytes 5 1) id s
 unfolding operation account
-named-authorized id bytes s n =
+named-authorized id bytes s n o =
     record {
       known = rw (n .witness) (group-operation s (n .group));
       whole = rw (n .account) (account-whole (s .script) (n .script));
-      table = group-table s (n .group);
+      witnesses = group-hashed s (n .group) o;
     }

@@ -7,10 +7,9 @@ use Prim.Native.Nat.{ℕ}
 use lib.ListN.{length}
 use Rattle.protocol.specs.Policy.{isOperation}
 use Rattle.protocol.specs.Rows.{Hold}
-use Rattle.protocol.specs.declared.error.ProtocolError.the-variants.{InvalidWitness}
-use Rattle.molecule.specs.Table3.{tableRows}
 use Rattle.scene_table.specs.Scene.{Scene}
-use Rattle.group_sighash.specs.Witnesses.{firstWitness, groupRows}
+use Rattle.group_sighash.specs.Witnesses.{groupRows, otherRows}
+use Rattle.group_sighash.specs.GroupSighash.{sighashRows}
 use Rattle.state_transition.specs.declared.resolve.ResolvedState.{ResolvedState}
 use Rattle.state_transition.specs.Resolve.{resolvedOf}
 use Rattle.account_lock.specs.Lock as lock
@@ -19,7 +18,7 @@ use Rattle.account_lock.specs.Lock as lock
 pub record Authorized (operation : ℕ) (account : List ℕ) (s : Scene) : Type 0 where
   pub known : isOperation operation ≡ true
   pub whole : length account ≡ 32
-  pub table : Hold (tableRows InvalidWitness (firstWitness s))
+  pub witnesses : Hold (sighashRows s)
 
 -- the account and the witness lock of a scene whose script and group pass
 pub record Named (id bytes : List ℕ) (s : Scene) : Type 0 where
@@ -28,9 +27,10 @@ pub record Named (id bytes : List ℕ) (s : Scene) : Type 0 where
   pub script : Hold (lock.scriptRows (s .script))
   pub group : Hold (groupRows s)
 
--- and its current state
+-- and its current state, where the other hashed witnesses pass too
 pub record Settled (id bytes state : List ℕ) (s : Scene) : Type 0 where
   pub named : Named id bytes s
+  pub others : Hold (otherRows s)
   pub current : state ≡ lock.current s
 
 -- where the states stand

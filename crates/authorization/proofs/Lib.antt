@@ -1,4 +1,2 @@
 pub mod Feeding
-pub mod Pairs
 pub mod SighashTheorem
-pub mod Few

@@ -1,2 +1,3 @@
+pub mod Fits
 pub mod Table64
 pub mod Sizes

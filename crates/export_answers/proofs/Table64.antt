@@ -6,44 +6,53 @@ use Prim.Native.Nat.{ℕ, suc, _+_, _-_, _*_, _≤_, _<_}
 use native.Mathlib.Nat.{sub-zero}
 use native.Mathlib.Numerals.{add-one}
 use native.Mathlib.Omega.{arith}
-use lib.ListN.{length, take, drop, getD, length-append, drop-of-length-le}
-use lib.Seq.{sets, drop-cons, take-all, length-take-le}
+use lib.ListN.{length, drop, getD, length-append, drop-of-length-le}
+use lib.Seq.{sets, drop-cons}
 use borrow.Rule.Slice.PartMut.{midOf, putMid}
 use Rattle.octets.specs.Le.{toLe}
 use Rattle.octets.specs.Table.{numbers}
 use Rattle.octets.proofs.LeLaws.{length-to}
-use Rattle.octets.proofs.Stores.{sets-append, sets-front, sets-over}
-use Rattle.export_answers.specs.Words.{words, withWords}
+use Rattle.octets.proofs.Stores.{sets-append, sets-lent}
+use Rattle.export_answers.specs.Words.{words, wordBytes, wordsNumber, wordsAfter}
+use Rattle.export_answers.proofs.Fits.{fit-number, fit-after, short-number, short-after}
 
 -- word i, and then the words behind it
-pub word-stored : (vs out : List ℕ) (i : ℕ) → i < length vs → sets (sets out (8 * i) (toLe 8 (getD vs i 0))) (8 * (i + 1)) (numbers (words (drop (i + 1) vs))) ≡ sets out (8 * i) (numbers (words (drop i vs)))
-unfolding words numbers
+pub word-stored : (vs out : List ℕ) (i : ℕ) → i < length vs → sets (sets out (8 * i) (toLe 8 (getD vs i 0))) (8 * (i + 1)) (wordBytes (drop (i + 1) vs)) ≡ sets out (8 * i) (wordBytes (drop i vs))
+unfolding wordBytes words numbers
 word-stored vs out i h =
     let n : length (toLe 8 (getD vs i 0)) ≡ 8 = length-to 8 (getD vs i 0) in
     rw (add-one, drop-cons vs i 0 h)
-    (sets-append out (8 * i) (toLe 8 (getD vs i 0)) (numbers (words (drop (suc i) vs))) (8 * suc i) (omega arith))
+    (sets-append out (8 * i) (toLe 8 (getD vs i 0)) (wordBytes (drop (suc i) vs)) (8 * suc i) (omega arith))
 
 -- no word is left
-pub words-stored : (vs out : List ℕ) (i : ℕ) → length vs ≤ i → sets out (8 * i) (numbers (words (drop i vs))) ≡ out
-unfolding words numbers
+pub words-stored : (vs out : List ℕ) (i : ℕ) → length vs ≤ i → sets out (8 * i) (wordBytes (drop i vs)) ≡ out
+unfolding wordBytes words numbers
 words-stored vs out i h = rw (drop-of-length-le vs h)
 
-pub length-words : (vs : List ℕ) → length (numbers (words vs)) ≡ 8 * length vs
-unfolding words numbers
+pub length-words : (vs : List ℕ) → length (wordBytes vs) ≡ 8 * length vs
+unfolding wordBytes words numbers
 length-words [] = refl
 length-words (v ∷ vs) =
     let n : length (toLe 8 v) ≡ 8 = length-to 8 v in
     let m = length-words vs in
-    length-append (toLe 8 v) (numbers (words vs)) ∙ (omega arith)
+    length-append (toLe 8 v) (wordBytes vs) ∙ (omega arith)
 
 -- the whole after a front part was lent that the words fill
-pub words-front : (vs out ys : List ℕ) → 8 * length vs ≤ length out → ys ≡ withWords vs (midOf 0 (8 * length vs - 0) out)
-    → putMid 0 (8 * length vs - 0) out ys ≡ withWords vs out
-unfolding withWords
-words-front vs out ys h e =
-    let k = 8 * length vs in
-    let ws = numbers (words vs) in
-    let n : length ws ≡ k = length-words vs in
-    let m : length (take k out) ≡ k = length-take-le k out h in
-    let stored : sets (take k out) 0 ws ≡ ws = sets-over (take k out) ws (omega arith) ∙ take-all (length (take k out)) ws (omega arith) in
-    rw (e, sub-zero, stored, sets-front out ws (omega arith), n)
+pub words-front : (vs out ys : List ℕ) → 8 * length vs ≤ length out → ys ≡ sets (midOf 0 (8 * length vs - 0) out) 0 (wordBytes vs)
+    → putMid 0 (8 * length vs - 0) out ys ≡ sets out 0 (wordBytes vs)
+words-front vs out ys h e = rw sub-zero (sets-lent out (wordBytes vs) ys 0 (8 * length vs) (length-words vs) (omega arith) (rw sub-zero at e))
+
+-- words for which there is room, and words for which there is none
+pub words-fit : (vs out : List ℕ) → 8 * length vs ≤ length out → (0 ≡ wordsNumber 0 vs (length out)) × (sets out 0 (wordBytes vs) ≡ wordsAfter vs out)
+unfolding wordsNumber wordsAfter
+words-fit vs out h =
+    let n = length-words vs in
+    let k : length (wordBytes vs) ≤ length out = omega arith in
+    (fit-number (wordBytes vs) out k 0, fit-after (wordBytes vs) out k)
+
+pub words-short : (vs out : List ℕ) → length out < 8 * length vs → (5 ≡ wordsNumber 0 vs (length out)) × (out ≡ wordsAfter vs out)
+unfolding wordsNumber wordsAfter
+words-short vs out h =
+    let n = length-words vs in
+    let k : length out < length (wordBytes vs) = omega arith in
+    (short-number (wordBytes vs) out k 0, short-after (wordBytes vs) out k)

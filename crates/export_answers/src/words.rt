@@ -1,11 +1,14 @@
 // The numbers of a reader, stored.
+use crate::stored::too_short;
 use octets::store_number;
 ghost use mathlib.Core.Path.{_≡_};
-ghost use Rattle.export_answers.specs.Words.{withWords};
+ghost use lib.ListN.{length};
+ghost use lib.Seq.{sets};
+ghost use Rattle.export_answers.specs.Words.{wordBytes, wordsNumber, wordsAfter};
 
 // Stores the words one by one.
 fn store_each(words: &[u64], out: &mut [u8])
-    ensures { λ _. ⌜ now (out .exit) ≡ withWords (now (words .entry)) (now (out .entry)) ⌝ }
+    ensures { λ _. ⌜ now (out .exit) ≡ sets (now (out .entry)) 0 (wordBytes (now (words .entry))) ⌝ }
 {
     let mut i: usize = 0;
     while i < words.len() {
@@ -14,15 +17,16 @@ fn store_each(words: &[u64], out: &mut [u8])
     }
 }
 
-// Stores the words from the front of `out` on, as far as there is room. Where there is room for all, the words are lent just
-// that, so that no store looks for the end.
-pub fn store_words(words: &[u64], out: &mut [u8])
-    ensures { λ _. ⌜ now (out .exit) ≡ withWords (now (words .entry)) (now (out .entry)) ⌝ }
+// Stores the words at the front of `out`, or 5. They are lent just their part of it, so that no store looks for the end.
+pub fn store_words(words: &[u64], out: &mut [u8]) -> u32
+    ensures { λ r. ⌜ r ≡ wordsNumber 0 (now (words .entry)) (length (now (out .entry))) ⌝ }
+    ensures { λ _. ⌜ now (out .exit) ≡ wordsAfter (now (words .entry)) (now (out .entry)) ⌝ }
 {
     let end = 8 * words.len();
     if end <= out.len() {
         store_each(words, &mut out[0..end]);
+        0
     } else {
-        store_each(words, out);
+        too_short()
     }
 }

@@ -28,10 +28,10 @@ unfoldable pub argsWords : ArgsAnswer → List ℕ
 argsWords (args.Refused e) = []
 argsWords (args.Args a) = a .version ∷ a .«account_id» ∷ []
 
--- the bit that the operation needs, 0 where there is no such operation
-unfoldable pub capabilityBit : OperationCapability → ℕ
-capabilityBit (capability.Refused e) = 0
-capabilityBit (capability.Capability bit) = bit
+-- the bit that the operation needs
+unfoldable pub capabilityWords : OperationCapability → List ℕ
+capabilityWords (capability.Refused e) = []
+capabilityWords (capability.Capability bit) = bit ∷ []
 
 -- a state header's seven numbers, in the order of its fields
 unfoldable pub headerFields : StateHeader → List ℕ

@@ -15,26 +15,26 @@ use protocol::capability_for_operation;
 use protocol::error_number;
 use protocol::is_supported_algorithm;
 ghost use mathlib.Core.Path.{_≡_};
+ghost use lib.ListN.{length};
 ghost use mathlib.Core.Bool.{cond};
 ghost use Rattle.protocol.specs.Args.{argsNumber, readArgs};
-ghost use Rattle.protocol.specs.Policy.{isSupportedAlgorithm, capabilityFor};
+ghost use Rattle.protocol.specs.Policy.{isSupportedAlgorithm, capabilityFor, capabilityNumber};
 ghost use Rattle.protocol.specs.Write.{writeNumber};
-ghost use Rattle.export_answers.specs.Words.{withWords, lengthAfter};
-ghost use Rattle.exports.specs.Readers.{argsWords, capabilityBit};
+ghost use Rattle.export_answers.specs.Words.{wordsNumber, wordsAfter, lengthAfter};
+ghost use Rattle.exports.specs.Readers.{argsWords, capabilityWords};
 ghost use Rattle.exports.specs.Writers.{argsFault, argsWritten, argsStored};
 
 // Stores the version and the place of the account id.
 #[no_mangle]
 pub extern "C" fn fowlcredenza_parse_args(args: &[u8], out: &mut [u8]) -> u32
-    ensures { λ r. ⌜ r ≡ argsNumber (readArgs (now (args .entry))) ⌝ }
-    ensures { λ _. ⌜ now (out .exit) ≡ withWords (argsWords (readArgs (now (args .entry)))) (now (out .entry)) ⌝ }
+    ensures { λ r. ⌜ r ≡ wordsNumber (argsNumber (readArgs (now (args .entry)))) (argsWords (readArgs (now (args .entry)))) (length (now (out .entry))) ⌝ }
+    ensures { λ _. ⌜ now (out .exit) ≡ wordsAfter (argsWords (readArgs (now (args .entry)))) (now (out .entry)) ⌝ }
 {
     match AccountLockArgs::parse(args) {
         ArgsAnswer::Refused(error) => error_number(error) as u32,
         ArgsAnswer::Args(fields) => {
             let words = [fields.version as u64, fields.account_id as u64];
-            store_words(&words, out);
-            0
+            store_words(&words, out)
         }
     }
 }
@@ -51,14 +51,18 @@ pub extern "C" fn fowlcredenza_is_supported_algorithm(algorithm: u16) -> u32
     }
 }
 
-// The capability bit that an operation needs, or 0 where there is no such operation.
+// Stores the capability bit that an operation needs.
 #[no_mangle]
-pub extern "C" fn fowlcredenza_capability_for_operation(operation: u8) -> u32
-    ensures { λ r. ⌜ r ≡ capabilityBit (capabilityFor operation) ⌝ }
+pub extern "C" fn fowlcredenza_capability_for_operation(operation: u8, out: &mut [u8]) -> u32
+    ensures { λ r. ⌜ r ≡ wordsNumber (capabilityNumber (capabilityFor operation)) (capabilityWords (capabilityFor operation)) (length (now (out .entry))) ⌝ }
+    ensures { λ _. ⌜ now (out .exit) ≡ wordsAfter (capabilityWords (capabilityFor operation)) (now (out .entry)) ⌝ }
 {
     match capability_for_operation(operation) {
-        OperationCapability::Refused(_) => 0,
-        OperationCapability::Capability(bit) => bit as u32,
+        OperationCapability::Refused(error) => error_number(error) as u32,
+        OperationCapability::Capability(bit) => {
+            let words = [bit as u64];
+            store_words(&words, out)
+        }
     }
 }
 

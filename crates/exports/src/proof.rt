@@ -6,18 +6,19 @@ use public_key_proof::PublicKeyProofAnswer;
 use public_key_proof::encode_public_key_proof;
 use public_key_proof::parse_public_key_proof;
 ghost use mathlib.Core.Path.{_≡_};
+ghost use lib.ListN.{length};
 ghost use Rattle.protocol.specs.Write.{writeNumber};
 ghost use Rattle.public_key_proof.specs.Reader.{proofNumber, readProof};
 ghost use Rattle.public_key_proof.specs.Reading.{reading};
 ghost use Rattle.public_key_proof.specs.Writer.{proofWritten, proofStored};
-ghost use Rattle.export_answers.specs.Words.{withWords, lengthAfter};
+ghost use Rattle.export_answers.specs.Words.{wordsNumber, wordsAfter, lengthAfter};
 ghost use Rattle.exports.specs.Readers.{proofWords};
 
 // Stores place and length of the key and of the signature.
 #[no_mangle]
 pub extern "C" fn fowlcredenza_parse_public_key_proof(proof: &[u8], out: &mut [u8]) -> u32
-    ensures { λ r. ⌜ r ≡ proofNumber (readProof (now (proof .entry))) ⌝ }
-    ensures { λ _. ⌜ now (out .exit) ≡ withWords (proofWords (readProof (now (proof .entry)))) (now (out .entry)) ⌝ }
+    ensures { λ r. ⌜ r ≡ wordsNumber (proofNumber (readProof (now (proof .entry)))) (proofWords (readProof (now (proof .entry)))) (length (now (out .entry))) ⌝ }
+    ensures { λ _. ⌜ now (out .exit) ≡ wordsAfter (proofWords (readProof (now (proof .entry)))) (now (out .entry)) ⌝ }
 {
     match parse_public_key_proof(proof) {
         PublicKeyProofAnswer::Refused(error) => error_number(error) as u32,
@@ -28,8 +29,7 @@ pub extern "C" fn fowlcredenza_parse_public_key_proof(proof: &[u8], out: &mut [u
                 places.signature as u64,
                 places.signature_len as u64,
             ];
-            store_words(&words, out);
-            0
+            store_words(&words, out)
         }
     }
 }

@@ -10,18 +10,19 @@ use verifier_request::RequestAnswer;
 use verifier_request::encode_verifier_request;
 use verifier_request::parse_verifier_request;
 ghost use mathlib.Core.Path.{_≡_};
+ghost use lib.ListN.{length};
 ghost use Rattle.protocol.specs.Write.{writeNumber};
 ghost use Rattle.verifier_request.specs.Reader.{requestNumber, readRequest};
 ghost use Rattle.verifier_request.specs.Reading.{reading};
-ghost use Rattle.export_answers.specs.Words.{withWords, lengthAfter};
+ghost use Rattle.export_answers.specs.Words.{wordsNumber, wordsAfter, lengthAfter};
 ghost use Rattle.exports.specs.Readers.{requestWords};
 ghost use Rattle.exports.specs.Writers.{lentWritten, lentStored};
 
 // Stores algorithm, slot, operation, profile, the places of digest and key, and place and length of the aux and of the proof.
 #[no_mangle]
 pub extern "C" fn fowlcredenza_parse_verifier_request(request: &[u8], out: &mut [u8]) -> u32
-    ensures { λ r. ⌜ r ≡ requestNumber (readRequest (now (request .entry))) ⌝ }
-    ensures { λ _. ⌜ now (out .exit) ≡ withWords (requestWords (readRequest (now (request .entry)))) (now (out .entry)) ⌝ }
+    ensures { λ r. ⌜ r ≡ wordsNumber (requestNumber (readRequest (now (request .entry)))) (requestWords (readRequest (now (request .entry)))) (length (now (out .entry))) ⌝ }
+    ensures { λ _. ⌜ now (out .exit) ≡ wordsAfter (requestWords (readRequest (now (request .entry)))) (now (out .entry)) ⌝ }
 {
     match parse_verifier_request(request) {
         RequestAnswer::Refused(error) => error_number(error) as u32,
@@ -38,8 +39,7 @@ pub extern "C" fn fowlcredenza_parse_verifier_request(request: &[u8], out: &mut 
                 fields.proof as u64,
                 fields.proof_len as u64,
             ];
-            store_words(&words, out);
-            0
+            store_words(&words, out)
         }
     }
 }

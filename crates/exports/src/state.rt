@@ -11,17 +11,18 @@ use export_answers::store_words;
 use export_answers::written;
 use protocol::error_number;
 ghost use mathlib.Core.Path.{_≡_};
+ghost use lib.ListN.{length};
 ghost use Rattle.protocol.specs.Write.{writeNumber};
 ghost use Rattle.account_state.specs.State.{headerNumber, readHeader, stateNumber, readState, stepNumber, entryStep};
 ghost use Rattle.account_state_writer.specs.Writer.{stateFrom, stateWritten, stateStored};
-ghost use Rattle.export_answers.specs.Words.{withWords, lengthAfter};
+ghost use Rattle.export_answers.specs.Words.{wordsNumber, wordsAfter, lengthAfter};
 ghost use Rattle.exports.specs.Readers.{headerWords, stateWords, stepWords};
 
 // Stores flags, sequence, spend, rotate and recovery thresholds, count and recovery_since.
 #[no_mangle]
 pub extern "C" fn fowlcredenza_parse_state_header(state: &[u8], out: &mut [u8]) -> u32
-    ensures { λ r. ⌜ r ≡ headerNumber (readHeader (now (state .entry))) ⌝ }
-    ensures { λ _. ⌜ now (out .exit) ≡ withWords (headerWords (readHeader (now (state .entry)))) (now (out .entry)) ⌝ }
+    ensures { λ r. ⌜ r ≡ wordsNumber (headerNumber (readHeader (now (state .entry)))) (headerWords (readHeader (now (state .entry)))) (length (now (out .entry))) ⌝ }
+    ensures { λ _. ⌜ now (out .exit) ≡ wordsAfter (headerWords (readHeader (now (state .entry)))) (now (out .entry)) ⌝ }
 {
     match StateHeader::parse(state) {
         StateHeaderAnswer::Refused(error) => error_number(error) as u32,
@@ -35,8 +36,7 @@ pub extern "C" fn fowlcredenza_parse_state_header(state: &[u8], out: &mut [u8]) 
                 header.authenticator_count as u64,
                 header.recovery_since,
             ];
-            store_words(&words, out);
-            0
+            store_words(&words, out)
         }
     }
 }
@@ -44,8 +44,8 @@ pub extern "C" fn fowlcredenza_parse_state_header(state: &[u8], out: &mut [u8]) 
 // Stores the header's seven numbers, and the weights of the holders of spend, rotate and recovery.
 #[no_mangle]
 pub extern "C" fn fowlcredenza_validate_state(state: &[u8], out: &mut [u8]) -> u32
-    ensures { λ r. ⌜ r ≡ stateNumber (readState (now (state .entry))) ⌝ }
-    ensures { λ _. ⌜ now (out .exit) ≡ withWords (stateWords (readState (now (state .entry)))) (now (out .entry)) ⌝ }
+    ensures { λ r. ⌜ r ≡ wordsNumber (stateNumber (readState (now (state .entry)))) (stateWords (readState (now (state .entry)))) (length (now (out .entry))) ⌝ }
+    ensures { λ _. ⌜ now (out .exit) ≡ wordsAfter (stateWords (readState (now (state .entry)))) (now (out .entry)) ⌝ }
 {
     match validate_state(state) {
         StateAnswer::Refused(error) => error_number(error) as u32,
@@ -62,8 +62,7 @@ pub extern "C" fn fowlcredenza_validate_state(state: &[u8], out: &mut [u8]) -> u
                 summary.rotate_weight as u64,
                 summary.recovery_weight as u64,
             ];
-            store_words(&words, out);
-            0
+            store_words(&words, out)
         }
     }
 }
@@ -77,8 +76,8 @@ pub extern "C" fn fowlcredenza_next_entry(
     least: u32,
     out: &mut [u8],
 ) -> u32
-    ensures { λ r. ⌜ r ≡ stepNumber (entryStep (now (state .entry)) (record { offset = offset; least = least })) ⌝ }
-    ensures { λ _. ⌜ now (out .exit) ≡ withWords (stepWords (entryStep (now (state .entry)) (record { offset = offset; least = least }))) (now (out .entry)) ⌝ }
+    ensures { λ r. ⌜ r ≡ wordsNumber (stepNumber (entryStep (now (state .entry)) (record { offset = offset; least = least }))) (stepWords (entryStep (now (state .entry)) (record { offset = offset; least = least }))) (length (now (out .entry))) ⌝ }
+    ensures { λ _. ⌜ now (out .exit) ≡ wordsAfter (stepWords (entryStep (now (state .entry)) (record { offset = offset; least = least }))) (now (out .entry)) ⌝ }
 {
     match next_entry(state, EntryCursor { offset, least }) {
         EntryStep::Refused(error) => error_number(error) as u32,
@@ -98,8 +97,7 @@ pub extern "C" fn fowlcredenza_next_entry(
                 next.offset as u64,
                 next.least as u64,
             ];
-            store_words(&words, out);
-            0
+            store_words(&words, out)
         }
     }
 }

@@ -11,19 +11,20 @@ use export_answers::store_words;
 use export_answers::written;
 use protocol::error_number;
 ghost use mathlib.Core.Path.{_≡_};
+ghost use lib.ListN.{length};
 ghost use Rattle.protocol.specs.Write.{writeNumber};
 ghost use Rattle.account_witness.specs.Header.{headerNumber, readHeader};
 ghost use Rattle.account_witness.specs.Walk.{stepNumber, proofStep};
 ghost use Rattle.account_witness.specs.Witness.{witnessNumber, readWitness};
 ghost use Rattle.account_witness_writer.specs.Encode.{witnessWritten, witnessStored};
-ghost use Rattle.export_answers.specs.Words.{withWords, lengthAfter};
+ghost use Rattle.export_answers.specs.Words.{wordsNumber, wordsAfter, lengthAfter};
 ghost use Rattle.exports.specs.Readers.{witnessHeaderWords, proofStepWords, witnessWords};
 
 // Stores operation, proof count and sequence.
 #[no_mangle]
 pub extern "C" fn fowlcredenza_parse_witness_header(witness: &[u8], out: &mut [u8]) -> u32
-    ensures { λ r. ⌜ r ≡ headerNumber (readHeader (now (witness .entry))) ⌝ }
-    ensures { λ _. ⌜ now (out .exit) ≡ withWords (witnessHeaderWords (readHeader (now (witness .entry)))) (now (out .entry)) ⌝ }
+    ensures { λ r. ⌜ r ≡ wordsNumber (headerNumber (readHeader (now (witness .entry)))) (witnessHeaderWords (readHeader (now (witness .entry)))) (length (now (out .entry))) ⌝ }
+    ensures { λ _. ⌜ now (out .exit) ≡ wordsAfter (witnessHeaderWords (readHeader (now (witness .entry)))) (now (out .entry)) ⌝ }
 {
     match parse_witness_header(witness) {
         WitnessHeaderAnswer::Refused(error) => error_number(error) as u32,
@@ -33,8 +34,7 @@ pub extern "C" fn fowlcredenza_parse_witness_header(witness: &[u8], out: &mut [u
                 header.proof_count as u64,
                 header.state_sequence,
             ];
-            store_words(&words, out);
-            0
+            store_words(&words, out)
         }
     }
 }
@@ -47,8 +47,8 @@ pub extern "C" fn fowlcredenza_next_proof(
     least: u32,
     out: &mut [u8],
 ) -> u32
-    ensures { λ r. ⌜ r ≡ stepNumber (proofStep (now (witness .entry)) (record { offset = offset; least = least })) ⌝ }
-    ensures { λ _. ⌜ now (out .exit) ≡ withWords (proofStepWords (proofStep (now (witness .entry)) (record { offset = offset; least = least }))) (now (out .entry)) ⌝ }
+    ensures { λ r. ⌜ r ≡ wordsNumber (stepNumber (proofStep (now (witness .entry)) (record { offset = offset; least = least }))) (proofStepWords (proofStep (now (witness .entry)) (record { offset = offset; least = least }))) (length (now (out .entry))) ⌝ }
+    ensures { λ _. ⌜ now (out .exit) ≡ wordsAfter (proofStepWords (proofStep (now (witness .entry)) (record { offset = offset; least = least }))) (now (out .entry)) ⌝ }
 {
     match next_proof(witness, ProofCursor { offset, least }) {
         ProofStep::Refused(error) => error_number(error) as u32,
@@ -60,8 +60,7 @@ pub extern "C" fn fowlcredenza_next_proof(
                 next.offset as u64,
                 next.least as u64,
             ];
-            store_words(&words, out);
-            0
+            store_words(&words, out)
         }
     }
 }
@@ -69,8 +68,8 @@ pub extern "C" fn fowlcredenza_next_proof(
 // Stores operation, proof count and sequence of a witness lock whose every proof passes.
 #[no_mangle]
 pub extern "C" fn fowlcredenza_validate_witness(witness: &[u8], out: &mut [u8]) -> u32
-    ensures { λ r. ⌜ r ≡ witnessNumber (readWitness (now (witness .entry))) ⌝ }
-    ensures { λ _. ⌜ now (out .exit) ≡ withWords (witnessWords (readWitness (now (witness .entry)))) (now (out .entry)) ⌝ }
+    ensures { λ r. ⌜ r ≡ wordsNumber (witnessNumber (readWitness (now (witness .entry)))) (witnessWords (readWitness (now (witness .entry)))) (length (now (out .entry))) ⌝ }
+    ensures { λ _. ⌜ now (out .exit) ≡ wordsAfter (witnessWords (readWitness (now (witness .entry)))) (now (out .entry)) ⌝ }
 {
     match validate_witness(witness) {
         WitnessAnswer::Refused(error) => error_number(error) as u32,
@@ -80,8 +79,7 @@ pub extern "C" fn fowlcredenza_validate_witness(witness: &[u8], out: &mut [u8]) 
                 header.proof_count as u64,
                 header.state_sequence,
             ];
-            store_words(&words, out);
-            0
+            store_words(&words, out)
         }
     }
 }

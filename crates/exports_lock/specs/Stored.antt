@@ -1,15 +1,31 @@
--- What the exported lock stores of its answer.
+-- What the exported lock stores of its answer, and the room that it needs for it.
 use Prim.Native.Nat.{ℕ}
-use mathlib.Core.Bool.{cond}
-use mathlib.Core.List.{List, [], _∷_}
+use mathlib.Core.Bool.{Bool, cond}
+use mathlib.Core.List.{List, [], _∷_, _++_}
+use lib.Dec.{leb}
+use lib.ListN.{length}
 use lib.Seq.{sets}
-use Rattle.export_answers.specs.Words.{withWords}
+use Rattle.protocol.specs.Errors.{errorNumber}
+use Rattle.protocol.specs.declared.error.ProtocolError.the-variants.{SlicesDisagree}
+use Rattle.export_answers.specs.Words.{wordBytes}
 use Rattle.account_lock.specs.declared.answer.LockAnswer.{LockAnswer}
+
+-- 01: "slices that don't agree with each other are 7, before all else": `out` is lent for the answer's 56 bytes
+unfoldable pub answerFits : List ℕ → Bool
+answerFits out = leb 56 (length out)
+
+-- the number: the lock's own, 7 where there is no room
+unfoldable pub roomNumber : List ℕ → ℕ → ℕ
+roomNumber out number = cond (answerFits out) number (errorNumber SlicesDisagree)
+
+-- a lent slice afterwards, as it was where there is no room
+unfoldable pub roomAfter : List ℕ → List ℕ → List ℕ → List ℕ
+roomAfter out after before = cond (answerFits out) after before
 
 -- 01: "count and total length of the requests made", and 1 where the digest is reached
 unfoldable pub answerWords : LockAnswer → List ℕ
 answerWords a = a .count ∷ a .length ∷ cond (a .reached) 1 0 ∷ []
 
--- the words, and the digest behind them, zeros where it is not reached, as far as there is room
+-- the words, and the digest behind them, zeros where it is not reached; what is behind it stays
 unfoldable pub answerStored : LockAnswer → List ℕ → List ℕ
-answerStored a out = sets (withWords (answerWords a) out) 24 (a .digest)
+answerStored a out = sets out 0 (wordBytes (answerWords a) ++ a .digest)

@@ -4,18 +4,25 @@ use account_lock::lock;
 use decide_scene::decide_scene;
 use export_answers::store_words;
 use octets::store_bytes;
+use protocol::ProtocolError;
 use protocol::check_number;
+use protocol::error_number;
 ghost use mathlib.Core.Path.{_≡_};
+ghost use Prim.Native.Nat.{_≤_};
 ghost use lib.ListN.{length};
 ghost use Rattle.protocol.specs.Rows.{checkNumber};
 ghost use Rattle.decision.specs.Walk.{answered};
 ghost use Rattle.account_lock.specs.Lock.{lockOf, told};
 ghost use Rattle.scene_reader.specs.Reader.{readOf, storeOf, tableOf};
 ghost use Rattle.decide_scene.specs.Decided.{decided};
-ghost use Rattle.exports_lock.specs.Stored.{answerStored};
+ghost use Rattle.exports_lock.specs.Stored.{answerStored, roomNumber, roomAfter};
+
+// Three words and the digest.
+const ANSWER_LEN: usize = 56;
 
 // Stores count, length and whether the digest is reached, as words, and the digest behind them.
 fn store_answer(answer: LockAnswer, out: &mut [u8])
+    requires { ⌜ 56 ≤ length (now out) ⌝ }
     ensures { λ _. ⌜ now (out .exit) ≡ answerStored answer (now (out .entry)) ⌝ }
 {
     let words = [
@@ -29,7 +36,7 @@ fn store_answer(answer: LockAnswer, out: &mut [u8])
 }
 
 // Decides the transaction that table and store hold, writes the requests to the front of `answer`, and returns document
-// 01's number, 0 where it is accepted.
+// 01's number, 0 where it is accepted. An `out` too short for the answer is 7, and nothing is written.
 #[no_mangle]
 pub extern "C" fn fowlcredenza_lock(
     table: &[u32],
@@ -37,10 +44,13 @@ pub extern "C" fn fowlcredenza_lock(
     answer: &mut [u8],
     out: &mut [u8],
 ) -> u32
-    ensures { λ r. ⌜ r ≡ checkNumber (lockOf (now (table .entry)) (now (store .entry)) (length (now (answer .entry))) .found) ⌝ }
-    ensures { λ _. ⌜ now (answer .exit) ≡ answered (now (answer .entry)) (lockOf (now (table .entry)) (now (store .entry)) (length (now (answer .entry))) .made) ⌝ }
-    ensures { λ _. ⌜ now (out .exit) ≡ answerStored (told (lockOf (now (table .entry)) (now (store .entry)) (length (now (answer .entry))))) (now (out .entry)) ⌝ }
+    ensures { λ r. ⌜ r ≡ roomNumber (now (out .entry)) (checkNumber (lockOf (now (table .entry)) (now (store .entry)) (length (now (answer .entry))) .found)) ⌝ }
+    ensures { λ _. ⌜ now (answer .exit) ≡ roomAfter (now (out .entry)) (answered (now (answer .entry)) (lockOf (now (table .entry)) (now (store .entry)) (length (now (answer .entry))) .made)) (now (answer .entry)) ⌝ }
+    ensures { λ _. ⌜ now (out .exit) ≡ roomAfter (now (out .entry)) (answerStored (told (lockOf (now (table .entry)) (now (store .entry)) (length (now (answer .entry))))) (now (out .entry))) (now (out .entry)) ⌝ }
 {
+    if out.len() < ANSWER_LEN {
+        return error_number(ProtocolError::SlicesDisagree) as u32;
+    }
     let locked = lock(table, store, answer);
     let found = locked.found;
     store_answer(locked, out);
@@ -56,12 +66,15 @@ pub extern "C" fn fowlcredenza_decide_scene(
     answer: &mut [u8],
     out: &mut [u8],
 ) -> u32
-    ensures { λ r. ⌜ r ≡ checkNumber (decided (now (scene .entry)) (length (now (store .entry))) (length (now (table .entry))) (length (now (answer .entry))) .found) ⌝ }
-    ensures { λ _. ⌜ now (store .exit) ≡ storeOf (length (now (store .entry))) (readOf (now (scene .entry)) (length (now (store .entry))) (length (now (table .entry)))) ⌝ }
-    ensures { λ _. ⌜ now (table .exit) ≡ tableOf (length (now (table .entry))) (readOf (now (scene .entry)) (length (now (store .entry))) (length (now (table .entry)))) ⌝ }
-    ensures { λ _. ⌜ now (answer .exit) ≡ answered (now (answer .entry)) (decided (now (scene .entry)) (length (now (store .entry))) (length (now (table .entry))) (length (now (answer .entry))) .made) ⌝ }
-    ensures { λ _. ⌜ now (out .exit) ≡ answerStored (told (decided (now (scene .entry)) (length (now (store .entry))) (length (now (table .entry))) (length (now (answer .entry))))) (now (out .entry)) ⌝ }
+    ensures { λ r. ⌜ r ≡ roomNumber (now (out .entry)) (checkNumber (decided (now (scene .entry)) (length (now (store .entry))) (length (now (table .entry))) (length (now (answer .entry))) .found)) ⌝ }
+    ensures { λ _. ⌜ now (store .exit) ≡ roomAfter (now (out .entry)) (storeOf (length (now (store .entry))) (readOf (now (scene .entry)) (length (now (store .entry))) (length (now (table .entry))))) (now (store .entry)) ⌝ }
+    ensures { λ _. ⌜ now (table .exit) ≡ roomAfter (now (out .entry)) (tableOf (length (now (table .entry))) (readOf (now (scene .entry)) (length (now (store .entry))) (length (now (table .entry))))) (now (table .entry)) ⌝ }
+    ensures { λ _. ⌜ now (answer .exit) ≡ roomAfter (now (out .entry)) (answered (now (answer .entry)) (decided (now (scene .entry)) (length (now (store .entry))) (length (now (table .entry))) (length (now (answer .entry))) .made)) (now (answer .entry)) ⌝ }
+    ensures { λ _. ⌜ now (out .exit) ≡ roomAfter (now (out .entry)) (answerStored (told (decided (now (scene .entry)) (length (now (store .entry))) (length (now (table .entry))) (length (now (answer .entry))))) (now (out .entry))) (now (out .entry)) ⌝ }
 {
+    if out.len() < ANSWER_LEN {
+        return error_number(ProtocolError::SlicesDisagree) as u32;
+    }
     let read = decide_scene(scene, store, table, answer);
     let found = read.found;
     store_answer(read, out);

@@ -1,34 +1,40 @@
 -- What the exported functions on a transaction answer and store.
 use Prim.Native.Nat.{ℕ}
 use mathlib.Core.List.{List, [], _∷_}
-use lib.Seq.{sets}
+use mathlib.Core.Bool.{cond}
+use lib.ListN.{length}
 use Rattle.protocol.specs.Rows.{decide}
-use Rattle.protocol.specs.declared.check.Check.{Check}
-use Rattle.protocol.specs.declared.check.Check.the-variants.{Passed, Failed}
+use Rattle.protocol.specs.declared.check.Check.the-variants.{Failed}
+use Rattle.protocol.specs.declared.error.ProtocolError.the-variants.{SlicesDisagree}
 use Rattle.export_answers.specs.Lent.{sizesFault}
+use Rattle.export_answers.specs.Words.{hashBytes}
 use Rattle.molecule.specs.declared.bytes.PlaceAnswer.{PlaceAnswer}
 use Rattle.molecule.specs.declared.bytes.PlaceAnswer.the-variants.{At, Refused}
 use Rattle.authorization.specs.Digest.{operationRows, digestAnswer, digestOf}
 use Rattle.authorization.specs.declared.digest.AuthorizationDigest.{AuthorizationDigest}
-use Rattle.authorization.specs.declared.answer.Sighash.{Sighash}
+use Rattle.scene_table.specs.Lent.{lentScene}
+use Rattle.scene_table.specs.Valid.{validTable}
+use Rattle.group_sighash.specs.declared.transaction.Sighash.{Sighash}
+use Rattle.group_sighash.specs.GroupSighash.{sighashFound, groupAnswer}
 
 -- where bytes begin, and how many they are
 unfoldable pub placeWords : PlaceAnswer → List ℕ
 placeWords (At p) = p .start ∷ p .len ∷ []
 placeWords (Refused e) = []
 
--- the buffer with the hash at its front, as far as there is room; a refusal leaves it
-unfoldable pub hashAfter : Check → List ℕ → List ℕ → List ℕ
-hashAfter Passed hash out = sets out 0 hash
-hashAfter (Failed e) hash out = out
+-- the bytes of a digest and of a sighash, none where they are refused
+unfoldable pub digestBytes : AuthorizationDigest → List ℕ
+digestBytes answer = hashBytes (answer .found) (answer .digest)
 
-unfoldable pub digestAfter : AuthorizationDigest → List ℕ → List ℕ
-digestAfter answer out = hashAfter (answer .found) (answer .digest) out
-
-unfoldable pub sighashAfter : Sighash → List ℕ → List ℕ
-sighashAfter answer out = hashAfter (answer .found) (answer .hash) out
+unfoldable pub sighashBytes : Sighash → List ℕ
+sighashBytes answer = hashBytes (answer .found) (answer .hash)
 
 -- an account or a sighash of other than 32 bytes is 7, before the operation's 37
 unfoldable pub lentDigest : ℕ → List ℕ → ℕ → List ℕ → List ℕ → AuthorizationDigest
 lentDigest operation account sequence state sighash =
     digestAnswer (decide (sizesFault account sighash) (operationRows operation)) (digestOf operation account sequence state sighash)
+
+-- 01, of the lock: "a table that the reader, scene length aside, leaves for no accepted scene with a store this long: 7"
+unfoldable pub lentSighash : List ℕ → List ℕ → Sighash
+lentSighash table store =
+    cond (validTable table (length store)) (groupAnswer (lentScene table store)) (sighashFound (Failed SlicesDisagree) [])

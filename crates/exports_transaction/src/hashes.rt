@@ -1,30 +1,19 @@
 // The digest that an authorization is over, and the sighash.
 use authorization::AuthorizationDigest;
 use authorization::authorization_digest;
-use authorization::sighash;
 use export_answers::check_sizes;
+use export_answers::store_hash;
+use group_sighash::Sighash;
+use group_sighash::canonical_group_sighash;
 use octets::array_32;
-use octets::store_bytes;
 use protocol::Check;
-use protocol::error_number;
+use protocol::ProtocolError;
+use scene_table::table_valid;
 ghost use mathlib.Core.Path.{_≡_};
+ghost use lib.ListN.{length};
 ghost use Rattle.protocol.specs.Rows.{checkNumber};
-ghost use Rattle.authorization.specs.Sighash.{witnessesOf, sighashAnswer};
-ghost use Rattle.exports_transaction.specs.Answers.{hashAfter, digestAfter, sighashAfter, lentDigest};
-
-// The number of what was found; the hash is stored where all passed.
-fn hash_stored(found: Check, hash: [u8; 32], out: &mut [u8]) -> u32
-    ensures { λ r. ⌜ r ≡ checkNumber found ⌝ }
-    ensures { λ _. ⌜ now (out .exit) ≡ hashAfter found hash (now (out .entry)) ⌝ }
-{
-    match found {
-        Check::Failed(error) => error_number(error) as u32,
-        Check::Passed => {
-            store_bytes(out, 0, &hash);
-            0
-        }
-    }
-}
+ghost use Rattle.export_answers.specs.Words.{storedNumber, storedAfter};
+ghost use Rattle.exports_transaction.specs.Answers.{digestBytes, sighashBytes, lentDigest, lentSighash};
 
 // The digest over an account and a sighash that are lent as slices. One of another length than 32 is 7.
 fn digest_lent(
@@ -64,29 +53,42 @@ pub extern "C" fn fowlcredenza_authorization_digest(
     sighash: &[u8],
     out: &mut [u8],
 ) -> u32
-    ensures { λ r. ⌜ r ≡ checkNumber (lentDigest operation (now (account .entry)) sequence (now (state .entry)) (now (sighash .entry)) .found) ⌝ }
-    ensures { λ _. ⌜ now (out .exit) ≡ digestAfter (lentDigest operation (now (account .entry)) sequence (now (state .entry)) (now (sighash .entry))) (now (out .entry)) ⌝ }
+    ensures { λ r. ⌜ r ≡ storedNumber (checkNumber (lentDigest operation (now (account .entry)) sequence (now (state .entry)) (now (sighash .entry)) .found)) (digestBytes (lentDigest operation (now (account .entry)) sequence (now (state .entry)) (now (sighash .entry)))) (length (now (out .entry))) ⌝ }
+    ensures { λ _. ⌜ now (out .exit) ≡ storedAfter (digestBytes (lentDigest operation (now (account .entry)) sequence (now (state .entry)) (now (sighash .entry)))) (now (out .entry)) ⌝ }
 {
     let answer = digest_lent(operation, account, sequence, state, sighash);
     let found = answer.found;
     let digest = answer.digest;
-    hash_stored(found, digest, out)
+    store_hash(found, digest, out)
 }
 
-// Stores the sighash over a first witness and the further witnesses that `rows` has the places and lengths of in `store`.
+// The sighash of the transaction that table and store hold. A table that no scene leaves with a store this long is 7.
+fn sighash_lent(table: &[u32], store: &[u8]) -> Sighash
+    ensures { λ r. ⌜ r ≡ lentSighash (now (table .entry)) (now (store .entry)) ⌝ }
+{
+    if table_valid(table, store.len()) {
+        canonical_group_sighash(table, store)
+    } else {
+        let none = [0u8; 32];
+        Sighash {
+            found: Check::Failed(ProtocolError::SlicesDisagree),
+            hash: none,
+        }
+    }
+}
+
+// Stores the sighash of the transaction that table and store hold.
 #[no_mangle]
-pub extern "C" fn fowlcredenza_sighash(
-    transaction_hash: &[u8],
-    first: &[u8],
+pub extern "C" fn fowlcredenza_canonical_group_sighash(
+    table: &[u32],
     store: &[u8],
-    rows: &[u32],
     out: &mut [u8],
 ) -> u32
-    ensures { λ r. ⌜ r ≡ checkNumber (sighashAnswer (now («transaction_hash» .entry)) (now (first .entry)) (witnessesOf (now (store .entry)) (now (rows .entry))) .found) ⌝ }
-    ensures { λ _. ⌜ now (out .exit) ≡ sighashAfter (sighashAnswer (now («transaction_hash» .entry)) (now (first .entry)) (witnessesOf (now (store .entry)) (now (rows .entry)))) (now (out .entry)) ⌝ }
+    ensures { λ r. ⌜ r ≡ storedNumber (checkNumber (lentSighash (now (table .entry)) (now (store .entry)) .found)) (sighashBytes (lentSighash (now (table .entry)) (now (store .entry)))) (length (now (out .entry))) ⌝ }
+    ensures { λ _. ⌜ now (out .exit) ≡ storedAfter (sighashBytes (lentSighash (now (table .entry)) (now (store .entry)))) (now (out .entry)) ⌝ }
 {
-    let answer = sighash(transaction_hash, first, store, rows);
+    let answer = sighash_lent(table, store);
     let found = answer.found;
     let hash = answer.hash;
-    hash_stored(found, hash, out)
+    store_hash(found, hash, out)
 }

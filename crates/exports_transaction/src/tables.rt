@@ -7,23 +7,23 @@ use molecule::script_args;
 use molecule::witness_lock;
 use protocol::error_number;
 ghost use mathlib.Core.Path.{_≡_};
+ghost use lib.ListN.{length};
 ghost use Rattle.protocol.specs.Write.{writeNumber};
-ghost use Rattle.export_answers.specs.Words.{withWords, lengthAfter};
+ghost use Rattle.export_answers.specs.Words.{wordsNumber, wordsAfter, lengthAfter};
 ghost use Rattle.molecule.specs.Bytes.{placeNumber, readLock, readScriptArgs};
 ghost use Rattle.molecule.specs.Canonical.{canonicalWritten, canonicalStored};
 ghost use Rattle.exports_transaction.specs.Answers.{placeWords};
 
 // A place's number; its start and length are stored.
 fn place_stored(answer: PlaceAnswer, out: &mut [u8]) -> u32
-    ensures { λ r. ⌜ r ≡ placeNumber answer ⌝ }
-    ensures { λ _. ⌜ now (out .exit) ≡ withWords (placeWords answer) (now (out .entry)) ⌝ }
+    ensures { λ r. ⌜ r ≡ wordsNumber (placeNumber answer) (placeWords answer) (length (now (out .entry))) ⌝ }
+    ensures { λ _. ⌜ now (out .exit) ≡ wordsAfter (placeWords answer) (now (out .entry)) ⌝ }
 {
     match answer {
         PlaceAnswer::Refused(error) => error_number(error) as u32,
         PlaceAnswer::At(place) => {
             let words = [place.start as u64, place.len as u64];
-            store_words(&words, out);
-            0
+            store_words(&words, out)
         }
     }
 }
@@ -31,8 +31,8 @@ fn place_stored(answer: PlaceAnswer, out: &mut [u8]) -> u32
 // Stores place and length of the lock's bytes.
 #[no_mangle]
 pub extern "C" fn fowlcredenza_witness_lock(witness: &[u8], out: &mut [u8]) -> u32
-    ensures { λ r. ⌜ r ≡ placeNumber (readLock (now (witness .entry))) ⌝ }
-    ensures { λ _. ⌜ now (out .exit) ≡ withWords (placeWords (readLock (now (witness .entry)))) (now (out .entry)) ⌝ }
+    ensures { λ r. ⌜ r ≡ wordsNumber (placeNumber (readLock (now (witness .entry)))) (placeWords (readLock (now (witness .entry)))) (length (now (out .entry))) ⌝ }
+    ensures { λ _. ⌜ now (out .exit) ≡ wordsAfter (placeWords (readLock (now (witness .entry)))) (now (out .entry)) ⌝ }
 {
     place_stored(witness_lock(witness), out)
 }
@@ -40,8 +40,8 @@ pub extern "C" fn fowlcredenza_witness_lock(witness: &[u8], out: &mut [u8]) -> u
 // Stores place and length of the args' bytes.
 #[no_mangle]
 pub extern "C" fn fowlcredenza_script_args(script: &[u8], out: &mut [u8]) -> u32
-    ensures { λ r. ⌜ r ≡ placeNumber (readScriptArgs (now (script .entry))) ⌝ }
-    ensures { λ _. ⌜ now (out .exit) ≡ withWords (placeWords (readScriptArgs (now (script .entry)))) (now (out .entry)) ⌝ }
+    ensures { λ r. ⌜ r ≡ wordsNumber (placeNumber (readScriptArgs (now (script .entry)))) (placeWords (readScriptArgs (now (script .entry)))) (length (now (out .entry))) ⌝ }
+    ensures { λ _. ⌜ now (out .exit) ≡ wordsAfter (placeWords (readScriptArgs (now (script .entry)))) (now (out .entry)) ⌝ }
 {
     place_stored(script_args(script), out)
 }

@@ -13,9 +13,11 @@ use Rattle.octets.specs.Lists.{joined}
 use Rattle.blake2b.specs.declared.Blake2b.{Blake2b}
 use Rattle.blake2b.specs.State.{fedAll}
 use Rattle.blake2b.proofs.Feed.{fed-append}
-use Rattle.protocol.specs.Rows.{decide, _▷_}
+use Rattle.protocol.specs.Rows.{Hold, decide, _▷_}
+use Rattle.protocol.proofs.Hold.{hold-split}
 use Rattle.protocol.specs.declared.error.ProtocolError.the-variants.{InvalidWitness}
 use Rattle.protocol.specs.declared.check.Check.the-variants.{Passed, Failed}
+use Rattle.molecule.specs.Table3.{tableRows}
 use Rattle.authorization.specs.Hashed.{hashedWitness}
 use Rattle.authorization.specs.Sighash.{hashedWitnesses}
 use Rattle.scene_table.specs.Valid.{every}
@@ -25,6 +27,7 @@ use Rattle.scene_table.specs.Places.{inputGroup}
 use Rattle.scene_table.proofs.PlaceLaws.{lent-group, lent-given}
 use Rattle.group_sighash.specs.Witnesses.{groupWitnesses, groupOf, headOf, firstWitness, otherWitnesses, witnessFits, otherRows}
 use Rattle.group_sighash.specs.Hashed.{hashedOf, hashedFrom, groupFrom, witnessAt, isHashed, isInput, Next, FirstOther}
+use Rattle.group_sighash.specs.GroupSighash.{sighashRows}
 
 -- the definition's two parts
 hashed-split : (is : List Input) (ws : List (List ℕ)) → hashedOf is ws ≡ groupWitnesses is ws ++ drop (length is) ws
@@ -226,7 +229,12 @@ module _ (s : Scene) where
   unfolding otherRows decide _▷_
   others-fail e = rw e
 
--- and is fed
+-- where the sighash's rows pass, the first witness is a table
+pub first-table : (s : Scene) → Hold (sighashRows s) → Hold (tableRows InvalidWitness (firstWitness s))
+unfolding sighashRows
+first-table s h = hold-split (tableRows InvalidWitness (firstWitness s)) (otherRows s) (h .1 .1) .0
+
+-- a hashed witness is fed
 pub fed-next : (h : Blake2b) (w : List ℕ) (ws : List (List ℕ))
     → fedAll h (hashedWitnesses (w ∷ ws)) ≡ fedAll (fedAll h (hashedWitness w)) (hashedWitnesses ws)
 unfolding hashedWitnesses joined

@@ -3,6 +3,7 @@ mod hashed; // hashed.rt
 mod witnesses; // witnesses.rt
 mod transaction; // transaction.rt
 
+pub use self::transaction::Sighash;
 pub use self::transaction::canonical_group_sighash;
 pub use self::witnesses::check_group;
 pub use self::witnesses::check_others;

@@ -2,20 +2,28 @@
 use crate::hashed::first_other;
 use crate::hashed::next_hashed;
 use crate::hashed::witness_at;
+use crate::witnesses::check_hashed;
 use crate::witnesses::first_witness;
-use authorization::Sighash;
-use authorization::begin_sighash;
+use authorization::feed_canonical_witness;
 use authorization::feed_witness;
 use blake2b::Blake2b;
 use octets::part;
+use protocol::Check;
 use scene_table::transaction_hash;
 use scene_table::witness_count;
 ghost use mathlib.Core.Path.{_≡_};
 ghost use Rattle.blake2b.specs.State.{fedAll};
+ghost use Rattle.protocol.specs.Rows.{Hold};
 ghost use Rattle.authorization.specs.Sighash.{hashedWitnesses};
 ghost use Rattle.scene_table.specs.Lent.{lentScene};
 ghost use Rattle.group_sighash.specs.Witnesses.{otherWitnesses};
-ghost use Rattle.group_sighash.specs.GroupSighash.{groupAnswer};
+ghost use Rattle.group_sighash.specs.GroupSighash.{sighashRows, groupSighash, groupAnswer};
+
+// What was found, and the hash: zeros where a witness is refused.
+pub struct Sighash {
+    pub found: Check,
+    pub hash: [u8; 32],
+}
 
 // The hashed witnesses behind the first of the group are fed.
 fn feed_others(hash: Blake2b, table: &[u32], store: &[u8]) -> Blake2b
@@ -31,14 +39,37 @@ fn feed_others(hash: Blake2b, table: &[u32], store: &[u8]) -> Blake2b
     fed
 }
 
-// The sighash of the transaction, or 22 where the first witness of the group is no table.
-pub fn canonical_group_sighash(table: &[u32], store: &[u8]) -> Sighash
-    ensures { λ r. ⌜ r ≡ groupAnswer (lentScene (now (table .entry)) (now (store .entry))) ⌝ }
+// The sighash of witnesses that pass.
+fn hash_group(table: &[u32], store: &[u8]) -> [u8; 32]
+    requires { ⌜ Hold (sighashRows (lentScene (now table) (now store))) ⌝ }
+    ensures { λ r. ⌜ r ≡ groupSighash (lentScene (now (table .entry)) (now (store .entry))) ⌝ }
 {
     let place = transaction_hash(table);
     let transaction = part(store, place.start, place.len);
-    let canonical = begin_sighash(transaction, first_witness(table, store));
-    let found = canonical.found;
-    let fed = canonical.hash;
-    Sighash::of(found, feed_others(fed, table, store))
+    let begun = Blake2b::new().update(transaction);
+    let fed = feed_canonical_witness(begun, first_witness(table, store)).hash;
+    feed_others(fed, table, store).finish().digest()
+}
+
+// The sighash of the transaction, or 22: the first witness of the group is missing or no table, or a hashed witness is too
+// long.
+pub fn canonical_group_sighash(table: &[u32], store: &[u8]) -> Sighash
+    ensures { λ r. ⌜ r ≡ groupAnswer (lentScene (now (table .entry)) (now (store .entry))) ⌝ }
+{
+    match check_hashed(table, store) {
+        Check::Failed(error) => {
+            let none = [0u8; 32];
+            Sighash {
+                found: Check::Failed(error),
+                hash: none,
+            }
+        }
+        Check::Passed => {
+            let hash = hash_group(table, store);
+            Sighash {
+                found: Check::Passed,
+                hash: hash,
+            }
+        }
+    }
 }

@@ -7,6 +7,7 @@ use account_witness::WitnessHeaderAnswer;
 use account_witness::parse_witness_header;
 use molecule::PlaceAnswer;
 use molecule::bytes_in;
+use molecule::canonical_parts;
 use molecule::witness_lock;
 use octets::part;
 use octets::u8_at;
@@ -20,6 +21,7 @@ ghost use Rattle.molecule.specs.Bytes.{lockRows};
 ghost use Rattle.account_witness.specs.Header.{headerRows};
 ghost use Rattle.scene_table.specs.Lent.{lentScene};
 ghost use Rattle.group_sighash.specs.Witnesses.{firstWitness, lockIn, witnessRows, groupRows, otherRows};
+ghost use Rattle.group_sighash.specs.GroupSighash.{sighashRows};
 
 const MAX_WITNESS: usize = 132096;
 
@@ -93,4 +95,19 @@ pub fn check_others(table: &[u32], store: &[u8]) -> Check
         i = next_hashed(table, i + 1);
     }
     Check::Passed
+}
+
+// The witnesses that are hashed, as the sighash needs them.
+pub(crate) fn check_hashed(table: &[u32], store: &[u8]) -> Check
+    ensures { λ r. ⌜ r ≡ decide Check.Passed (sighashRows (lentScene (now (table .entry)) (now (store .entry)))) ⌝ }
+{
+    let invalid = ProtocolError::InvalidWitness;
+    let found = is_input(table, next_hashed(table, 0));
+    let first = first_witness(table, store);
+    let canonical = canonical_parts(first).found;
+    Check::Passed
+        .require(found, invalid)
+        .require(first.len() <= MAX_WITNESS, invalid)
+        .and(canonical)
+        .and(check_others(table, store))
 }

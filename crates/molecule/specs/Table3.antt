@@ -5,7 +5,6 @@ use mathlib.Core.List.{List, [], _∷_}
 use lib.Dec.{eqb, leb}
 use lib.ListN.{length, take, drop}
 use Rattle.octets.specs.Le.{numberAt}
-use Rattle.protocol.specs.Errors.{errorNumber}
 use Rattle.protocol.specs.Rows.{Row, row, decide}
 use Rattle.protocol.specs.declared.error.ProtocolError.{ProtocolError}
 use Rattle.protocol.specs.declared.error.ProtocolError.the-variants.{InvalidWitness}
@@ -65,8 +64,3 @@ table3Bytes r = tableBytes (r .first ∷ r .second ∷ r .third ∷ [])
 -- what the fields of an answer say of the bytes s
 unfoldable pub readingOf : List ℕ → TableFields → Table3
 readingOf s f = record { first = between s (f .first) (f .second); second = between s (f .second) (f .third); third = drop (f .third) s }
-
--- document 01's number of the answer
-abbrev pub tableNumber : TableAnswer → ℕ
-tableNumber (Fields f) = 0
-tableNumber (Refused e) = errorNumber e

@@ -1,6 +1,6 @@
 //! The lock's args, algorithms and operations.
 
-use super::calls::{numbered, place, Calls, Words, DISAGREE};
+use super::calls::{numbered, place, word_bytes, Calls, Words, DISAGREE};
 use crate::changes;
 use crate::exports;
 use crate::hex::Hex;
@@ -41,13 +41,13 @@ fn every_algorithm(calls: &mut Calls) {
 }
 
 fn every_operation(calls: &mut Calls) {
-    let name = "capability_for_operation";
-    for operation in 0..=u8::MAX {
-        let result = exports::capability_for_operation(operation);
-        let expected = numbered(capability_for_operation(operation)).map_or(0, u32::from);
+    for operation in (0..=u8::MAX).chain([1, 2, 3].repeat(20)) {
+        let bit = numbered(capability_for_operation(operation)).map(u64::from);
+        let expected = bit.map(|bit| word_bytes(vec![bit]));
         let input = || format!("{operation}");
-        calls.report.answered(name, result);
-        calls.report.compare(name, 0, input, &result, &expected);
+        calls.store("capability_for_operation", 0, expected, input, |out| {
+            exports::capability_for_operation(operation, out)
+        });
     }
 }
 

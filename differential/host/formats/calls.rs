@@ -8,7 +8,7 @@ use ckb_account_protocol::ProtocolError;
 /// Bytes behind the buffer that is lent, to see that they stay.
 const BEHIND: usize = 16;
 /// Room for the words of any reader, and for one more.
-const WORDS: usize = 8 * 14;
+const ENOUGH: usize = 8 * 14;
 /// Results below this length are short.
 const SHORT_RESULT: usize = 150;
 /// The number where the buffer is too short.
@@ -51,55 +51,62 @@ impl Calls<'_> {
         self.report.compare(name, size, input, &seen, &expected);
     }
 
-    /// Compares a reader: it stores the words of the original's answer, as far as there is room, or nothing.
+    /// Compares a function that stores these bytes at the front of `out`, or refuses: in a buffer that is long enough, and
+    /// now and then in one a byte too short, one just as long, and one of any length.
+    pub fn store(
+        &mut self,
+        name: &'static str,
+        size: usize,
+        expected: Result<Vec<u8>, u32>,
+        input: impl Fn() -> String,
+        function: impl Fn(&mut [u8]) -> u32,
+    ) {
+        let length = expected.as_ref().map_or(0, Vec::len);
+        let rooms = match self.prng.up_to(3) {
+            0 => vec![length.saturating_sub(1), length, self.prng.up_to(ENOUGH)],
+            _ => vec![ENOUGH],
+        };
+        for room in rooms {
+            let before = self.prng.bytes(room + BEHIND);
+            let mut buffer = before.clone();
+            let number = function(&mut buffer[..room]);
+            let seen = Seen {
+                number,
+                len: 0,
+                buffer: Hex(buffer),
+            };
+            let input = || format!("out {room}, {}", input());
+            let expected = Seen {
+                len: 0,
+                ..after_write(&expected, before, room, 0)
+            };
+            self.compare(name, size, input, seen, expected);
+        }
+    }
+
+    /// Compares a reader: it stores the words of the original's answer.
     pub fn read(
         &mut self,
         name: &'static str,
         bytes: &[u8],
         expected: Words,
-        reader: impl FnOnce(&[u8], &mut [u8]) -> u32,
+        reader: impl Fn(&[u8], &mut [u8]) -> u32,
     ) {
-        let room = match self.prng.up_to(9) {
-            0 => self.prng.up_to(WORDS),
-            _ => WORDS,
-        };
-        let before = self.prng.bytes(room + BEHIND);
-        let mut buffer = before.clone();
-        let number = reader(bytes, &mut buffer[..room]);
-        let seen = Seen {
-            number,
-            len: 0,
-            buffer: Hex(buffer),
-        };
-        let input = || format!("out {room}, {:?}", Hex(bytes.to_vec()));
-        let expected = after_front(numbered(expected).map(word_bytes), before, room);
-        self.compare(name, bytes.len(), input, seen, expected);
+        let expected = numbered(expected).map(word_bytes);
+        let input = || format!("{:?}", Hex(bytes.to_vec()));
+        self.store(name, bytes.len(), expected, input, |out| reader(bytes, out));
     }
 
-    /// Compares a function that stores a hash, as far as there is room, or nothing.
+    /// Compares a function that stores a hash.
     pub fn hash(
         &mut self,
         name: &'static str,
         size: usize,
         expected: Result<[u8; 32], u32>,
-        input: impl FnOnce() -> String,
-        function: impl FnOnce(&mut [u8]) -> u32,
+        input: impl Fn() -> String,
+        function: impl Fn(&mut [u8]) -> u32,
     ) {
-        let room = match self.prng.up_to(9) {
-            0 => self.prng.up_to(40),
-            _ => 32,
-        };
-        let before = self.prng.bytes(room + BEHIND);
-        let mut buffer = before.clone();
-        let number = function(&mut buffer[..room]);
-        let seen = Seen {
-            number,
-            len: 0,
-            buffer: Hex(buffer),
-        };
-        let input = || format!("out {room}, {}", input());
-        let expected = after_front(expected.map(Vec::from), before, room);
-        self.compare(name, size, input, seen, expected);
+        self.store(name, size, expected.map(Vec::from), input, function);
     }
 
     /// Compares a writer in a buffer of `room` bytes with the bytes that the original gives, or with a refusal.
@@ -161,22 +168,7 @@ pub fn word_bytes(words: Vec<u64>) -> Vec<u8> {
     words.into_iter().flat_map(u64::to_le_bytes).collect()
 }
 
-/// The bytes at the front of the buffer, as far as there is room, or the buffer as it was.
-fn after_front(answer: Result<Vec<u8>, u32>, mut buffer: Vec<u8>, room: usize) -> Seen {
-    let (number, bytes) = match answer {
-        Ok(bytes) => (0, bytes),
-        Err(number) => (number, Vec::new()),
-    };
-    for (place, byte) in buffer[..room].iter_mut().zip(bytes) {
-        *place = byte;
-    }
-    Seen {
-        number,
-        len: 0,
-        buffer: Hex(buffer),
-    }
-}
-
+/// The bytes at the front of the buffer and their length, or both as they were.
 fn after_write(answer: &Result<Vec<u8>, u32>, mut buffer: Vec<u8>, room: usize, len: u64) -> Seen {
     let (number, len) = match answer {
         Err(number) => (*number, len),

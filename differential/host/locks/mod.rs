@@ -5,6 +5,7 @@ mod assembly;
 mod faults;
 mod plan;
 pub mod record;
+mod room;
 mod runs;
 pub mod sample_files;
 mod tables;
@@ -116,5 +117,6 @@ pub fn run(report: &mut Report, long: bool) {
     random(&mut runs, &rows, if long { LONG } else { RANDOM });
     short_buffers(&mut runs);
     tables::run(&mut runs);
+    room::run(&mut runs);
     report.expect_each("lock", &NUMBERS, LEAST);
 }

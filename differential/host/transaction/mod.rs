@@ -12,11 +12,11 @@ use crate::report::Report;
 
 /// The numbers that each function can answer; a run meets all of them.
 const ANSWERS: [(&str, &[u32]); 5] = [
-    ("witness_lock", &[0, 22]),
-    ("script_args", &[0, 20]),
+    ("witness_lock", &[0, 5, 22]),
+    ("script_args", &[0, 5, 20]),
     ("canonical_witness", &[0, 5, 22]),
-    ("authorization_digest", &[0, 7, 37]),
-    ("sighash", &[0, 22]),
+    ("authorization_digest", &[0, 5, 7, 37]),
+    ("canonical_group_sighash", &[0, 5, 7, 22]),
 ];
 
 pub fn run(report: &mut Report) {

@@ -8,15 +8,15 @@ use ckb_std::{Input, Scene};
 
 /// The longest witness that the lock loads.
 const LONGEST: usize = 132_096;
-/// Lengths about that of the lock's first try to load, and the longest.
-const LENGTHS: [usize; 6] = [0, 1, 255, 256, 257, LONGEST];
+/// Lengths about that of the lock's first try to load, the longest, and one more.
+const LENGTHS: [usize; 7] = [0, 1, 255, 256, 257, LONGEST, LONGEST + 1];
 
 /// No bytes, few, a length at a limit, or a table.
 fn witness(prng: &mut Prng) -> Vec<u8> {
     match prng.up_to(9) {
         0 | 1 => Vec::new(),
         2 => {
-            let last = if prng.up_to(30) == 0 { 5 } else { 4 };
+            let last = if prng.up_to(20) == 0 { 6 } else { 4 };
             let length = LENGTHS[prng.up_to(last)];
             prng.bytes(length)
         }
@@ -38,20 +38,34 @@ fn first_witness(prng: &mut Prng) -> Vec<u8> {
         0 => changes::random(prng, &table),
         1 => tables::loose(prng, &table),
         2 => witness(prng),
+        3 if prng.up_to(9) == 0 => long_table(prng),
         _ => table,
     }
 }
 
-/// A scene whose first group input has a witness.
+/// A table of the longest length, or one longer: its third field has the bytes that are missing.
+fn long_table(prng: &mut Prng) -> Vec<u8> {
+    let length = LONGEST + prng.up_to(1);
+    let mut table = tables::strict(prng, 200);
+    let missing = length - table.len();
+    table.extend(prng.bytes(missing));
+    table[..4].copy_from_slice(&(length as u32).to_le_bytes());
+    table
+}
+
+/// A scene whose first group input mostly has a witness; the group may have no input, or none with a witness.
 pub fn random(prng: &mut Prng) -> Scene {
     let inputs = 1 + prng.up_to(6);
-    let group = prng.up_to(inputs - 1);
+    let group = match prng.up_to(20) {
+        0 => inputs,
+        _ => prng.up_to(inputs - 1),
+    };
     let input = |i: usize, prng: &mut Prng| Input {
         group: i == group || group < i && prng.up_to(1) == 0,
         ..samples::spend().inputs[0].clone()
     };
     let witnesses = match prng.up_to(2) {
-        0 => group + 1 + prng.up_to(inputs - group - 1),
+        0 => prng.up_to(inputs),
         1 => inputs,
         _ => inputs + 1 + prng.up_to(4),
     };
@@ -61,6 +75,8 @@ pub fn random(prng: &mut Prng) -> Scene {
         witnesses: (0..witnesses).map(|_| witness(prng)).collect(),
         ..samples::spend()
     };
-    scene.witnesses[group] = first_witness(prng);
+    if let Some(witness) = scene.witnesses.get_mut(group) {
+        *witness = first_witness(prng);
+    }
     scene
 }

@@ -1,90 +1,60 @@
-//! The sighash beside the lock's own over a scene. The further witnesses are selected here, in document 01's order.
+//! The sighash beside the lock's own, over scenes and over any table.
 
 use super::scenes;
-use crate::exports_transaction::{self as exports, LentSighash};
-use crate::formats::calls::{numbered, Calls};
-use crate::hex::Hex;
-use crate::prng::Prng;
+use crate::exports_transaction as exports;
+use crate::formats::calls::{numbered, Calls, DISAGREE};
+use crate::lent::Lent;
+use crate::scene_text::text;
+use crate::scenes::tables::{any_counts, entries, other_values};
+use crate::table;
 use ckb_account_lock::opened;
-use ckb_std::{serve, Scene};
+use ckb_std::serve;
 
 const RANDOM: usize = 6_000;
+/// How many scenes have their tables damaged in every entry.
+const TABLES: usize = 8;
 
-/// The witnesses that are hashed: those of the group's inputs up to the first that is missing, then those behind the
-/// last input's.
-fn hashed(scene: &Scene) -> Vec<&[u8]> {
-    let group = (0..scene.inputs.len()).filter(|i| scene.inputs[*i].group);
-    let present = group.map_while(|i| scene.witnesses.get(i));
-    let extra = scene.witnesses.iter().skip(scene.inputs.len());
-    present.chain(extra).map(Vec::as_slice).collect()
-}
-
-/// Witnesses in a store, in any order and with bytes between them, and the place and length of each.
-struct Stored {
-    bytes: Vec<u8>,
-    rows: Vec<u32>,
-}
-
-/// Places the witnesses from the last on or from the first on.
-fn store(prng: &mut Prng, witnesses: &[&[u8]]) -> Stored {
-    let mut bytes = Vec::new();
-    let mut rows = vec![0; 2 * witnesses.len()];
-    let mut order: Vec<usize> = (0..witnesses.len()).collect();
-    if prng.up_to(1) == 0 {
-        order.reverse();
-    }
-    for i in order {
-        let gap = prng.up_to(20);
-        bytes.extend(prng.bytes(gap));
-        rows[2 * i] = bytes.len() as u32;
-        rows[2 * i + 1] = witnesses[i].len() as u32;
-        bytes.extend(witnesses[i]);
-    }
-    Stored { bytes, rows }
-}
-
-/// Rows that name the same witnesses by other numbers: a last one that the store's end cuts off, an empty one past the
-/// store's end, and an entry that has no length.
-fn renamed(prng: &mut Prng, stored: &mut Stored) {
-    let length = stored.bytes.len() as u32;
-    for row in stored.rows.chunks_exact_mut(2) {
-        if row[1] == 0 && prng.up_to(3) == 0 {
-            row[0] = [length, length + 1, u32::MAX][prng.up_to(2)];
-            row[1] = prng.next() as u32;
-        } else if row[0] + row[1] == length && row[0] < length && prng.up_to(1) == 0 {
-            row[1] += [1, 1000, u32::MAX - row[1]][prng.up_to(2)];
-        }
-    }
-    if prng.up_to(4) == 0 {
-        stored.rows.push(prng.next() as u32);
-    }
-}
-
-fn compare(calls: &mut Calls, scene: &Scene) {
-    let witnesses = hashed(scene);
-    let mut stored = store(&mut calls.prng, &witnesses[1..]);
-    renamed(&mut calls.prng, &mut stored);
-    let lent = LentSighash {
-        transaction_hash: &scene.tx_hash,
-        first: witnesses[0],
-        store: &stored.bytes,
-        rows: &stored.rows,
+/// 7 where no scene leaves the table, else what the original says of the scene that table and store hold.
+fn compare(calls: &mut Calls, lent: &Lent) {
+    let expected = match table::valid(&lent.table, lent.store.len()) {
+        true => numbered(serve(&lent.scene(), opened::canonical_group_sighash).0),
+        false => Err(DISAGREE),
     };
-    let (expected, _) = serve(scene, opened::canonical_group_sighash);
-    let input = || {
-        let hex = |witness: &&[u8]| format!("{:?}", Hex(witness.to_vec()));
-        let witnesses: Vec<String> = witnesses.iter().map(hex).collect();
-        format!("rows {:?}, witnesses {}", stored.rows, witnesses.join("; "))
-    };
-    let size = witnesses.concat().len();
-    calls.hash("sighash", size, numbered(expected), input, |out| {
-        exports::sighash(&lent, out)
+    let input = || format!("store of {}, table {:?}", lent.store.len(), lent.table);
+    let size = lent.store.len();
+    calls.hash("canonical_group_sighash", size, expected, input, |out| {
+        exports::canonical_group_sighash(&lent.table, &lent.store, out)
     });
 }
 
+fn damaged(calls: &mut Calls, lent: &Lent) {
+    let mut copy = lent.clone();
+    copy.store.extend([0xcc; 70]);
+    for i in entries(&lent.table, &mut calls.prng) {
+        for value in other_values(lent.table[i], &mut calls.prng) {
+            copy.table[i] = value;
+            compare(calls, &copy);
+        }
+        copy.table[i] = lent.table[i];
+    }
+    for length in [0, lent.store.len() - 1] {
+        let store = lent.store[..length].to_vec();
+        let table = lent.table.clone();
+        compare(calls, &Lent { store, table });
+    }
+}
+
 pub fn run(calls: &mut Calls) {
-    for _ in 0..RANDOM {
+    for (table, used) in any_counts() {
+        let store = vec![0; used];
+        compare(calls, &Lent { store, table });
+    }
+    for turn in 0..RANDOM {
         let scene = scenes::random(&mut calls.prng);
-        compare(calls, &scene);
+        let lent = Lent::read(&text(&scene));
+        compare(calls, &lent);
+        if turn < TABLES {
+            damaged(calls, &lent);
+        }
     }
 }

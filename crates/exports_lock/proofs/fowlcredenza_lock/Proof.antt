@@ -1,25 +1,38 @@
--- `exports_lock::fowlcredenza_lock` meets its contract, as its calls do. Assumes nothing.
-use mathlib.Core.Path.{ap, _∙_}
+-- `exports_lock::fowlcredenza_lock` meets its contract, by whether there is room for the answer. Assumes nothing.
 use Rattle.account_lock.specs.Lock.{told}
+use Rattle.exports_lock.specs.Stored.{roomNumber, roomAfter}
+use Rattle.exports_lock.proofs.Room.{room-yes, room-no}
 use borrow.Author.Needs.{needs}
 use Rattle.exports_lock.proofs.fowlcredenza_lock.Statement.{statement}
 use Rattle.exports_lock.proofs.fowlcredenza_lock.Tie as tie
 
 returns : tie.Need-returns
-unfolding told
+unfolding roomNumber roomAfter
 returns c =
+    let e = room-no (c .before .before .before .before .before .before .args .out .now) (c .before .if1 .taken) in
+    (rw e (c .error-number .ensures), (rw e, rw e))
+
+returns-2 : tie.Need-returns-2
+unfolding told roomNumber roomAfter
+returns-2 c =
     let stored = c .before .before .before in
-    let decided = stored .before .before .before .before .lock .ensures in
-    (rw (decided .0) at (c .check-number .ensures), (decided .1 .0, rw (decided .0) at (stored .store-answer .ensures)))
+    let decided = stored .before .before .before .before in
+    let test = decided .before .before in
+    let e = room-yes (test .before .before .before .before .before .args .out .now) (test .if1 .left) in
+    let answer = decided .lock .ensures in
+    (rw e (rw (answer .0) at (c .check-number .ensures)), (rw e (answer .1 .0), rw e (rw (answer .0) at (stored .store-answer .ensures))))
 
 pub fowlcredenza-lock-spec : {M : Type 1} → statement M
 fowlcredenza-lock-spec =
     tie.close
     (tie.spec
     (λ c κs. search needs)
+    (λ c. search needs)
+    returns
     (λ c κs. search needs)
     (λ c κs. search needs)
+    (λ c κs. search needs)
     (λ c. search needs)
     (λ c. search needs)
     (λ c. search needs)
-    returns)
+    returns-2)

@@ -16,7 +16,7 @@ returns c =
     let p = c .before .before .before .before .before .before .before .before .before .before in
     let s = lentScene (now (p .args .table)) (now (p .args .store)) in
     ap (λ (q : AuthorizationDigest). q .digest) (c .before .authorization-digest .ensures)
-    ∙ rw (c .before .before .u64-at .ensures, c .before .before .before .before .canonical-group-sighash .ensures, c .before .before .before .before .before .array-32 .ensures, array-whole 32 (now (p .args .account-id)) (p .pre .whole), sighash-given s (p .pre .table))
+    ∙ rw (c .before .before .u64-at .ensures, c .before .before .before .before .canonical-group-sighash .ensures, c .before .before .before .before .before .array-32 .ensures, array-whole 32 (now (p .args .account-id)) (p .pre .whole), sighash-given s (p .pre .witnesses))
     (digest-given _ _ _ _ _ (p .pre .known))
 
 pub digest-of-spec : {M : Type 1} → statement M

@@ -4,7 +4,9 @@ use Rattle.account_lock.specs.Lock.{lateRows}
 use mathlib.Core.Path.{_≡_, refl, sym, ap, _∙_}
 use denote.Ref.{now}
 use Rattle.protocol.specs.Rows.{decide, _▷_, _then_}
+use Rattle.protocol.proofs.Hold.{passed-hold}
 use Rattle.scene_table.specs.Lent.{lentScene}
+use Rattle.group_sighash.specs.Witnesses.{otherRows}
 use lib.ListN.{length}
 use Rattle.state_transition.specs.declared.resolve.ResolvedState.{ResolvedState}
 use Rattle.state_transition.specs.Resolve.{resolvedOf}
@@ -12,7 +14,7 @@ use Rattle.decision.specs.Walk.{answered}
 use Rattle.account_lock.specs.Lock.{account, operation, current, Result, refused, told}
 use Rattle.account_lock.specs.Settled.{resolved}
 use Rattle.account_lock.proofs.Resolved.{state-current}
-use Rattle.account_lock.proofs.LockLaws.{group-operation, resolved-found, late-found, late-refused, late-walked}
+use Rattle.account_lock.proofs.LockLaws.{group-operation, then-passed, resolved-found, late-found, late-refused, late-walked}
 use borrow.Author.Needs.{needs}
 use Rattle.account_lock.proofs.account.lock_account.Statement.{statement}
 use Rattle.account_lock.proofs.account.lock_account.Tie as tie
@@ -30,6 +32,7 @@ walk-account-requires c κs =
     let s = lentScene (now (p .args .table)) (now (p .args .store)) in
     record {
       named = p .pre;
+      others = passed-hold (otherRows s) (sym (c .before .before .before .before .before .check-others .ensures) ∙ then-passed _ _ (sym (c .before .before .before .before .and2 .ensures) ∙ c .before .before .enum-told .given .1) .1);
       current = c .before .current-state .ensures ∙ rw (c .before .before .before .before .before .before .before .before .resolve-state .ensures, c .before .before .before .before .before .before .before .before .before .u8-at .ensures, p .pre .account, p .pre .witness) (state-current (operation s) (account s) s);
     }
 

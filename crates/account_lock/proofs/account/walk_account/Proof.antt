@@ -14,7 +14,7 @@ use Rattle.account_lock.proofs.account.walk_account.Tie as tie
 digest-of-requires : tie.Need-digest-of-requires
 digest-of-requires c κs =
     let p = c .before .before .before .before .before .before .before in
-    rw (c .u8-at .ensures) (named-authorized _ _ (lentScene (now (p .args .table)) (now (p .args .store))) (p .pre .named))
+    rw (c .u8-at .ensures) (named-authorized _ _ (lentScene (now (p .args .table)) (now (p .args .store))) (p .pre .named) (p .pre .others))
 
 returns : tie.Need-returns
 unfolding told walkResult walked walkedOf walkSetting sceneDeps settingOf digest operation

@@ -4,8 +4,7 @@ use Prim.Native.Nat.{_*_, _-_, _≤_}
 use native.Mathlib.Omega.{arith}
 use lib.ListN.{length, drop}
 use lib.Seq.{sets, length-sets}
-use Rattle.octets.specs.Table.{numbers}
-use Rattle.export_answers.specs.Words.{words, withWords}
+use Rattle.export_answers.specs.Words.{wordBytes}
 use Rattle.export_answers.proofs.Table64.{word-stored, words-stored}
 use borrow.Author.Needs.{needs}
 use Rattle.export_answers.proofs.words.store_each.Statement.{statement}
@@ -13,13 +12,12 @@ use Rattle.export_answers.proofs.words.store_each.Tie as tie
 
 abbrev Inv-loop : tie.InvT-loop
 Inv-loop vs out₀ i₀ out i =
-    (i ≤ length vs) × (length out ≡ length out₀) × (sets out (8 * i) (numbers (words (drop i vs))) ≡ withWords vs out₀)
+    (i ≤ length vs) × (length out ≡ length out₀) × (sets out (8 * i) (wordBytes (drop i vs)) ≡ sets out₀ 0 (wordBytes vs))
 
 abbrev μ-loop : tie.MeasureT-loop
 μ-loop vs out₀ i₀ out i = length vs - i
 
 loop-holds : tie.Need-loop-holds Inv-loop μ-loop
-unfolding withWords
 loop-holds c = (omega arith, refl, refl)
 
 loop-again : tie.Need-loop-again Inv-loop μ-loop

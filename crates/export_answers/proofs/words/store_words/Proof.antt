@@ -1,14 +1,23 @@
--- `export_answers::words::store_words` meets its contract: the front part is the words, and what is behind it stays. Assumes nothing.
-use Rattle.export_answers.proofs.Table64.{words-front}
+-- `export_answers::words::store_words` meets its contract: where there is room the front part is the words. Assumes nothing.
+use mathlib.Core.Path.{_∙_}
+use Rattle.export_answers.proofs.Table64.{words-front, words-fit, words-short}
 use borrow.Author.Needs.{needs}
 use Rattle.export_answers.proofs.words.store_words.Statement.{statement}
 use Rattle.export_answers.proofs.words.store_words.Tie as tie
 
 returns : tie.Need-returns
 returns c =
-    let c4 = c .before .before .before .before in
-    let a = c4 .before .before .before .args in
-    words-front (a .words .now) (a .out .now) _ (c4 .if1 .taken) (c .before .before .store-each .ensures)
+    let test = c .before .before .before .before in
+    let a = test .before .before .before .args in
+    let fit = words-fit (a .words .now) (a .out .now) (test .if1 .taken) in
+    (fit .0, words-front (a .words .now) (a .out .now) _ (test .if1 .taken) (c .before .before .store-each .ensures) ∙ fit .1)
+
+returns-2 : tie.Need-returns-2
+returns-2 c =
+    let test = c .before in
+    let a = test .before .before .before .args in
+    let short = words-short (a .words .now) (a .out .now) (test .if1 .left) in
+    (c .too-short .ensures ∙ short .0, short .1)
 
 pub store-words-spec : {M : Type 1} → statement M
 store-words-spec =
@@ -22,5 +31,4 @@ store-words-spec =
     (λ c κs. search needs)
     (λ c. search needs)
     returns
-    (λ c. search needs)
-    (λ c. search needs))
+    returns-2)

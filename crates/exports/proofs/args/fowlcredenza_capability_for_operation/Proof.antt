@@ -1,17 +1,23 @@
 -- `exports::args::fowlcredenza_capability_for_operation` meets its contract, by cases of the answer. Assumes nothing.
 use mathlib.Core.Path.{sym, _∙_}
-use Rattle.exports.specs.Readers.{capabilityBit}
+use Rattle.export_answers.proofs.Fits.{no-words-number, no-words-after}
+use Rattle.exports.specs.Readers.{capabilityWords}
 use borrow.Author.Needs.{needs}
 use Rattle.exports.proofs.args.fowlcredenza_capability_for_operation.Statement.{statement}
 use Rattle.exports.proofs.args.fowlcredenza_capability_for_operation.Tie as tie
 
 returns : tie.Need-returns
-unfolding capabilityBit
-returns c = rw (sym (c .before .before .capability-for-operation .ensures) ∙ c .enum-told .given .1)
+unfolding capabilityWords
+returns c =
+    let e = sym (c .before .before .before .before .capability-for-operation .ensures) ∙ c .before .before .error .given .1 in
+    (rw e (c .error-number .ensures ∙ no-words-number _ _), rw e (no-words-after _))
 
 returns-2 : tie.Need-returns-2
-unfolding capabilityBit
-returns-2 c = rw (sym (c .before .before .before .capability-for-operation .ensures) ∙ c .before .bit .given .1)
+unfolding capabilityWords
+returns-2 c =
+    let store = c .before .before in
+    let e = sym (store .before .before .before .before .before .before .capability-for-operation .ensures) ∙ store .before .before .before .before .bit .given .1 in
+    rw e (store .store-words .ensures)
 
 pub fowlcredenza-capability-for-operation-spec : {M : Type 1} → statement M
 fowlcredenza-capability-for-operation-spec =
@@ -19,7 +25,12 @@ fowlcredenza-capability-for-operation-spec =
     (tie.spec
     (λ c κs. search needs)
     (λ c. search needs)
+    (λ c κs. search needs)
     (λ c. search needs)
     (λ c. search needs)
+    (λ c. search needs)
+    (λ c. search needs)
+    (λ c κs. search needs)
     returns
+    (λ c. search needs)
     returns-2)

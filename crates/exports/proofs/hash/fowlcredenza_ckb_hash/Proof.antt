@@ -1,12 +1,15 @@
--- `exports::hash::fowlcredenza_ckb_hash` meets its contract.
--- Assumes nothing.
+-- `exports::hash::fowlcredenza_ckb_hash` meets its contract, as its two calls do. Assumes nothing.
+use Rattle.export_answers.specs.Words.{hashBytes}
 use borrow.Author.Needs.{needs}
 use Rattle.exports.proofs.hash.fowlcredenza_ckb_hash.Statement.{statement}
 use Rattle.exports.proofs.hash.fowlcredenza_ckb_hash.Tie as tie
 
 returns : tie.Need-returns
-returns c = rw (c .before .before .store-bytes .ensures, c .before .before .before .before .ckb-hash .ensures)
+unfolding hashBytes
+returns c =
+    let store = c .before .before in
+    rw (store .before .before .ckb-hash .ensures) at (store .store-hash .ensures)
 
 pub fowlcredenza-ckb-hash-spec : {M : Type 1} → statement M
 fowlcredenza-ckb-hash-spec =
-    tie.close (tie.spec (λ c κs. search needs) (λ c. search needs) (λ c κs. search needs) (λ c. search needs) returns)
+    tie.close (tie.spec (λ c κs. search needs) (λ c κs. search needs) (λ c. search needs) returns)

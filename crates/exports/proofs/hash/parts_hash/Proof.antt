@@ -18,8 +18,8 @@ abbrev μ-loop : tie.MeasureT-loop
 
 loop-holds : tie.Need-loop-holds Inv-loop μ-loop
 loop-holds c =
-    let k = c .before .before .before .first-end .result in
-    (omega arith, fed-part _ 0 k zero-le (fed-none (c .before .before .new .ensures)) (c .update .ensures))
+    let s = c .before .before .before .before in
+    (s .pre, fed-part _ 0 (s .args .first) zero-le (fed-none (c .before .before .new .ensures)) (c .update .ensures))
 
 loop-again : tie.Need-loop-again Inv-loop μ-loop
 loop-again c =
@@ -29,7 +29,7 @@ loop-again c =
 returns : tie.Need-returns Inv-loop μ-loop
 returns c =
     let l = c .before .before .before .loop in
-    let s = c .before .before .before .before .before .before .before .before .before in
+    let s = c .before .before .before .before .before .before .before .before in
     let xs = s .args .«data» .now in
     let e : length xs ≤ l .at = omega arith in
     fed-hash 32 (rw (take-all (l .at) xs e) at (l .inv .1)) (s .good .0 .0) (c .before .finish .ensures) (c .digest .ensures)
@@ -40,7 +40,6 @@ parts-hash-spec =
     (tie.spec
     Inv-loop
     μ-loop
-    (λ c κs. search needs)
     (λ c κs. search needs)
     (λ c. omega arith)
     (λ c. omega arith)

@@ -1,24 +1,23 @@
 -- `exports::proof::fowlcredenza_parse_public_key_proof` meets its contract, by cases of the answer. Assumes nothing.
 use mathlib.Core.Path.{sym, _∙_}
-use Rattle.octets.specs.Table.{numbers}
-use Rattle.export_answers.specs.Words.{words, withWords}
+use Rattle.export_answers.proofs.Fits.{no-words-number, no-words-after}
 use Rattle.exports.specs.Readers.{proofWords}
 use borrow.Author.Needs.{needs}
 use Rattle.exports.proofs.proof.fowlcredenza_parse_public_key_proof.Statement.{statement}
 use Rattle.exports.proofs.proof.fowlcredenza_parse_public_key_proof.Tie as tie
 
 returns : tie.Need-returns
-unfolding withWords words numbers proofWords
+unfolding proofWords
 returns c =
     let e = sym (c .before .before .before .before .parse-public-key-proof .ensures) ∙ c .before .before .error .given .1 in
-    (rw e (c .error-number .ensures), rw e)
+    (rw e (c .error-number .ensures ∙ no-words-number _ _), rw e (no-words-after _))
 
 returns-2 : tie.Need-returns-2
 unfolding proofWords
 returns-2 c =
     let store = c .before .before in
     let e = sym (store .before .before .before .before .before .before .parse-public-key-proof .ensures) ∙ store .before .before .before .before .places .given .1 in
-    (rw e, rw e (store .store-words .ensures))
+    rw e (store .store-words .ensures)
 
 pub fowlcredenza-parse-public-key-proof-spec : {M : Type 1} → statement M
 fowlcredenza-parse-public-key-proof-spec =

@@ -1,24 +1,23 @@
 -- `exports::state::fowlcredenza_next_entry` meets its contract, by cases of the answer. Assumes nothing.
 use mathlib.Core.Path.{sym, _∙_}
-use Rattle.octets.specs.Table.{numbers}
-use Rattle.export_answers.specs.Words.{words, withWords}
+use Rattle.export_answers.proofs.Fits.{no-words-number, no-words-after}
 use Rattle.exports.specs.Readers.{stepWords}
 use borrow.Author.Needs.{needs}
 use Rattle.exports.proofs.state.fowlcredenza_next_entry.Statement.{statement}
 use Rattle.exports.proofs.state.fowlcredenza_next_entry.Tie as tie
 
 returns : tie.Need-returns
-unfolding withWords words numbers stepWords
+unfolding stepWords
 returns c =
     let e = sym (c .before .before .before .before .next-entry .ensures) ∙ c .before .before .error .given .1 in
-    (rw e (c .error-number .ensures), rw e)
+    (rw e (c .error-number .ensures ∙ no-words-number _ _), rw e (no-words-after _))
 
 returns-2 : tie.Need-returns-2
 unfolding stepWords
 returns-2 c =
     let store = c .before .before in
     let e = sym (store .before .before .before .before .before .before .before .before .before .before .before .before .before .next-entry .ensures) ∙ store .before .before .before .before .before .before .before .before .before .before .before .entry .given .1 in
-    (rw e, rw e (store .store-words .ensures))
+    rw e (store .store-words .ensures)
 
 pub fowlcredenza-next-entry-spec : {M : Type 1} → statement M
 fowlcredenza-next-entry-spec =

@@ -1,24 +1,23 @@
 -- `exports::state::fowlcredenza_validate_state` meets its contract, by cases of the answer. Assumes nothing.
 use mathlib.Core.Path.{sym, _∙_}
-use Rattle.octets.specs.Table.{numbers}
-use Rattle.export_answers.specs.Words.{words, withWords}
+use Rattle.export_answers.proofs.Fits.{no-words-number, no-words-after}
 use Rattle.exports.specs.Readers.{stateWords, headerFields}
 use borrow.Author.Needs.{needs}
 use Rattle.exports.proofs.state.fowlcredenza_validate_state.Statement.{statement}
 use Rattle.exports.proofs.state.fowlcredenza_validate_state.Tie as tie
 
 returns : tie.Need-returns
-unfolding withWords words numbers stateWords headerFields
+unfolding stateWords headerFields
 returns c =
     let e = sym (c .before .before .before .before .validate-state .ensures) ∙ c .before .before .error .given .1 in
-    (rw e (c .error-number .ensures), rw e)
+    (rw e (c .error-number .ensures ∙ no-words-number _ _), rw e (no-words-after _))
 
 returns-2 : tie.Need-returns-2
 unfolding stateWords headerFields
 returns-2 c =
     let store = c .before .before in
     let e = sym (store .before .before .before .before .before .before .before .before .before .before .before .before .before .before .validate-state .ensures) ∙ store .before .before .before .before .before .before .before .before .before .before .before .before .header .given .1 in
-    (rw e, rw e (store .store-words .ensures))
+    rw e (store .store-words .ensures)
 
 pub fowlcredenza-validate-state-spec : {M : Type 1} → statement M
 fowlcredenza-validate-state-spec =

@@ -1,14 +1,14 @@
 -- `exports_transaction::hashes::fowlcredenza_authorization_digest` meets its contract, as its two calls do. Assumes nothing.
-use Rattle.exports_transaction.specs.Answers.{digestAfter}
+use Rattle.exports_transaction.specs.Answers.{digestBytes}
 use borrow.Author.Needs.{needs}
 use Rattle.exports_transaction.proofs.hashes.fowlcredenza_authorization_digest.Statement.{statement}
 use Rattle.exports_transaction.proofs.hashes.fowlcredenza_authorization_digest.Tie as tie
 
 returns : tie.Need-returns
-unfolding digestAfter
+unfolding digestBytes
 returns c =
     let store = c .before .before in
-    rw (store .before .before .before .digest-lent .ensures) at (store .hash-stored .ensures)
+    rw (store .before .before .before .digest-lent .ensures) at (store .store-hash .ensures)
 
 pub fowlcredenza-authorization-digest-spec : {M : Type 1} → statement M
 fowlcredenza-authorization-digest-spec =

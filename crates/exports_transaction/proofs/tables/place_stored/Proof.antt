@@ -1,21 +1,23 @@
 -- `exports_transaction::tables::place_stored` meets its contract, by cases of the answer. Assumes nothing.
-use Rattle.octets.specs.Table.{numbers}
-use Rattle.export_answers.specs.Words.{words, withWords}
+use mathlib.Core.Path.{_∙_}
+use Rattle.export_answers.proofs.Fits.{no-words-number, no-words-after}
 use Rattle.exports_transaction.specs.Answers.{placeWords}
 use borrow.Author.Needs.{needs}
 use Rattle.exports_transaction.proofs.tables.place_stored.Statement.{statement}
 use Rattle.exports_transaction.proofs.tables.place_stored.Tie as tie
 
 returns : tie.Need-returns
-unfolding withWords words numbers placeWords
-returns c = (rw (c .before .before .answer .given .1) (c .error-number .ensures), rw (c .before .before .answer .given .1))
+unfolding placeWords
+returns c =
+    let e = c .before .before .answer .given .1 in
+    (rw e (c .error-number .ensures ∙ no-words-number _ _), rw e (no-words-after _))
 
 returns-2 : tie.Need-returns-2
 unfolding placeWords
 returns-2 c =
     let store = c .before .before in
     let e = store .before .before .before .before .answer2 .given .1 in
-    (rw e, rw e (store .store-words .ensures))
+    rw e (store .store-words .ensures)
 
 pub place-stored-spec : {M : Type 1} → statement M
 place-stored-spec =

@@ -1,40 +1,37 @@
--- `group_sighash::transaction::canonical_group_sighash` meets its contract. Assumes nothing.
+-- `group_sighash::transaction::canonical_group_sighash` meets its contract, by what the check finds. Assumes nothing.
 use mathlib.Core.Path.{_≡_, sym, _∙_}
-use denote.Ref.{now}
+use mathlib.Core.List.{List}
+use Prim.Native.Nat.{ℕ}
+use Rattle.protocol.proofs.Hold.{passed-hold}
+use Rattle.protocol.specs.declared.check.Check.the-variants.{Passed}
+use Rattle.group_sighash.specs.declared.transaction.Sighash.{Sighash}
+use Rattle.group_sighash.specs.GroupSighash.{sighashRows, sighashFound, groupAnswer}
 use borrow.Author.Needs.{needs}
-use Rattle.octets.specs.Places.{bytesAt}
-use Rattle.blake2b.specs.State.{begun, fedAll, ckbParameters}
-use Rattle.authorization.specs.Hashed.{canonicalFed}
-use Rattle.authorization.proofs.SighashTheorem.{sighash-fed}
-use Rattle.scene_table.specs.Lent.{lentScene}
-use Rattle.scene_table.proofs.PlaceLaws.{lent-given}
-use Rattle.group_sighash.specs.Witnesses.{firstWitness, otherWitnesses}
-use Rattle.group_sighash.specs.GroupSighash.{groupAnswer}
 use Rattle.group_sighash.proofs.transaction.canonical_group_sighash.Statement.{statement}
 use Rattle.group_sighash.proofs.transaction.canonical_group_sighash.Tie as tie
 
+-- equal but for how the hash is written
+same-hash : {a b : List ℕ} → a ≡ b → _≡_ {A = Sighash} (record { found = Passed; hash = a }) (record { found = Passed; hash = b })
+same-hash e = rw e
+
+hash-group-requires : tie.Need-hash-group-requires
+hash-group-requires c κs = passed-hold (sighashRows _) (sym (c .before .before .check-hashed .ensures) ∙ c .enum-told .given .1)
+
 returns : tie.Need-returns
-unfolding groupAnswer bytesAt
-returns c =
-    let b = c .before .before .before in
-    let p = b .before .before in
-    let a = p .before .before .before .before .args in
-    let s = lentScene (now (a .table)) (now (a .store)) in
-    let transaction = rw (p .before .transaction-hash .ensures) at (p .part .ensures) ∙ sym (lent-given (now (a .table)) (now (a .store)) .transaction) in
-    let canonical : b .begin-sighash .result ≡ canonicalFed (fedAll (begun ckbParameters) (s .transaction)) (firstWitness s) =
-    rw (transaction, b .before .first-witness .ensures) at (b .begin-sighash .ensures)
-    in
-    c .of .ensures
-    ∙ sighash-fed (s .transaction) (firstWitness s) (otherWitnesses s) (b .begin-sighash .result) (c .before .feed-others .result) canonical (c .before .feed-others .ensures)
+unfolding groupAnswer sighashFound
+returns c = rw (sym (c .before .before .before .check-hashed .ensures) ∙ c .before .error .given .1)
+
+returns-2 : tie.Need-returns-2
+unfolding groupAnswer sighashFound
+returns-2 c = rw (sym (c .before .before .before .check-hashed .ensures) ∙ c .before .enum-told .given .1) (same-hash (c .hash-group .ensures))
 
 pub canonical-group-sighash-spec : {M : Type 1} → statement M
 canonical-group-sighash-spec =
     tie.close
     (tie.spec
     (λ c κs. search needs)
-    (λ c κs. search needs)
-    (λ c κs. search needs)
-    (λ c κs. search needs)
-    (λ c κs. search needs)
-    (λ c κs. search needs)
-    returns)
+    (λ c. search needs)
+    (λ c. search needs)
+    hash-group-requires
+    returns
+    returns-2)

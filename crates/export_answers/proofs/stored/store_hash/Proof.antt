@@ -1,0 +1,33 @@
+-- `export_answers::stored::store_hash` meets its contract, by what was found. Assumes nothing.
+use mathlib.Core.Path.{_∙_}
+use Rattle.export_answers.specs.Words.{hashBytes}
+use Rattle.export_answers.proofs.Fits.{none-number, none-after}
+use borrow.Author.Needs.{needs}
+use Rattle.export_answers.proofs.stored.store_hash.Statement.{statement}
+use Rattle.export_answers.proofs.stored.store_hash.Tie as tie
+
+returns : tie.Need-returns
+unfolding hashBytes
+returns c =
+    let e = c .before .before .found .given .1 in
+    (rw e (c .error-number .ensures ∙ none-number _ _), rw e (none-after _))
+
+returns-2 : tie.Need-returns-2
+unfolding hashBytes
+returns-2 c =
+    let front = c .before .before in
+    rw (front .before .before .before .enum-told .given .1) (front .store-front .ensures)
+
+pub store-hash-spec : {M : Type 1} → statement M
+store-hash-spec =
+    tie.close
+    (tie.spec
+    (λ c. search needs)
+    (λ c κs. search needs)
+    (λ c. search needs)
+    (λ c. search needs)
+    (λ c. search needs)
+    (λ c κs. search needs)
+    returns
+    (λ c. search needs)
+    returns-2)
