@@ -1,13 +1,12 @@
 -- What is handed out of a request, by what its reader found.
 -- Assumes nothing.
-use mathlib.Core.Path.{_≡_, refl, ap, _∙_}
+use mathlib.Core.Path.{_≡_, refl, sym, ap, _∙_}
 use mathlib.Core.List.{List, [], _∷_}
 use Prim.Native.Nat.{ℕ, _*_}
 use native.Mathlib.Omega.{arith}
 use lib.Dec.{leb}
 use lib.ListN.{length}
 use lib.Seq.{take-all}
-use Rattle.octets.specs.Table.{numbers}
 use Rattle.octets.proofs.Stores.{sets-over}
 use Rattle.protocol.specs.Errors.{errorNumber}
 use Rattle.protocol.specs.Rows.{row, decide, checkNumber, Hold}
@@ -21,8 +20,8 @@ use Rattle.verifier_request.specs.Reader.{requestRows, requestFault, readReques
 use Rattle.verifier_request.specs.Reading.{RequestReading, requestReading}
 use Rattle.held_request.specs.Held.{placesOf, heldReading}
 use Rattle.held_request.proofs.HeldTheorem.{held-refusal, held-reading}
-use Rattle.export_answers.specs.Words.{words, withWords}
-use Rattle.export_answers.proofs.Table64.{length-words}
+use Rattle.export_answers.specs.Words.{wordBytes, wordsAfter}
+use Rattle.export_answers.proofs.Table64.{length-words, words-fit}
 use Rattle.exports_request.specs.Parts.{partFault, partWritten, partStored}
 
 -- the request's refusal, whatever the part
@@ -60,8 +59,8 @@ handed s out of = by-check (requestFault s) refl
         (rw (refused (length held) (length out), refused (length read) (length out)), rw (refused (length held) (length out), refused (length read) (length out)))
 
 -- words stored where there is room for them and for no more
-pub words-fill : (vs out : List ℕ) → length out ≡ 8 * length vs → withWords vs out ≡ numbers (words vs)
-unfolding withWords
+pub words-fill : (vs out : List ℕ) → length out ≡ 8 * length vs → wordsAfter vs out ≡ wordBytes vs
 words-fill vs out h =
     let n = length-words vs in
-    sets-over out (numbers (words vs)) (omega arith) ∙ take-all (length out) (numbers (words vs)) (omega arith)
+    sym (words-fit vs out (omega arith) .1)
+    ∙ (sets-over out (wordBytes vs) (omega arith) ∙ take-all (length out) (wordBytes vs) (omega arith))

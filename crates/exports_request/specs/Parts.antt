@@ -3,13 +3,12 @@
 use Prim.Native.Nat.{ℕ}
 use mathlib.Core.List.{List, [], _∷_}
 use lib.ListN.{length}
-use Rattle.octets.specs.Table.{numbers}
 use Rattle.protocol.specs.Write.{writeFault, writeAnswer, afterWrite}
 use Rattle.protocol.specs.declared.check.Check.{Check}
 use Rattle.protocol.specs.declared.check.WriteAnswer.{WriteAnswer}
 use Rattle.verifier_request.specs.Reader.{requestRows}
 use Rattle.verifier_request.specs.Reading.{RequestReading}
-use Rattle.export_answers.specs.Words.{words}
+use Rattle.export_answers.specs.Words.{wordBytes}
 
 -- what the checks find for this many bytes of the request s, and a buffer of `room` bytes
 unfoldable pub partFault : List ℕ → ℕ → ℕ → Check
@@ -25,4 +24,4 @@ partStored s part out = afterWrite (partFault s (length part) (length out)) part
 
 -- a request's four numbers, as 64-bit words
 unfoldable pub numberWords : RequestReading → List ℕ
-numberWords r = numbers (words (r .algorithm ∷ r .slot ∷ r .operation ∷ r .profile ∷ []))
+numberWords r = wordBytes (r .algorithm ∷ r .slot ∷ r .operation ∷ r .profile ∷ [])

@@ -12,7 +12,7 @@ unfolding numberWords heldReading
 returns c =
     let w = c .before .before .before .before in
     rw (sym (w .verifier-profile-of .ensures), sym (w .before .operation-of .ensures), sym (w .before .before .slot-of .ensures), sym (w .before .before .before .algorithm-id-of .ensures))
-    (c .before .store-words .ensures ∙ words-fill _ _ refl)
+    (c .before .store-words .ensures .1 ∙ words-fill _ _ refl)
 
 pub number-words-spec : {M : Type 1} → statement M
 number-words-spec =
