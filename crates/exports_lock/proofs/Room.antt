@@ -14,13 +14,13 @@ use Rattle.export_answers.proofs.Table64.{length-words, words-fit}
 use Rattle.account_lock.specs.declared.answer.LockAnswer.{LockAnswer}
 use Rattle.exports_lock.specs.Stored.{answerFits, answerWords, answerStored}
 
-pub room-yes : (out : List ℕ) → 56 ≤ length out → answerFits out ≡ true
-unfolding answerFits
-room-yes out h = le-leb 56 (length out) h
-
 pub room-no : (out : List ℕ) → length out < 56 → answerFits out ≡ false
 unfolding answerFits
 room-no out h = lt-leb 56 (length out) h
+
+pub room-yes : (out : List ℕ) → 56 ≤ length out → answerFits out ≡ true
+unfolding answerFits
+room-yes out h = le-leb 56 (length out) h
 
 -- the words, and the digest behind them
 pub stored-behind : (a : LockAnswer) (out : List ℕ) → 56 ≤ length out → sets (wordsAfter (answerWords a) out) 24 (a .digest) ≡ answerStored a out

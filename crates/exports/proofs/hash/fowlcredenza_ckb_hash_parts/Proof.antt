@@ -2,6 +2,7 @@
 use mathlib.Core.Path.{_≡_, _∙_}
 use mathlib.Core.List.{List}
 use Prim.Native.Nat.{ℕ, _≤_, _<_}
+use native.Mathlib.Omega.{arith}
 use lib.ListN.{length}
 use borrow.Author.Tests.{le-leb, lt-leb}
 use Rattle.protocol.specs.Rows.{decide, _▷_}
@@ -28,13 +29,15 @@ returns c =
     let store = c .before .before in
     let test = store .before .before .before in
     let a = test .before .before .before .args in
-    rw (parts-agree (a .«data» .now) (a .first) (test .if1 .taken)) (rw (store .before .before .parts-hash .ensures) at (store .store-hash .ensures))
+    let there : a .first ≤ length (a .«data» .now) = omega (arith, test .if1 .taken) in
+    rw (parts-agree (a .«data» .now) (a .first) there) (rw (store .before .before .parts-hash .ensures) at (store .store-hash .ensures))
 
 returns-2 : tie.Need-returns-2
 unfolding hashBytes
 returns-2 c =
     let a = c .before .before .before .before .args in
-    let e = parts-disagree (a .«data» .now) (a .first) (c .before .if1 .left) in
+    let past : length (a .«data» .now) < a .first = omega (arith, c .before .if1 .left) in
+    let e = parts-disagree (a .«data» .now) (a .first) past in
     (rw e (c .error-number .ensures ∙ none-number _ _), rw e (none-after _))
 
 pub fowlcredenza-ckb-hash-parts-spec : {M : Type 1} → statement M

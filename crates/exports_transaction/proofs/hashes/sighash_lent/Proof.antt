@@ -1,5 +1,8 @@
 -- `exports_transaction::hashes::sighash_lent` meets its contract, by what the table's test finds. Assumes nothing.
-use mathlib.Core.Path.{sym, _∙_}
+use mathlib.Core.Path.{_≡_, sym, _∙_}
+use mathlib.Core.Bool.{true}
+use lib.ListN.{length}
+use Rattle.scene_table.specs.Valid.{validTable}
 use Rattle.group_sighash.specs.GroupSighash.{sighashFound}
 use Rattle.exports_transaction.specs.Answers.{lentSighash}
 use borrow.Author.Needs.{needs}
@@ -8,7 +11,11 @@ use Rattle.exports_transaction.proofs.hashes.sighash_lent.Tie as tie
 
 returns : tie.Need-returns
 unfolding lentSighash
-returns c = rw (sym (c .before .before .table-valid .ensures) ∙ c .before .if1 .taken) (c .canonical-group-sighash .ensures)
+returns c =
+    let valid = c .before .before in
+    let a = valid .before .before .before .args in
+    let e : validTable (a .table .now) (length (a .store .now)) ≡ true = sym (valid .table-valid .ensures) ∙ c .before .if1 .taken in
+    rw e (c .canonical-group-sighash .ensures)
 
 returns-2 : tie.Need-returns-2
 unfolding lentSighash sighashFound
