@@ -21,7 +21,8 @@ unfoldable pub walkSetting : List ℕ → List ℕ → List ℕ → ℕ → List
 walkSetting table store state operation digest room =
     settingFor state (sceneDeps table store) (lentScene table store .digits) operation digest room
 
--- The Rust takes the operation's capability before the first proof. 01, writers: "Operation outside 1 to 3 is 37 in them"
+-- the walk for an operation from 1 to 3; for another no request is made, and the number is 37, as the Rust's
+-- `capability_for_operation`, which stands before its first proof, has it
 unfoldable pub walkProofs : Setting → List ℕ → Outcome
 walkProofs c lock = cond (isOperation (c .operation)) (walkLock c lock) (outcome (Failed InvalidOperation) 0 [])
 

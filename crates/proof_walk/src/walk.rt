@@ -96,7 +96,7 @@ fn told(found: Check, count: u8, length: usize) -> Walked
     }
 }
 
-// Walks the proofs of a witness lock, and writes each request into the rest of the answer buffer, behind the last one.
+// The proofs, one by one.
 fn walk_lock(
     table: &[u32],
     store: &[u8],
@@ -134,7 +134,8 @@ fn walk_lock(
     told(found, i, total)
 }
 
-// The walk for an operation from 1 to 3; another is 37, before the first proof.
+// Walks the proofs of a witness lock, and writes each request into the rest of the answer buffer, behind the last one. An
+// operation outside 1 to 3 is 37, before the first proof.
 pub fn walk_proofs(
     table: &[u32],
     store: &[u8],

@@ -7,7 +7,7 @@ use Rattle.proof_walk.proofs.walk.check_end.Statement.{statement}
 use Rattle.proof_walk.proofs.walk.check_end.Tie as tie
 
 returns : tie.Need-returns
-unfolding lastRows decide _▷_
+unfolding lastRows decide
 returns c =
     rw (c .require3 .ensures, c .before .require2 .ensures, c .before .before .require .ensures, c .before .before .before .threshold .ensures) refl
 
