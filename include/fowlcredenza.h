@@ -125,7 +125,8 @@ uint32_t fowlcredenza_authorization_digest(uint8_t operation, const uint8_t *acc
                                            const uint8_t *sighash, size_t sighash_len, uint8_t *out,
                                            size_t out_len);
 
-/* The sighash of what table and store hold, 32 bytes. A table that no scene leaves with a store of that length is 7. */
+/* The sighash of what table and store hold, 32 bytes. A table that no scene, its length aside, leaves with a store of
+ * that length is 7. */
 uint32_t fowlcredenza_canonical_group_sighash(const uint32_t *table, size_t table_len,
                                               const uint8_t *store, size_t store_len, uint8_t *out,
                                               size_t out_len);
@@ -136,7 +137,7 @@ uint32_t fowlcredenza_canonical_group_sighash(const uint32_t *table, size_t tabl
 uint32_t fowlcredenza_read_scene(const uint8_t *scene, size_t scene_len, uint8_t *store,
                                  size_t store_len, uint32_t *table, size_t table_len);
 
-/* 1 where some scene leaves this table with a store of that length, else 0. */
+/* 1 where some scene, its length aside, leaves this table with a store of that length, else 0. */
 uint32_t fowlcredenza_table_valid(const uint32_t *table, size_t table_len, uint64_t store_len);
 
 /* libexports_lock.a */

@@ -17,7 +17,7 @@ pub extern "C" fn fowlcredenza_read_scene(scene: &[u8], store: &mut [u8], table:
     check_number(scene_reader::read_scene(scene, store, table)) as u32
 }
 
-// 1 where a scene leaves this table with a store of that many bytes, else 0.
+// 1 where a scene, its length aside, leaves this table with a store of that many bytes, else 0.
 #[no_mangle]
 pub extern "C" fn fowlcredenza_table_valid(table: &[u32], store_len: u64) -> u32
     ensures { λ r. ⌜ r ≡ cond (validTable (now (table .entry)) «store_len») 1 0 ⌝ }

@@ -62,7 +62,7 @@ pub extern "C" fn fowlcredenza_authorization_digest(
     store_hash(found, digest, out)
 }
 
-// The sighash of the transaction that table and store hold. A table that no scene leaves with a store this long is 7.
+// The sighash of the transaction that table and store hold. A table that no scene, its length aside, leaves with a store this long is 7.
 fn sighash_lent(table: &[u32], store: &[u8]) -> Sighash
     ensures { λ r. ⌜ r ≡ lentSighash (now (table .entry)) (now (store .entry)) ⌝ }
 {

@@ -22,7 +22,7 @@ returns c =
     let p = c .before .before .before .before .before .before .before .before .before .before .before .before in
     let w = c .before .before in
     let given = p .pre .named in
-    let known = named-authorized _ _ (lentScene (now (p .args .table)) (now (p .args .store))) given .known in (
+    let known = named-authorized _ _ (lentScene (now (p .args .table)) (now (p .args .store))) given (p .pre .others) .known in (
       rw (w .walk-proofs .ensures .0, c .before .before .before .before .digest-of .ensures, c .before .before .before .before .before .u8-at .ensures, walk-known, p .pre .current, given .account, given .witness),
       w .walk-proofs .ensures .1 ∙ rw (c .before .before .before .before .digest-of .ensures, c .before .before .before .before .before .u8-at .ensures, walk-known, p .pre .current, given .account, given .witness),
     )

@@ -1,6 +1,6 @@
 -- `proof_walk::walk::check_end` meets its contract. Assumes nothing.
 use mathlib.Core.Path.{refl}
-use Rattle.protocol.specs.Rows.{decide, _▷_}
+use Rattle.protocol.specs.Rows.{decide}
 use Rattle.decision.specs.Walk.{lastRows}
 use borrow.Author.Needs.{needs}
 use Rattle.proof_walk.proofs.walk.check_end.Statement.{statement}
