@@ -1,4 +1,4 @@
-/* The functions of the static libraries. `include/fowlcredenza.rs` declares the same for Rust.
+/* The functions of libfowlcredenza.a, which tools/library makes. `include/fowlcredenza.rs` declares the same for Rust.
  *
  * A caller must see to this; no function can test it:
  * - A slice is a pointer and the number of its elements (of bytes for `uint8_t`, of entries for the wider ones). There are so
@@ -10,8 +10,8 @@
  * A function returns the number of docs/NUMBERS.md, 0 accepted, unless its comment says otherwise. docs/LAYOUTS.md has the
  * layouts of slices. A function with an `out` and no `len` stores its numbers as 64-bit little-endian words, or a hash as 32
  * bytes, at the front of `out`; the bytes behind stay. Places are offsets into the input. An `out` that is too short for all
- * of it is 5, after every other refusal. A refusal leaves `out` and `len` as they were. Where the functions of
- * libexports_lock.a differ, their comment says it. */
+ * of it is 5, after every other refusal. A refusal leaves `out` and `len` as they were. Where the two functions of the lock differ,
+ * their comment says it. */
 #ifndef FOWLCREDENZA_H
 #define FOWLCREDENZA_H
 
@@ -22,7 +22,50 @@
 extern "C" {
 #endif
 
-/* libexports.a: the hash, 32 bytes. */
+/* Numbers, as docs/NUMBERS.md has them. */
+enum fowlcredenza_number {
+    FOWLCREDENZA_ACCEPTED = 0,
+    FOWLCREDENZA_SCENE_TOO_LONG = 1,
+    FOWLCREDENZA_INVALID_LINE = 2,
+    FOWLCREDENZA_INVALID_FIELD = 3,
+    FOWLCREDENZA_TOO_MANY_LINES = 4,
+    FOWLCREDENZA_BUFFER_TOO_SHORT = 5,
+    FOWLCREDENZA_STORE_TOO_SHORT = 6,
+    FOWLCREDENZA_SLICES_DISAGREE = 7,
+    FOWLCREDENZA_INVALID_ARGS = 20,
+    FOWLCREDENZA_INVALID_STATE = 21,
+    FOWLCREDENZA_INVALID_WITNESS = 22,
+    FOWLCREDENZA_STATE_NOT_FOUND = 23,
+    FOWLCREDENZA_DUPLICATE_STATE = 24,
+    FOWLCREDENZA_STATE_CONSUMED_ON_SPEND = 25,
+    FOWLCREDENZA_INVALID_TRANSITION = 26,
+    FOWLCREDENZA_INVALID_SEQUENCE = 27,
+    FOWLCREDENZA_THRESHOLD_UNSATISFIED = 28,
+    FOWLCREDENZA_INVALID_CAPABILITY = 29,
+    FOWLCREDENZA_INVALID_VERIFIER_REF = 30,
+    FOWLCREDENZA_VERIFIER_FAILURE = 31,
+    FOWLCREDENZA_UNSUPPORTED_VERSION = 32,
+    FOWLCREDENZA_UNSUPPORTED_ALGORITHM = 33,
+    FOWLCREDENZA_RECOVERY_LOCKED = 34,
+    FOWLCREDENZA_INVALID_REQUEST = 35,
+    FOWLCREDENZA_INVALID_PROOF = 36,
+    FOWLCREDENZA_INVALID_OPERATION = 37,
+    FOWLCREDENZA_UNSATISFIABLE_THRESHOLD = 38,
+    FOWLCREDENZA_LENGTH_OVERFLOW = 39
+};
+
+/* Sizes of buffers: the longest scene that the reader takes, and the program; the entries of a table; an answer buffer that is
+ * enough for any scene; a hash; what fowlcredenza_lock and fowlcredenza_decide_scene store in `out`. */
+enum fowlcredenza_size {
+    FOWLCREDENZA_SCENE_MAX_LEN = 1048576,
+    FOWLCREDENZA_PROGRAM_SCENE_MAX_LEN = 65536,
+    FOWLCREDENZA_TABLE_LEN = 2048,
+    FOWLCREDENZA_ANSWER_LEN = 148992,
+    FOWLCREDENZA_HASH_LEN = 32,
+    FOWLCREDENZA_LOCK_OUT_LEN = 56
+};
+
+/* The hash, 32 bytes. */
 
 uint32_t fowlcredenza_ckb_hash(const uint8_t *data, size_t data_len, uint8_t *out, size_t out_len);
 
@@ -31,7 +74,7 @@ uint32_t fowlcredenza_ckb_hash(const uint8_t *data, size_t data_len, uint8_t *ou
 uint32_t fowlcredenza_ckb_hash_parts(const uint8_t *data, size_t data_len, size_t first,
                                      size_t step, uint8_t *out, size_t out_len);
 
-/* libexports.a: numbers of algorithms and operations. */
+/* Numbers of algorithms and operations. */
 
 /* 1 or 0. */
 uint32_t fowlcredenza_is_supported_algorithm(uint16_t algorithm);
@@ -39,7 +82,7 @@ uint32_t fowlcredenza_is_supported_algorithm(uint16_t algorithm);
 /* The capability bit, as a word. */
 uint32_t fowlcredenza_capability_for_operation(uint8_t operation, uint8_t *out, size_t out_len);
 
-/* libexports.a: readers. */
+/* Readers. */
 
 /* Version, place of the account id. */
 uint32_t fowlcredenza_parse_args(const uint8_t *args, size_t args_len, uint8_t *out,
@@ -79,7 +122,7 @@ uint32_t fowlcredenza_parse_verifier_request(const uint8_t *request, size_t requ
 uint32_t fowlcredenza_parse_public_key_proof(const uint8_t *proof, size_t proof_len, uint8_t *out,
                                              size_t out_len);
 
-/* libexports.a: writers. `len` takes the length written. */
+/* Writers. `len` takes the length written. */
 
 uint32_t fowlcredenza_account_lock_args(const uint8_t *account, size_t account_len, uint8_t *out,
                                         size_t out_len, uint64_t *len);
@@ -105,7 +148,7 @@ uint32_t fowlcredenza_encode_public_key_proof(const uint8_t *key, size_t key_len
                                               const uint8_t *signature, size_t signature_len,
                                               uint8_t *out, size_t out_len, uint64_t *len);
 
-/* libexports_transaction.a */
+/* The witnesses, the script and the hashes of a transaction. */
 
 /* Place and length of the lock's bytes. */
 uint32_t fowlcredenza_witness_lock(const uint8_t *witness, size_t witness_len, uint8_t *out,
@@ -131,7 +174,7 @@ uint32_t fowlcredenza_canonical_group_sighash(const uint32_t *table, size_t tabl
                                               const uint8_t *store, size_t store_len, uint8_t *out,
                                               size_t out_len);
 
-/* libexports_scene.a */
+/* The scene. */
 
 /* Reads a scene into the store and the table, which are all zero after a refusal. */
 uint32_t fowlcredenza_read_scene(const uint8_t *scene, size_t scene_len, uint8_t *store,
@@ -140,7 +183,7 @@ uint32_t fowlcredenza_read_scene(const uint8_t *scene, size_t scene_len, uint8_t
 /* 1 where some scene, its length aside, leaves this table with a store of that length, else 0. */
 uint32_t fowlcredenza_table_valid(const uint32_t *table, size_t table_len, uint64_t store_len);
 
-/* libexports_lock.a */
+/* The lock. */
 
 /* Decides what table and store hold; the requests go to the front of `answer`. Whatever the number, `out` takes count and
  * length of the requests and 1 where there is a digest, as words, then the digest's 32 bytes, zeros where there is none. An
@@ -156,7 +199,7 @@ uint32_t fowlcredenza_decide_scene(const uint8_t *scene, size_t scene_len, uint8
                                    uint8_t *answer, size_t answer_len, uint8_t *out,
                                    size_t out_len);
 
-/* libexports_request.a: the fields of a request. Each function refuses what `fowlcredenza_parse_verifier_request` refuses, then
+/* The fields of a request. Each function refuses what `fowlcredenza_parse_verifier_request` refuses, then
  * gives 5 where `out` is too short for all that it stores. */
 
 /* Algorithm, slot, operation, profile: four words. */

@@ -1,7 +1,51 @@
-//! The functions of the static libraries, as `include/fowlcredenza.h` declares them for C; what a caller must see to, and
-//! what they do with what they are lent, is said there.
+//! The functions of libfowlcredenza.a, which tools/library makes, as `include/fowlcredenza.h` declares them for C; what a
+//! caller must see to, and what they do with what they are lent, is said there.
 
-#[link(name = "exports", kind = "static")]
+/// Numbers, as docs/NUMBERS.md has them.
+#[allow(dead_code)]
+pub mod number {
+    pub const ACCEPTED: u32 = 0;
+    pub const SCENE_TOO_LONG: u32 = 1;
+    pub const INVALID_LINE: u32 = 2;
+    pub const INVALID_FIELD: u32 = 3;
+    pub const TOO_MANY_LINES: u32 = 4;
+    pub const BUFFER_TOO_SHORT: u32 = 5;
+    pub const STORE_TOO_SHORT: u32 = 6;
+    pub const SLICES_DISAGREE: u32 = 7;
+    pub const INVALID_ARGS: u32 = 20;
+    pub const INVALID_STATE: u32 = 21;
+    pub const INVALID_WITNESS: u32 = 22;
+    pub const STATE_NOT_FOUND: u32 = 23;
+    pub const DUPLICATE_STATE: u32 = 24;
+    pub const STATE_CONSUMED_ON_SPEND: u32 = 25;
+    pub const INVALID_TRANSITION: u32 = 26;
+    pub const INVALID_SEQUENCE: u32 = 27;
+    pub const THRESHOLD_UNSATISFIED: u32 = 28;
+    pub const INVALID_CAPABILITY: u32 = 29;
+    pub const INVALID_VERIFIER_REF: u32 = 30;
+    pub const VERIFIER_FAILURE: u32 = 31;
+    pub const UNSUPPORTED_VERSION: u32 = 32;
+    pub const UNSUPPORTED_ALGORITHM: u32 = 33;
+    pub const RECOVERY_LOCKED: u32 = 34;
+    pub const INVALID_REQUEST: u32 = 35;
+    pub const INVALID_PROOF: u32 = 36;
+    pub const INVALID_OPERATION: u32 = 37;
+    pub const UNSATISFIABLE_THRESHOLD: u32 = 38;
+    pub const LENGTH_OVERFLOW: u32 = 39;
+}
+
+/// Sizes of buffers, as `include/fowlcredenza.h` has them.
+#[allow(dead_code)]
+pub mod size {
+    pub const SCENE_MAX_LEN: usize = 1_048_576;
+    pub const PROGRAM_SCENE_MAX_LEN: usize = 65_536;
+    pub const TABLE_LEN: usize = 2_048;
+    pub const ANSWER_LEN: usize = 148_992;
+    pub const HASH_LEN: usize = 32;
+    pub const LOCK_OUT_LEN: usize = 56;
+}
+
+#[link(name = "fowlcredenza", kind = "static")]
 unsafe extern "C" {
     pub fn fowlcredenza_ckb_hash(
         data: *const u8,
@@ -142,10 +186,6 @@ unsafe extern "C" {
         out_len: usize,
         len: *mut u64,
     ) -> u32;
-}
-
-#[link(name = "exports_transaction", kind = "static")]
-unsafe extern "C" {
     pub fn fowlcredenza_witness_lock(
         witness: *const u8,
         witness_len: usize,
@@ -185,10 +225,6 @@ unsafe extern "C" {
         out: *mut u8,
         out_len: usize,
     ) -> u32;
-}
-
-#[link(name = "exports_scene", kind = "static")]
-unsafe extern "C" {
     pub fn fowlcredenza_read_scene(
         scene: *const u8,
         scene_len: usize,
@@ -198,10 +234,6 @@ unsafe extern "C" {
         table_len: usize,
     ) -> u32;
     pub fn fowlcredenza_table_valid(table: *const u32, table_len: usize, store_len: u64) -> u32;
-}
-
-#[link(name = "exports_lock", kind = "static")]
-unsafe extern "C" {
     pub fn fowlcredenza_lock(
         table: *const u32,
         table_len: usize,
@@ -224,10 +256,6 @@ unsafe extern "C" {
         out: *mut u8,
         out_len: usize,
     ) -> u32;
-}
-
-#[link(name = "exports_request", kind = "static")]
-unsafe extern "C" {
     pub fn fowlcredenza_request_numbers(
         request: *const u8,
         request_len: usize,

@@ -5,30 +5,30 @@
 #include <inttypes.h>
 #include <stdio.h>
 
-enum { LONGEST = 65536, ENTRIES = 2048, ANSWER = 148992, DIGEST = 32, TOO_LONG = 1 };
+enum { LONGEST = FOWLCREDENZA_PROGRAM_SCENE_MAX_LEN, WORD = 8 };
 
 /* One byte more than the longest scene, to see that there is more. */
 static uint8_t scene[LONGEST + 1];
 static uint8_t store[LONGEST / 2];
-static uint32_t table[ENTRIES];
-static uint8_t answer[ANSWER];
+static uint32_t table[FOWLCREDENZA_TABLE_LEN];
+static uint8_t answer[FOWLCREDENZA_ANSWER_LEN];
 /* Count and length of the requests and 1 where there is a digest, as words, then the digest. */
-static uint8_t out[3 * 8 + DIGEST];
+static uint8_t out[FOWLCREDENZA_LOCK_OUT_LEN];
 
-static uint64_t word(size_t place)
+static uint64_t word(size_t index)
 {
     uint64_t value = 0;
-    for (size_t i = 8; i > 0; i--)
-        value = value << 8 | out[8 * place + i - 1];
+    for (size_t i = WORD; i > 0; i--)
+        value = value << 8 | out[WORD * index + i - 1];
     return value;
 }
 
 static uint32_t decide(size_t length)
 {
     if (length > LONGEST)
-        return TOO_LONG;
-    return fowlcredenza_decide_scene(scene, length, store, sizeof store, table, ENTRIES, answer,
-                                     sizeof answer, out, sizeof out);
+        return FOWLCREDENZA_SCENE_TOO_LONG;
+    return fowlcredenza_decide_scene(scene, length, store, sizeof store, table,
+                                     FOWLCREDENZA_TABLE_LEN, answer, sizeof answer, out, sizeof out);
 }
 
 int main(void)
@@ -40,8 +40,8 @@ int main(void)
     }
     uint32_t number = decide(length);
     printf("answer,%" PRIu32 ",%" PRIu64 ",%" PRIu64 ",", number, word(0), word(1));
-    for (size_t i = 0; word(2) == 1 && i < DIGEST; i++)
-        printf("%02x", out[3 * 8 + i]);
+    for (size_t i = 0; word(2) == 1 && i < FOWLCREDENZA_HASH_LEN; i++)
+        printf("%02x", out[3 * WORD + i]);
     printf("\n");
     return fflush(stdout) == 0 ? 0 : 2;
 }

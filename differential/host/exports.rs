@@ -1,4 +1,4 @@
-//! The functions of the static library, wrapped to take slices. Their addresses and lengths are all
+//! The functions of `crates/exports`, wrapped to take slices. Their addresses and lengths are all
 //! that the calls rely on, and a slice has both.
 
 use crate::fowlcredenza as library;

@@ -1,4 +1,4 @@
-//! The functions of the second static library, wrapped to take slices as those of `exports` are.
+//! The functions on a transaction, wrapped to take slices as those of `exports` are.
 
 use crate::fowlcredenza as library;
 

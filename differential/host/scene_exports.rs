@@ -1,4 +1,4 @@
-//! The reader of scenes and the lock, of two more static libraries, wrapped to take slices as those of `exports` are.
+//! The reader of scenes and the lock, wrapped to take slices as those of `exports` are.
 
 use crate::fowlcredenza as library;
 

@@ -8,29 +8,29 @@ use mathlib.Core.List.{List}
 use Prim.Native.Nat.{ℕ, _≤_}
 use native.Mathlib.Omega.{arith}
 use lib.ListN.{length}
-use Rattle.protocol.specs.Rows.{decide, Hold, checkNumber}
+use Rattle.protocol.specs.Rows.{decide, AllPass, checkNumber}
 use Rattle.protocol.specs.declared.error.ProtocolError.the-variants.{SlicesDisagree}
 use Rattle.protocol.specs.declared.check.Check.{Check}
 use Rattle.protocol.specs.declared.check.Check.the-variants.{Passed, Failed}
-use Rattle.protocol.proofs.Hold.{passed-hold}
+use Rattle.protocol.proofs.AllPass.{passed-all-pass}
 use Rattle.authorization.specs.Digest.{digestOf}
 use Rattle.scene_table.specs.Scene.{Scene}
-use Rattle.scene_table.specs.Lent.{lentScene}
+use Rattle.scene_table.specs.Lent.{sceneIn}
 use Rattle.scene_table.specs.Valid.{validTable}
-use Rattle.decision.specs.Proofs.{settingFor}
+use Rattle.decision.specs.Proofs.{contextFor}
 use Rattle.decision.proofs.RoomEnough.{state-aux, lock-room}
-use Rattle.account_lock.specs.Lock.{witnessLock, current, digest, earlyRows, settingOf, refused, walked, orWalked, walkResult, lockScene, lockOf}
+use Rattle.account_lock.specs.Lock.{witnessLock, current, digest, earlyRows, contextOf, refused, walked, orWalked, walkResult, lockScene, lockOf}
 use Rattle.account_lock.proofs.LockLaws.{group-length, group-count}
 use Rattle.account_lock.proofs.LockTheorem.{late, state-passes}
 use Rattle.account_lock.proofs.DigestTheorem.{length-hash}
 use Rattle.account_lock.proofs.Numbers.{early-number}
 
 -- where the early rows pass, the walk has room for every request
-early-room : (s : Scene) (room : ℕ) → 148992 ≤ room → Hold (earlyRows s) → checkNumber (walkResult s room .found) ≢ 5
-unfolding walkResult walked settingOf settingFor digest digestOf
+early-room : (s : Scene) (room : ℕ) → 148992 ≤ room → AllPass (earlyRows s) → checkNumber (walkResult s room .found) ≢ 5
+unfolding walkResult walked contextOf contextFor digest digestOf
 early-room s room r h =
     let group = late s h .0 in
-    lock-room (settingOf s room) (witnessLock s) (length-hash _) (state-aux (current s) (state-passes s h)) (group-length s group) (group-count s group) r
+    lock-room (contextOf s room) (witnessLock s) (length-hash _) (state-aux (current s) (state-passes s h)) (group-length s group) (group-count s group) r
 
 -- a scene with 148,992 bytes for the answer is never refused with 5
 scene-never-five : (s : Scene) (room : ℕ) → 148992 ≤ room → checkNumber (lockScene s room .found) ≢ 5
@@ -38,7 +38,7 @@ unfolding lockScene orWalked refused
 scene-never-five s room r = go (decide Passed (earlyRows s)) refl
   where
     go : (k : Check) → decide Passed (earlyRows s) ≡ k → checkNumber (orWalked k (walkResult s room) .found) ≢ 5
-    go Passed h = early-room s room r (passed-hold (earlyRows s) h)
+    go Passed h = early-room s room r (passed-all-pass (earlyRows s) h)
     go (Failed e) h = λ z. omega (arith, early-number s e h .0 .0)
 
 -- nor is any table and store: an invalid table is 7
@@ -46,6 +46,6 @@ pub lock-never-five : (table store : List ℕ) (room : ℕ) → 148992 ≤ room 
 unfolding lockOf refused
 lock-never-five table store room r = go (validTable table (length store))
   where
-    go : (b : Bool) → checkNumber (cond b (lockScene (lentScene table store) room) (refused (Failed SlicesDisagree)) .found) ≢ 5
-    go true = scene-never-five (lentScene table store) room r
+    go : (b : Bool) → checkNumber (cond b (lockScene (sceneIn table store) room) (refused (Failed SlicesDisagree)) .found) ≢ 5
+    go true = scene-never-five (sceneIn table store) room r
     go false = λ z. omega arith

@@ -18,8 +18,8 @@ use Rattle.octets.proofs.Filled.{length-tabulate}
 use Rattle.blake2b.specs.Rfc7693.{bytesOf, halves, F, hashWords, hashOf}
 use Rattle.blake2b.specs.State.{ckbParameters}
 use Rattle.blake2b.proofs.Bytes.{length-bytes}
-use Rattle.protocol.specs.Rows.{Hold, decide}
-use Rattle.protocol.proofs.Hold.{hold-split, passed-hold, hold-passed}
+use Rattle.protocol.specs.Rows.{AllPass, decide}
+use Rattle.protocol.proofs.AllPass.{all-pass-split, passed-all-pass, all-pass-passed}
 use Rattle.protocol.specs.declared.error.ProtocolError.the-variants.{InvalidWitness, SlicesDisagree}
 use Rattle.protocol.specs.declared.check.Check.{Check}
 use Rattle.protocol.specs.declared.check.Check.the-variants.{Passed, Failed}
@@ -31,17 +31,17 @@ use Rattle.authorization.specs.Hashed.{hashedWitness}
 use Rattle.authorization.specs.Sighash.{hashedWitnesses, sighashInput}
 use Rattle.authorization.proofs.SighashTheorem.{sighash-theorem}
 use Rattle.scene_table.specs.Scene.{Input, Scene}
-use Rattle.scene_table.specs.Lent.{entryAt, sceneFrom, bytesAt, lentScene, blankScene}
+use Rattle.scene_table.specs.Lent.{tableEntry, sceneFrom, storeBytes, sceneIn, blankScene}
 use Rattle.scene_table.specs.Valid.{every, validTable}
 use Rattle.scene_table.proofs.Truth.{and-both}
 use Rattle.scene_table.proofs.Rows.{length-rows}
 use Rattle.scene_table.proofs.SceneBack.{sayable}
 use Rattle.scene_table.proofs.PlaceLaws.{lent-given}
-use Rattle.group_sighash.specs.Witnesses.{groupWitnesses, groupOf, firstWitness, otherWitnesses, witnessRows, witnessFits, groupRows, otherRows}
+use Rattle.group_sighash.specs.Witnesses.{groupWitnesses, groupOf, firstWitness, otherWitnesses, firstWitnessRows, witnessFits, groupRows, otherRows}
 use Rattle.group_sighash.specs.GroupSighash.{groupSighash}
 use Rattle.state_transition.specs.Resolve.{resolveRows}
 use Rattle.state_transition.specs.Transition.{sequenceOf}
-use Rattle.account_lock.specs.Lock.{account, operation, current, stateRowsOf, lateRows, earlyRows, digest, Result, refused, walked, orWalked, walkResult, lockScene, lockOf}
+use Rattle.account_lock.specs.Lock.{account, operation, current, statesRows, lateRows, earlyRows, digest, Result, refused, walked, orWalked, walkResult, lockScene, lockOf}
 use Rattle.account_lock.proofs.LockLaws.{group-table}
 use Rattle.account_lock.proofs.LockTheorem.{late, lock-valid}
 
@@ -99,9 +99,9 @@ module _ (s : Scene) where
       let g = group-few (s .inputs) (s .witnesses) in
       omega arith
 
-  pub sighash-hash : length (s .transaction) ≤ 32 → length (s .witnesses) ≤ 64 → Hold (groupRows s) → Hold (otherRows s)
+  pub sighash-hash : length (s .transaction) ≤ 32 → length (s .witnesses) ≤ 64 → AllPass (groupRows s) → AllPass (otherRows s)
       → groupSighash s ≡ ckbHash (sighashInput (s .transaction) (canonicalOf (firstWitness s)) (otherWitnesses s))
-  unfolding groupSighash sighashInput groupRows witnessRows otherRows
+  unfolding groupSighash sighashInput groupRows firstWitnessRows otherRows
   sighash-hash t few g o =
       let first = firstWitness s in
       let canonical = canonicalOf first in
@@ -116,7 +116,7 @@ module _ (s : Scene) where
       let k₅ = others-few in
       sighash-theorem (s .transaction) first others (omega arith)
 
-  pub digest-hash : length (s .transaction) ≤ 32 → length (s .witnesses) ≤ 64 → Hold (groupRows s) → Hold (otherRows s)
+  pub digest-hash : length (s .transaction) ≤ 32 → length (s .witnesses) ≤ 64 → AllPass (groupRows s) → AllPass (otherRows s)
       → digest s ≡ ckbHash (digestInput (operation s) (account s) (sequenceOf (current s)) (current s) (ckbHash (sighashInput (s .transaction) (canonicalOf (firstWitness s)) (otherWitnesses s))))
   unfolding digest digestOf
   digest-hash t few g o = rw (sighash-hash t few g o)
@@ -124,25 +124,25 @@ module _ (s : Scene) where
 -- ---- the lock's digest
 
 -- a valid table has at most 64 witnesses
-few-witnesses : (table store : List ℕ) (n : ℕ) → validTable table n ≡ true → length (lentScene table store .witnesses) ≤ 64
+few-witnesses : (table store : List ℕ) (n : ℕ) → validTable table n ≡ true → length (sceneIn table store .witnesses) ≤ 64
 unfolding validTable blankScene sceneFrom
 few-witnesses table store n v =
     let ok : length (blankScene table .witnesses) ≤ 64 =
     sayable (blankScene table) (and-both _ _ (and-both (leb 2048 (length table)) _ v .1) .0) .fewWitnesses in
-    let m : length (blankScene table .witnesses) ≡ entryAt table 6 = length-rows _ 2 (entryAt table 6) _ in
-    let k : length (lentScene table store .witnesses) ≡ entryAt table 6 = lent-given table store .witnesses .long in
+    let m : length (blankScene table .witnesses) ≡ tableEntry table 6 = length-rows _ 2 (tableEntry table 6) _ in
+    let k : length (sceneIn table store .witnesses) ≡ tableEntry table 6 = lent-given table store .witnesses .long in
     omega arith
 
 -- the transaction hash has at most 32 bytes
-short-transaction : (table store : List ℕ) → length (lentScene table store .transaction) ≤ 32
-unfolding lentScene sceneFrom bytesAt
-short-transaction table store = let n = length-take 32 (drop (entryAt table 10) store) in omega arith
+short-transaction : (table store : List ℕ) → length (sceneIn table store .transaction) ≤ 32
+unfolding sceneIn sceneFrom storeBytes
+short-transaction table store = let n = length-take 32 (drop (tableEntry table 10) store) in omega arith
 
 -- every row before the proofs' passes, so all other hashed witnesses fit
-others-pass : (s : Scene) → Hold (earlyRows s) → Hold (otherRows s)
+others-pass : (s : Scene) → AllPass (earlyRows s) → AllPass (otherRows s)
 unfolding lateRows
 others-pass s h =
-    hold-split (stateRowsOf s) (otherRows s) (hold-split (resolveRows (operation s) (account s) s) _ (late s h .1) .1) .1
+    all-pass-split (statesRows s) (otherRows s) (all-pass-split (resolveRows (operation s) (account s) s) _ (late s h .1) .1) .1
 
 -- only a walk reaches the digest
 from-walk : (k : Check) (w : Result) → orWalked k w .reached ≡ true → k ≡ Passed
@@ -152,33 +152,33 @@ from-walk (Failed x) w e = absurd (true≢false (sym e))
 
 module _ (table store : List ℕ) (room : ℕ) where
   -- where the table is valid and every row before the proofs' passes, the lock's result is the walk's
-  pub early-walked : validTable table (length store) ≡ true → Hold (earlyRows (lentScene table store))
-      → lockOf table store room ≡ walkResult (lentScene table store) room
+  pub early-walked : validTable table (length store) ≡ true → AllPass (earlyRows (sceneIn table store))
+      → lockOf table store room ≡ walkResult (sceneIn table store) room
   unfolding lockScene orWalked
-  early-walked v h = lock-valid table store room v ∙ rw (hold-passed _ h)
+  early-walked v h = lock-valid table store room v ∙ rw (all-pass-passed _ h)
 
   -- and only there the digest is reached
   pub reached-early : lockOf table store room .reached ≡ true
-      → (validTable table (length store) ≡ true) × Hold (earlyRows (lentScene table store))
+      → (validTable table (length store) ≡ true) × AllPass (earlyRows (sceneIn table store))
   unfolding lockOf lockScene refused
   reached-early = go (validTable table (length store)) refl
     where
       go : (b : Bool) → validTable table (length store) ≡ b
-          → cond b (lockScene (lentScene table store) room) (refused (Failed SlicesDisagree)) .reached ≡ true
-          → (validTable table (length store) ≡ true) × Hold (earlyRows (lentScene table store))
+          → cond b (lockScene (sceneIn table store) room) (refused (Failed SlicesDisagree)) .reached ≡ true
+          → (validTable table (length store) ≡ true) × AllPass (earlyRows (sceneIn table store))
       go true v e =
-          let s = lentScene table store in
-          (v, passed-hold (earlyRows s) (from-walk (decide Passed (earlyRows s)) (walkResult s room) e))
+          let s = sceneIn table store in
+          (v, passed-all-pass (earlyRows s) (from-walk (decide Passed (earlyRows s)) (walkResult s room) e))
       go false v e = absurd (true≢false (sym e))
 
   -- where the lock reached its digest, whatever it answers, the digest is CKB's hash of document 01's input
   pub lock-digest : lockOf table store room .reached ≡ true
       → lockOf table store room .digest
-      ≡ ckbHash (digestInput (operation (lentScene table store)) (account (lentScene table store)) (sequenceOf (current (lentScene table store))) (current (lentScene table store))
-      (ckbHash (sighashInput (lentScene table store .transaction) (canonicalOf (firstWitness (lentScene table store))) (otherWitnesses (lentScene table store)))))
+      ≡ ckbHash (digestInput (operation (sceneIn table store)) (account (sceneIn table store)) (sequenceOf (current (sceneIn table store))) (current (sceneIn table store))
+      (ckbHash (sighashInput (sceneIn table store .transaction) (canonicalOf (firstWitness (sceneIn table store))) (otherWitnesses (sceneIn table store)))))
   unfolding walkResult walked
   lock-digest e =
-      let s = lentScene table store in
+      let s = sceneIn table store in
       let h = reached-early e in
       ap (λ (r : Result). r .digest) (early-walked (h .0) (h .1))
       ∙ digest-hash s (short-transaction table store) (few-witnesses table store (length store) (h .0)) (late s (h .1) .0) (others-pass s (h .1))

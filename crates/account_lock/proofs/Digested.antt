@@ -5,8 +5,8 @@ use mathlib.Core.Bool.{true}
 use mathlib.Core.List.{List}
 use Prim.Native.Nat.{ℕ}
 use Rattle.protocol.specs.Policy.{isOperation}
-use Rattle.protocol.specs.Rows.{Hold, decide, _▷_}
-use Rattle.protocol.proofs.Hold.{hold-passed}
+use Rattle.protocol.specs.Rows.{AllPass, decide, _▷_}
+use Rattle.protocol.proofs.AllPass.{all-pass-passed}
 use Rattle.authorization.specs.Digest.{digestOf, digestAnswer, operationRows, authorizationOf}
 use Rattle.scene_table.specs.Scene.{Scene}
 use Rattle.group_sighash.specs.GroupSighash.{sighashRows, sighashFound, groupSighash, groupAnswer}
@@ -18,6 +18,6 @@ unfolding authorizationOf digestAnswer operationRows decide _▷_
 digest-given operation id sequence state hash e = rw e
 
 -- the hashed witnesses pass: the answer has the sighash
-pub sighash-given : (s : Scene) → Hold (sighashRows s) → groupAnswer s .hash ≡ groupSighash s
+pub sighash-given : (s : Scene) → AllPass (sighashRows s) → groupAnswer s .hash ≡ groupSighash s
 unfolding groupAnswer sighashFound
-sighash-given s h = rw (hold-passed (sighashRows s) h)
+sighash-given s h = rw (all-pass-passed (sighashRows s) h)

@@ -12,20 +12,20 @@ use borrow.Author.Tests.{eqb-true, leb-true}
 use Rattle.octets.specs.Le.{numberAt}
 use Rattle.protocol.specs.Args.{argsRows, accountOf}
 use Rattle.protocol.specs.Policy.{isOperation}
-use Rattle.protocol.specs.Rows.{Row, Hold, decide, _▷_, _then_}
-use Rattle.protocol.proofs.Hold.{decide-append, decide-then, failed-passed, hold-append, hold-split}
+use Rattle.protocol.specs.Rows.{Row, AllPass, decide, _▷_, _then_}
+use Rattle.protocol.proofs.AllPass.{decide-append, decide-then, failed-passed, all-pass-append, all-pass-split}
 use Rattle.protocol.specs.declared.error.ProtocolError.{ProtocolError}
 use Rattle.protocol.specs.declared.error.ProtocolError.the-variants.{InvalidWitness}
 use Rattle.protocol.specs.declared.check.Check.{Check}
 use Rattle.protocol.specs.declared.check.Check.the-variants.{Passed, Failed}
 use Rattle.molecule.specs.Table3.{tableRows}
 use Rattle.molecule.specs.Bytes as molecule
-use Rattle.account_witness.specs.Header.{headerRows}
+use Rattle.account_witness.specs.Header.{witnessHeaderRows}
 use Rattle.scene_table.specs.Scene.{Scene}
-use Rattle.group_sighash.specs.Witnesses.{firstWitness, lockIn, witnessRows, countRows, groupRows, otherRows, witnessFits}
+use Rattle.group_sighash.specs.Witnesses.{firstWitness, lockIn, firstWitnessRows, countRows, groupRows, otherRows, witnessFits}
 use Rattle.group_sighash.specs.GroupSighash.{sighashRows}
 use Rattle.state_transition.specs.Resolve.{resolveRows, operationRow, resolvedOf}
-use Rattle.account_lock.specs.Lock.{argsIn, accountIn, scriptRows, account, operation, stateRowsOf, lateRows, earlyRows, witnessLock, Result, refused, orWalked, walkResult, lateResult, lockScene}
+use Rattle.account_lock.specs.Lock.{argsIn, accountIn, scriptRows, account, operation, statesRows, lateRows, earlyRows, witnessLock, Result, refused, orWalked, walkResult, lateResult, lockScene}
 use Rattle.account_lock.specs.Settled.{Authorized, Named, resolved}
 
 pub then-passed : (a b : Check) → a then b ≡ Passed → (a ≡ Passed) × (b ≡ Passed)
@@ -39,7 +39,7 @@ unfolding resolvedOf operationRow decide _▷_
 resolved-found o id s h = rw h
 
 module _ (s : Scene) where
-  pub late-found : {a b c : Check} → a ≡ decide Passed (resolveRows (operation s) (account s) s) → b ≡ decide Passed (stateRowsOf s)
+  pub late-found : {a b c : Check} → a ≡ decide Passed (resolveRows (operation s) (account s) s) → b ≡ decide Passed (statesRows s)
       → c ≡ decide Passed (otherRows s) → (a then b) then c ≡ decide Passed (lateRows s)
   unfolding lateRows
   late-found {a} {b} {c} p q r =
@@ -47,9 +47,9 @@ module _ (s : Scene) where
       rw (p, q, r)
       (sym
       (decide-append Passed resolve _
-      ∙ decide-append (decide Passed resolve) (stateRowsOf s) (otherRows s)
+      ∙ decide-append (decide Passed resolve) (statesRows s) (otherRows s)
       ∙ decide-then _ (otherRows s)
-      ∙ ap (λ (x : Check). x then decide Passed (otherRows s)) (decide-then (decide Passed resolve) (stateRowsOf s))))
+      ∙ ap (λ (x : Check). x then decide Passed (otherRows s)) (decide-then (decide Passed resolve) (statesRows s))))
 
   pub early-found : {a b : Check} → a ≡ decide Passed (scriptRows (s .script)) → b ≡ decide Passed (groupRows s)
       → decide Passed (earlyRows s) ≡ (a then b) then decide Passed (lateRows s)
@@ -82,43 +82,43 @@ module _ (s : Scene) where
   scene-late room p q f = rw (early-found p q, f)
 
 -- the args of a script whose rows pass have the id's 32 bytes
-pub account-whole : (script : List ℕ) → Hold (scriptRows script) → length (accountIn script) ≡ 32
+pub account-whole : (script : List ℕ) → AllPass (scriptRows script) → length (accountIn script) ≡ 32
 unfolding scriptRows accountIn accountOf argsRows
 account-whole script h =
-    let split = hold-split (molecule.argsRows script) _ (h .1) in
+    let split = all-pass-split (molecule.scriptArgsRows script) _ (h .1) in
     let n : length (argsIn script) ≡ 33 = eqb-true _ _ (split .1 .0) in
     let m : length (drop 1 (argsIn script)) ≡ length (argsIn script) - 1 = length-drop 1 (argsIn script) in
     length-take-le 32 (drop 1 (argsIn script)) (omega arith)
 
 -- and a group whose rows pass has a table and an operation
-module _ (s : Scene) (h : Hold (groupRows s)) where
-  lock-rows : Hold (molecule.lockRows (firstWitness s)) × Hold (headerRows (lockIn (firstWitness s)) ++ countRows (lockIn (firstWitness s)))
-  unfolding groupRows witnessRows
-  lock-rows = hold-split (molecule.lockRows (firstWitness s)) _ (h .1 .1)
+module _ (s : Scene) (h : AllPass (groupRows s)) where
+  lock-rows : AllPass (molecule.witnessLockRows (firstWitness s)) × AllPass (witnessHeaderRows (lockIn (firstWitness s)) ++ countRows (lockIn (firstWitness s)))
+  unfolding groupRows firstWitnessRows
+  lock-rows = all-pass-split (molecule.witnessLockRows (firstWitness s)) _ (h .1 .1)
 
-  pub group-table : Hold (tableRows InvalidWitness (firstWitness s))
-  unfolding molecule.lockRows
-  group-table = hold-split (tableRows InvalidWitness (firstWitness s)) _ (lock-rows .0) .0
+  pub group-table : AllPass (tableRows InvalidWitness (firstWitness s))
+  unfolding molecule.witnessLockRows
+  group-table = all-pass-split (tableRows InvalidWitness (firstWitness s)) _ (lock-rows .0) .0
 
   pub group-operation : isOperation (operation s) ≡ true
-  unfolding operation witnessLock headerRows
-  group-operation = hold-split (headerRows (lockIn (firstWitness s))) (countRows (lockIn (firstWitness s))) (lock-rows .1) .0 .1 .1 .1 .1 .0
+  unfolding operation witnessLock witnessHeaderRows
+  group-operation = all-pass-split (witnessHeaderRows (lockIn (firstWitness s))) (countRows (lockIn (firstWitness s))) (lock-rows .1) .0 .1 .1 .1 .1 .0
 
   -- and its witness lock has at most 131,072 bytes and at most 16 proofs
   pub group-length : length (witnessLock s) ≤ 131072
-  unfolding witnessLock headerRows
-  group-length = leb-true _ _ (hold-split (headerRows (lockIn (firstWitness s))) (countRows (lockIn (firstWitness s))) (lock-rows .1) .0 .1 .0)
+  unfolding witnessLock witnessHeaderRows
+  group-length = leb-true _ _ (all-pass-split (witnessHeaderRows (lockIn (firstWitness s))) (countRows (lockIn (firstWitness s))) (lock-rows .1) .0 .1 .0)
 
   pub group-count : numberAt (witnessLock s) 6 1 ≤ 16
   unfolding witnessLock countRows
-  group-count = leb-true _ _ (hold-split (headerRows (lockIn (firstWitness s))) (countRows (lockIn (firstWitness s))) (lock-rows .1) .1 .0)
+  group-count = leb-true _ _ (all-pass-split (witnessHeaderRows (lockIn (firstWitness s))) (countRows (lockIn (firstWitness s))) (lock-rows .1) .1 .0)
 
 -- what the sighash tests has passed
-pub group-hashed : (s : Scene) → Hold (groupRows s) → Hold (otherRows s) → Hold (sighashRows s)
-unfolding sighashRows groupRows witnessRows witnessFits
-group-hashed s g o = (g .0, (g .1 .0, hold-append (tableRows InvalidWitness (firstWitness s)) (otherRows s) (group-table s g) o))
+pub group-hashed : (s : Scene) → AllPass (groupRows s) → AllPass (otherRows s) → AllPass (sighashRows s)
+unfolding sighashRows groupRows firstWitnessRows witnessFits
+group-hashed s g o = (g .0, (g .1 .0, all-pass-append (tableRows InvalidWitness (firstWitness s)) (otherRows s) (group-table s g) o))
 
-pub named-authorized : (id bytes : List ℕ) (s : Scene) → Named id bytes s → Hold (otherRows s) → Authorized (numberAt bytes 5 1) id s
+pub named-authorized : (id bytes : List ℕ) (s : Scene) → Named id bytes s → AllPass (otherRows s) → Authorized (numberAt bytes 5 1) id s
 unfolding operation account
 named-authorized id bytes s n o =
     record {

@@ -11,23 +11,23 @@ use lib.ListN.{length, drop}
 use borrow.Author.Tests.{leb-true}
 use Rattle.octets.specs.Le.{numberAt}
 use Rattle.protocol.specs.Policy.{isOperation}
-use Rattle.protocol.specs.Rows.{Row, Hold, decide}
-use Rattle.protocol.proofs.Hold.{passed-hold, hold-passed, hold-split, failed-passed}
+use Rattle.protocol.specs.Rows.{Row, AllPass, decide}
+use Rattle.protocol.proofs.AllPass.{passed-all-pass, all-pass-passed, all-pass-split, failed-passed}
 use Rattle.protocol.specs.declared.error.ProtocolError.the-variants.{SlicesDisagree}
 use Rattle.protocol.specs.declared.check.Check.{Check}
 use Rattle.protocol.specs.declared.check.Check.the-variants.{Passed, Failed}
 use Rattle.account_state.specs.State as state
 use Rattle.scene_table.specs.Scene.{Scene}
-use Rattle.scene_table.specs.Lent.{lentScene}
+use Rattle.scene_table.specs.Lent.{sceneIn}
 use Rattle.scene_table.specs.Valid.{validTable}
 use Rattle.group_sighash.specs.Witnesses.{groupRows, otherRows}
 use Rattle.state_transition.specs.Resolve.{resolveRows, stateSince}
 use Rattle.state_transition.specs.Transition.{dataRows, currentRows, successorRows, recoveryRows, successionRows, transitionRows}
-use Rattle.decision.specs.Proofs.{thresholdOf, settingFor}
+use Rattle.decision.specs.Proofs.{thresholdOf, contextFor}
 use Rattle.decision.specs.Walk.{walkLock, answered}
 use Rattle.decision.specs.Decision.{ProofsPass, Quorum, proofsOf}
 use Rattle.decision.proofs.DecisionTheorem.{lock-decides}
-use Rattle.account_lock.specs.Lock.{scriptRows, account, operation, witnessLock, witnessSequence, current, successor, stateRowsOf, lateRows, earlyRows, settingOf, digest, Result, refused, walked, orWalked, walkResult, lockScene, lockOf, told}
+use Rattle.account_lock.specs.Lock.{scriptRows, account, operation, witnessLock, witnessSequence, current, successor, statesRows, lateRows, earlyRows, contextOf, digest, Result, refused, walked, orWalked, walkResult, lockScene, lockOf, answerOf}
 use Rattle.account_lock.specs.declared.answer.LockAnswer.{LockAnswer}
 use Rattle.account_lock.specs.Decides.{EarlierPass, LockQuorum}
 use Rattle.account_lock.proofs.LockLaws.{group-operation}
@@ -40,31 +40,31 @@ pub record Thresholds (s : List ℕ) : Type 0 where
   pub rotate : 1 ≤ numberAt s 18 2
   pub recovery : eqb (numberAt s 5 1 % 2) 1 ≡ true → 1 ≤ numberAt s 20 2
 
-state-thresholds : (s : List ℕ) → Hold (state.stateRows s) → Thresholds s
-unfolding state.stateRows state.tailRows state.endRows state.thresholdRows state.recoveryRows
+state-thresholds : (s : List ℕ) → AllPass (state.stateRows s) → Thresholds s
+unfolding state.stateRows state.stateTailRows state.stateEndRows state.thresholdRows state.recoveryThresholdRows
 state-thresholds s h =
-    let e = hold-split (state.entriesRows (numberAt s 22 1) (drop 32 s) 0) _ (hold-split (state.headRows s) _ h .1) .1 in
+    let e = all-pass-split (state.entriesRows (numberAt s 22 1) (drop 32 s) 0) _ (all-pass-split (state.stateHeaderRows s) _ h .1) .1 in
     record {
       spend = leb-true 1 _ (e .1 .0);
       rotate = leb-true 1 _ (e .1 .1 .0);
       recovery = λ on. leb-true 1 _ ((rw on at (e .1 .1 .1 .1 .1)) .0);
     }
 
-module _ (s : Scene) (h : Hold (earlyRows s)) where
-  pub late : Hold (groupRows s) × Hold (lateRows s)
+module _ (s : Scene) (h : AllPass (earlyRows s)) where
+  pub late : AllPass (groupRows s) × AllPass (lateRows s)
   unfolding earlyRows
-  late = hold-split (groupRows s) _ (hold-split (scriptRows (s .script)) _ h .1)
+  late = all-pass-split (groupRows s) _ (all-pass-split (scriptRows (s .script)) _ h .1)
 
-  pub transition : Hold (transitionRows (operation s) (witnessSequence s) (stateSince (operation s) (account s) s) (current s) (successor s))
-  unfolding lateRows stateRowsOf
+  pub transition : AllPass (transitionRows (operation s) (witnessSequence s) (stateSince (operation s) (account s) s) (current s) (successor s))
+  unfolding lateRows statesRows
   transition =
-      let l = hold-split (resolveRows (operation s) (account s) s) _ (late .1) .1 in
-      hold-split (dataRows (current s) (successor s)) _ (hold-split (stateRowsOf s) (otherRows s) l .0) .1
+      let l = all-pass-split (resolveRows (operation s) (account s) s) _ (late .1) .1 in
+      all-pass-split (dataRows (current s) (successor s)) _ (all-pass-split (statesRows s) (otherRows s) l .0) .1
 
   -- the rows of the current state pass
-  pub state-passes : Hold (state.stateRows (current s))
+  pub state-passes : AllPass (state.stateRows (current s))
   unfolding transitionRows currentRows
-  state-passes = hold-split (state.stateRows (current s)) _ (hold-split (currentRows (witnessSequence s) (current s)) _ transition .0) .0
+  state-passes = all-pass-split (state.stateRows (current s)) _ (all-pass-split (currentRows (witnessSequence s) (current s)) _ transition .0) .0
 
   thresholds : Thresholds (current s)
   thresholds = state-thresholds (current s) state-passes
@@ -73,9 +73,9 @@ module _ (s : Scene) (h : Hold (earlyRows s)) where
   recovery-on : eqb (operation s) 1 ≡ false → eqb (operation s) 3 ≡ true → eqb (numberAt (current s) 5 1 % 2) 1 ≡ true
   unfolding transitionRows successionRows recoveryRows
   recovery-on p q =
-      let c : Hold (successionRows (operation s) (stateSince (operation s) (account s) s) (current s) (successor s)) =
-      rw p at (hold-split (currentRows (witnessSequence s) (current s)) _ transition .1) in
-      let r = hold-split (successorRows (current s) (successor s)) _ c .1 in
+      let c : AllPass (successionRows (operation s) (stateSince (operation s) (account s) s) (current s) (successor s)) =
+      rw p at (all-pass-split (currentRows (witnessSequence s) (current s)) _ transition .1) in
+      let r = all-pass-split (successorRows (current s) (successor s)) _ c .1 in
       (rw q at r) .0
 
   -- so in the lock no threshold is 0: 28 is "approved weight below threshold" alone
@@ -99,51 +99,51 @@ module _ (table store : List ℕ) (room : ℕ) where
   from-walk Passed w e = (refl, e)
   from-walk (Failed x) w e = failed-passed x e
 
-  accepted : lockScene (lentScene table store) room .found ≡ Passed → validTable table (length store) ≡ true
+  accepted : lockScene (sceneIn table store) room .found ≡ Passed → validTable table (length store) ≡ true
       → EarlierPass table store room × LockQuorum table store room
-  unfolding lockScene walkResult walked settingOf settingFor
+  unfolding lockScene walkResult walked contextOf contextFor
   accepted e v =
-      let s = lentScene table store in
+      let s = sceneIn table store in
       let z = from-walk (decide Passed (earlyRows s)) (walkResult s room) e in
-      let early = passed-hold (earlyRows s) (z .0) in
-      let d = lock-decides (settingOf s room) (witnessLock s) .0 (z .1) in
+      let early = passed-all-pass (earlyRows s) (z .0) in
+      let d = lock-decides (contextOf s room) (witnessLock s) .0 (z .1) in
       (record { valid = v; early = early; proofs = d .0 }, d .1)
 
-  pub lock-accepts : (lockOf table store room .found ≡ Passed) ↔ (EarlierPass table store room × LockQuorum table store room)
-  unfolding lockOf lockScene orWalked walkResult walked settingOf settingFor refused
-  lock-accepts = (there (validTable table (length store)) refl, back)
+  pub lock-decision : (lockOf table store room .found ≡ Passed) ↔ (EarlierPass table store room × LockQuorum table store room)
+  unfolding lockOf lockScene orWalked walkResult walked contextOf contextFor refused
+  lock-decision = (there (validTable table (length store)) refl, back)
     where
       there : (b : Bool) → validTable table (length store) ≡ b
-          → cond b (lockScene (lentScene table store) room) (refused (Failed SlicesDisagree)) .found ≡ Passed
+          → cond b (lockScene (sceneIn table store) room) (refused (Failed SlicesDisagree)) .found ≡ Passed
           → EarlierPass table store room × LockQuorum table store room
       there true v e = accepted e v
       there false v e = failed-passed SlicesDisagree e
 
       back : EarlierPass table store room × LockQuorum table store room → lockOf table store room .found ≡ Passed
       back h =
-          let s = lentScene table store in
-          rw (h .0 .valid, hold-passed (earlyRows s) (h .0 .early))
-          (lock-decides (settingOf s room) (witnessLock s) .1 (h .0 .proofs, h .1))
+          let s = sceneIn table store in
+          rw (h .0 .valid, all-pass-passed (earlyRows s) (h .0 .early))
+          (lock-decides (contextOf s room) (witnessLock s) .1 (h .0 .proofs, h .1))
 
 -- ---- what the lock promises, from what it found of its table
 
 -- the promises of an answer r and a buffer `after`, for a buffer `before`
 abbrev pub Promised : List ℕ → List ℕ → List ℕ → LockAnswer → List ℕ → Type 0
 Promised table store before r after =
-    (r ≡ told (lockOf table store (length before)))
+    (r ≡ answerOf (lockOf table store (length before)))
     × ((after ≡ answered before (lockOf table store (length before) .made))
     × ((r .found ≡ Passed) ↔ (EarlierPass table store (length before) × LockQuorum table store (length before))))
 
-pub decided : (table store before : List ℕ) {r : LockAnswer} {after : List ℕ} → r ≡ told (lockOf table store (length before))
+pub decided : (table store before : List ℕ) {r : LockAnswer} {after : List ℕ} → r ≡ answerOf (lockOf table store (length before))
     → after ≡ answered before (lockOf table store (length before) .made) → Promised table store before r after
-unfolding told
+unfolding answerOf
 decided table store before e k =
     let f = ap (λ (x : LockAnswer). x .found) e in
-    let d = lock-accepts table store (length before) in
+    let d = lock-decision table store (length before) in
     (e, (k, (λ h. d .0 (sym f ∙ h), λ q. f ∙ d .1 q)))
 
 module _ (table store : List ℕ) (room : ℕ) where
-  pub lock-valid : validTable table (length store) ≡ true → lockOf table store room ≡ lockScene (lentScene table store) room
+  pub lock-valid : validTable table (length store) ≡ true → lockOf table store room ≡ lockScene (sceneIn table store) room
   unfolding lockOf
   lock-valid v = rw v
 

@@ -20,18 +20,18 @@ use Rattle.protocol.specs.declared.check.Check.the-variants.{Passed, Failed}
 use Rattle.protocol.proofs.Each.{Each, Refuses, each-append, each-cond, each-refuses, each-failed}
 use Rattle.molecule.specs.Table3.{tableRows}
 use Rattle.molecule.specs.Bytes as molecule
-use Rattle.account_state.specs.Reading.{lengthOf, slotOf}
+use Rattle.account_state.specs.Reading.{entryLengthOf, entrySlotOf}
 use Rattle.account_state.specs.State as state
-use Rattle.account_witness.specs.Header.{headerRows}
+use Rattle.account_witness.specs.Header.{witnessHeaderRows}
 use Rattle.account_witness.specs.Reading.{ProofReading}
 use Rattle.scene_table.specs.Scene.{Scene}
-use Rattle.scene_table.specs.Lent.{lentScene}
+use Rattle.scene_table.specs.Lent.{sceneIn}
 use Rattle.scene_table.specs.Valid.{validTable}
-use Rattle.group_sighash.specs.Witnesses.{countRows, witnessRows, groupRows, otherRows}
+use Rattle.group_sighash.specs.Witnesses.{countRows, firstWitnessRows, groupRows, otherRows}
 use Rattle.state_transition.specs.Resolve as resolve
 use Rattle.state_transition.specs.Transition as transition
-use Rattle.decision.specs.Proofs.{Setting, limitRows, entryRows, proofRows, requestOf}
-use Rattle.decision.specs.Walk.{Outcome, outcome, verdict, earned, lastRows, orElse, walk, walkList, walkLock}
+use Rattle.decision.specs.Proofs.{Context, requestLimitRows, authenticatorRows, proofRows, requestOf}
+use Rattle.decision.specs.Walk.{WalkOutcome, walkOutcome, verdict, approvedWeight, lastRows, orElse, walk, walkList, walkLock}
 use Rattle.account_lock.specs.Lock as lock
 use Rattle.account_lock.specs.Decides.{LockNumber}
 
@@ -45,13 +45,13 @@ abbrev pub Early : ProtocolError → Type 0
 Early e = Original e × (errorNumber e ≢ 28)
 
 -- a state's header
-head-early : (s : List ℕ) → Each Early (state.headRows s)
-unfolding state.headRows
+head-early : (s : List ℕ) → Each Early (state.stateHeaderRows s)
+unfolding state.stateHeaderRows
 head-early s = search arith depth 20
 
 -- one of its entries
 entry-early : (e : List ℕ) (least : ℕ) → Each Early (state.entryRows e least)
-unfolding state.entryRows state.layoutRows state.fieldRows
+unfolding state.entryRows state.entryLayoutRows state.entryFieldRows
 entry-early e least = search arith depth 20
 
 -- its entries
@@ -59,33 +59,33 @@ entries-early : (n : ℕ) (e : List ℕ) (least : ℕ) → Each Early (state.ent
 unfolding state.entriesRows
 entries-early zero e least = tt
 entries-early (suc n) e least =
-    each-append Early (state.entryRows e least) _ (entry-early e least) (entries-early n (drop (lengthOf e) e) (slotOf e + 1))
+    each-append Early (state.entryRows e least) _ (entry-early e least) (entries-early n (drop (entryLengthOf e) e) (entrySlotOf e + 1))
 
 -- its recovery
-recovery-early : (flags threshold since weight : ℕ) → Each Early (state.recoveryRows flags threshold since weight)
-unfolding state.recoveryRows
+recovery-early : (flags threshold since weight : ℕ) → Each Early (state.recoveryThresholdRows flags threshold since weight)
+unfolding state.recoveryThresholdRows
 recovery-early flags threshold since weight = each-cond Early (eqb (flags % 2) 1) _ _ (search arith) (search arith)
 
 -- what follows its entries
-tail-early : (s : List ℕ) (n : ℕ) (e : List ℕ) → Each Early (state.tailRows s n e)
-unfolding state.tailRows state.endRows state.thresholdRows
+tail-early : (s : List ℕ) (n : ℕ) (e : List ℕ) → Each Early (state.stateTailRows s n e)
+unfolding state.stateTailRows state.stateEndRows state.thresholdRows
 tail-early s n e = search (arith, recovery-early) depth 12
 
 -- the whole state
 state-early : (s : List ℕ) → Each Early (state.stateRows s)
 unfolding state.stateRows
 state-early s =
-    each-append Early (state.headRows s) _ (head-early s)
+    each-append Early (state.stateHeaderRows s) _ (head-early s)
     (each-append Early (state.entriesRows (numberAt s 22 1) (drop 32 s) 0) _ (entries-early _ _ 0) (tail-early s _ _))
 
 -- the script
 script-early : (script : List ℕ) → Each Early (lock.scriptRows script)
-unfolding lock.scriptRows molecule.argsRows tableRows molecule.bytesRows argsRows
+unfolding lock.scriptRows molecule.scriptArgsRows tableRows molecule.bytesRows argsRows
 script-early script = search arith depth 20
 
 -- the first witness of the group
 group-early : (s : Scene) → Each Early (groupRows s)
-unfolding groupRows witnessRows molecule.lockRows tableRows molecule.bytesRows headerRows countRows
+unfolding groupRows firstWitnessRows molecule.witnessLockRows tableRows molecule.bytesRows witnessHeaderRows countRows
 group-early s = search arith depth 30
 
 -- the other hashed witnesses
@@ -127,12 +127,12 @@ transition-early operation sequence since current successor =
 
 -- every row before the proofs
 pub early-each : (s : Scene) → Each Early (lock.earlyRows s)
-unfolding lock.earlyRows lock.lateRows lock.stateRowsOf
+unfolding lock.earlyRows lock.lateRows lock.statesRows
 early-each s =
     each-append Early (lock.scriptRows (s .script)) _ (script-early (s .script))
     (each-append Early (groupRows s) _ (group-early s)
     (each-append Early (resolve.resolveRows (lock.operation s) (lock.account s) s) _ (resolve-early _ _ s)
-    (each-append Early (lock.stateRowsOf s) _
+    (each-append Early (lock.statesRows s) _
     (each-append Early (transition.dataRows (lock.current s) (lock.successor s)) _ (data-early _ _) (transition-early _ _ _ _ _))
     (other-early s))))
 
@@ -150,8 +150,8 @@ original-refusal : (e : ProtocolError) → Original e → LockRefusal e
 original-refusal e h = inr h
 
 -- one proof's rows
-proof-refusal : (c : Setting) (used : ℕ) (p : ProofReading) → Each LockRefusal (proofRows c used p)
-unfolding proofRows entryRows limitRows
+proof-refusal : (c : Context) (used : ℕ) (p : ProofReading) → Each LockRefusal (proofRows c used p)
+unfolding proofRows authenticatorRows requestLimitRows
 proof-refusal c used p =
     let witness = original-refusal InvalidWitness (search arith) in
     let capability = original-refusal InvalidCapability (search arith) in
@@ -170,16 +170,16 @@ end-refusal clean weight threshold =
     search depth 12
 
 -- one proof, and those behind it
-walk-refusal : (c : Setting) (clean : Bool) (i weight : ℕ) (made : List ℕ) (ps : List ProofReading)
+walk-refusal : (c : Context) (clean : Bool) (i weight : ℕ) (made : List ℕ) (ps : List ProofReading)
     → Refuses LockRefusal (walk c clean i weight made ps .found)
 unfolding walk orElse
 walk-refusal c clean i weight made [] = each-refuses LockRefusal _ (end-refusal clean weight (c .threshold))
 walk-refusal c clean i weight made (p ∷ ps) =
     go (decide Passed (proofRows c (length made) p)) (each-refuses LockRefusal _ (proof-refusal c (length made) p)) (eqb (verdict c i) 2)
-    (walk c clean (i + 1) (weight + earned c i p) (made ++ requestOf c p) ps) (walk-refusal c clean (i + 1) _ _ ps)
+    (walk c clean (i + 1) (weight + approvedWeight c i p) (made ++ requestOf c p) ps) (walk-refusal c clean (i + 1) _ _ ps)
   where
-    go : (k : Check) → Refuses LockRefusal k → (b : Bool) (onward : Outcome) → Refuses LockRefusal (onward .found)
-        → Refuses LockRefusal (orElse k i made (cond b (outcome (Failed VerifierFailure) (i + 1) (made ++ requestOf c p)) onward) .found)
+    go : (k : Check) → Refuses LockRefusal k → (b : Bool) (onward : WalkOutcome) → Refuses LockRefusal (onward .found)
+        → Refuses LockRefusal (orElse k i made (cond b (walkOutcome (Failed VerifierFailure) (i + 1) (made ++ requestOf c p)) onward) .found)
     go (Failed e) h b onward f = h
     go Passed h true onward f = original-refusal VerifierFailure (search arith)
     go Passed h false onward f = f
@@ -212,8 +212,8 @@ module _ (table store : List ℕ) (room : ℕ) where
   unfolding lock.lockOf lock.refused
   lock-numbers = go (validTable table (length store))
     where
-      go : (b : Bool) → LockNumber (checkNumber (cond b (lock.lockScene (lentScene table store) room) (lock.refused (Failed SlicesDisagree)) .found))
-      go true = scene-number (lock.lockScene (lentScene table store) room .found) (scene-refusal (lentScene table store) room)
+      go : (b : Bool) → LockNumber (checkNumber (cond b (lock.lockScene (sceneIn table store) room) (lock.refused (Failed SlicesDisagree)) .found))
+      go true = scene-number (lock.lockScene (sceneIn table store) room .found) (scene-refusal (sceneIn table store) room)
       go false = inr (inr (inl refl))
 
   -- 7 is given exactly where the table fails its test
@@ -222,9 +222,9 @@ module _ (table store : List ℕ) (room : ℕ) where
   lock-seven = go (validTable table (length store))
     where
       go : (b : Bool)
-          → (checkNumber (cond b (lock.lockScene (lentScene table store) room) (lock.refused (Failed SlicesDisagree)) .found) ≡ 7) ↔ (b ≡ false)
+          → (checkNumber (cond b (lock.lockScene (sceneIn table store) room) (lock.refused (Failed SlicesDisagree)) .found) ≡ 7) ↔ (b ≡ false)
       go true = (
-        λ q. absurd (not-seven (lock.lockScene (lentScene table store) room .found) (scene-refusal (lentScene table store) room) q),
+        λ q. absurd (not-seven (lock.lockScene (sceneIn table store) room .found) (scene-refusal (sceneIn table store) room) q),
         λ (e : true ≡ false). absurd (let z : _≡_ {A = ℕ} 0 1 = cc in omega arith),
       )
       go false = (λ q. refl, λ e. refl)

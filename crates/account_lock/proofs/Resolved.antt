@@ -9,7 +9,7 @@ use lib.ListN.{getD}
 use Rattle.scene_table.specs.Scene.{Scene}
 use Rattle.cell_search.specs.declared.cells.Source.the-variants as source
 use Rattle.cell_search.specs.Search.{cellsOf, cellAt}
-use Rattle.state_transition.specs.Resolve.{statePlace, stateCell, stateSource, currentState, successorState, stateSince, noInput, resolvedOf}
+use Rattle.state_transition.specs.Resolve.{stateIndex, stateCell, stateSource, currentState, successorState, stateSince, noInput, resolvedOf}
 
 module _ (operation : ℕ) (id : List ℕ) (s : Scene) where
   pub state-current : cellAt (cellsOf (stateSource operation) s) (resolvedOf operation id s .current) .content ≡ currentState operation id s
@@ -26,7 +26,7 @@ module _ (operation : ℕ) (id : List ℕ) (s : Scene) where
   state-successor = go (eqb operation 1)
     where
       go : (b : Bool)
-          → cond b [] (cellAt (cellsOf source.Output s) (cond b 0 (statePlace source.Output id s)) .content)
-          ≡ cond b [] (cellAt (cellsOf source.Output s) (statePlace source.Output id s) .content)
+          → cond b [] (cellAt (cellsOf source.Output s) (cond b 0 (stateIndex source.Output id s)) .content)
+          ≡ cond b [] (cellAt (cellsOf source.Output s) (stateIndex source.Output id s) .content)
       go true = refl
       go false = refl

@@ -13,15 +13,15 @@ use Rattle.protocol.specs.declared.error.ProtocolError.the-variants.{SlicesDisa
 use Rattle.protocol.specs.declared.check.Check.{Check}
 use Rattle.protocol.specs.declared.check.Check.the-variants.{Passed, Failed}
 use Rattle.protocol.proofs.ErrorNumbers.{not-0}
-use Rattle.protocol.proofs.Hold.{passed-hold}
+use Rattle.protocol.proofs.AllPass.{passed-all-pass}
 use Rattle.protocol.proofs.Each.{Refuses, each-refuses}
-use Rattle.scene_table.specs.Lent.{lentScene}
+use Rattle.scene_table.specs.Lent.{sceneIn}
 use Rattle.scene_table.specs.Valid.{validTable}
 use Rattle.decision.proofs.Quorum.{ZeroOr28}
 use Rattle.decision.proofs.DecisionTheorem as walk
-use Rattle.account_lock.specs.Lock.{witnessLock, earlyRows, settingOf, Result, refused, walked, orWalked, walkResult, lockScene, lockOf}
+use Rattle.account_lock.specs.Lock.{witnessLock, earlyRows, contextOf, Result, refused, walked, orWalked, walkResult, lockScene, lockOf}
 use Rattle.account_lock.specs.Decides.{EarlierPass, LockQuorum}
-use Rattle.account_lock.proofs.LockTheorem.{lock-accepts}
+use Rattle.account_lock.proofs.LockTheorem.{lock-decision}
 use Rattle.account_lock.proofs.DigestTheorem.{early-walked}
 use Rattle.account_lock.proofs.Numbers.{Early, early-each}
 
@@ -41,20 +41,20 @@ module _ (table store : List ℕ) (room : ℕ) where
   lock-zero-or-28 = (there (validTable table (length store)) refl, back)
     where
       there : (b : Bool) → validTable table (length store) ≡ b
-          → ZeroOr28 (checkNumber (cond b (lockScene (lentScene table store) room) (refused (Failed SlicesDisagree)) .found))
+          → ZeroOr28 (checkNumber (cond b (lockScene (sceneIn table store) room) (refused (Failed SlicesDisagree)) .found))
           → EarlierPass table store room
       there true v h =
-          let s = lentScene table store in
+          let s = sceneIn table store in
           let z = early-last (decide Passed (earlyRows s)) (walkResult s room) (each-refuses Early _ (early-each s)) h in
-          let proofs = walk.lock-zero-or-28 (settingOf s room) (witnessLock s) .0 (z .1) in
-          record { valid = v; early = passed-hold (earlyRows s) (z .0); proofs = proofs }
+          let proofs = walk.lock-zero-or-28 (contextOf s room) (witnessLock s) .0 (z .1) in
+          record { valid = v; early = passed-all-pass (earlyRows s) (z .0); proofs = proofs }
       there false v (inl h) = absurd (omega arith)
       there false v (inr h) = absurd (omega arith)
 
       back : EarlierPass table store room → ZeroOr28 (checkNumber (lockOf table store room .found))
       back h =
-          let s = lentScene table store in
-          rw (early-walked table store room (h .valid) (h .early)) (walk.lock-zero-or-28 (settingOf s room) (witnessLock s) .1 (h .proofs))
+          let s = sceneIn table store in
+          rw (early-walked table store room (h .valid) (h .early)) (walk.lock-zero-or-28 (contextOf s room) (witnessLock s) .1 (h .proofs))
 
   -- and 28 exactly where there is no quorum then
   pub lock-unsatisfied : (checkNumber (lockOf table store room .found) ≡ 28)
@@ -64,7 +64,7 @@ module _ (table store : List ℕ) (room : ℕ) where
       there : checkNumber (lockOf table store room .found) ≡ 28 → EarlierPass table store room × ¬ LockQuorum table store room
       there h =
           let pass = lock-zero-or-28 .0 (inr h) in
-          (pass, λ q. let z = ap checkNumber (lock-accepts table store room .1 (pass, q)) in omega arith)
+          (pass, λ q. let z = ap checkNumber (lock-decision table store room .1 (pass, q)) in omega arith)
 
       accepted : (k : Check) → checkNumber k ≡ 0 → k ≡ Passed
       accepted Passed h = refl
@@ -74,5 +74,5 @@ module _ (table store : List ℕ) (room : ℕ) where
       back h = go (lock-zero-or-28 .1 (h .0))
         where
           go : ZeroOr28 (checkNumber (lockOf table store room .found)) → checkNumber (lockOf table store room .found) ≡ 28
-          go (inl z) = absurd (h .1 (lock-accepts table store room .0 (accepted (lockOf table store room .found) z) .1))
+          go (inl z) = absurd (h .1 (lock-decision table store room .0 (accepted (lockOf table store room .found) z) .1))
           go (inr z) = z

@@ -5,11 +5,11 @@ use mathlib.Core.Logic.{_⊎_}
 use mathlib.Core.Bool.{true}
 use mathlib.Core.List.{List, _++_}
 use lib.ListN.{length, drop}
-use Rattle.protocol.specs.Rows.{Hold}
+use Rattle.protocol.specs.Rows.{AllPass}
 use Rattle.molecule.specs.Canonical.{canonicalOf}
 use Rattle.authorization.specs.Digest.{ckbHash, digestInput}
 use Rattle.authorization.specs.Sighash.{sighashInput}
-use Rattle.scene_table.specs.Lent.{lentScene}
+use Rattle.scene_table.specs.Lent.{sceneIn}
 use Rattle.scene_table.specs.Valid.{validTable}
 use Rattle.group_sighash.specs.Witnesses.{firstWitness, otherWitnesses}
 use Rattle.state_transition.specs.Transition.{sequenceOf}
@@ -17,36 +17,36 @@ use Rattle.decision.specs.Proofs.{requestsOf}
 use Rattle.decision.specs.Walk.{answered}
 use Rattle.decision.specs.Requests.{RequestsRead}
 use Rattle.decision.specs.Decision.{ProofsPass, Quorum, proofsOf}
-use Rattle.account_lock.specs.Lock.{account, operation, witnessLock, current, earlyRows, settingOf, lockOf}
+use Rattle.account_lock.specs.Lock.{account, operation, witnessLock, current, earlyRows, contextOf, lockOf}
 
 -- 01: "Earlier checks are its rows before the one for 28."
 pub record EarlierPass (table store : List ℕ) (room : ℕ) : Type 0 where
   pub valid : validTable table (length store) ≡ true
-  pub early : Hold (earlyRows (lentScene table store))
-  pub proofs : ProofsPass (settingOf (lentScene table store) room) (witnessLock (lentScene table store))
+  pub early : AllPass (earlyRows (sceneIn table store))
+  pub proofs : ProofsPass (contextOf (sceneIn table store) room) (witnessLock (sceneIn table store))
 
 -- a quorum of the account's current state among the proofs of the witness lock
 abbrev pub LockQuorum : List ℕ → List ℕ → ℕ → Type 0
 LockQuorum table store room =
-    Quorum (settingOf (lentScene table store) room) (proofsOf (witnessLock (lentScene table store)))
+    Quorum (contextOf (sceneIn table store) room) (proofsOf (witnessLock (sceneIn table store)))
 
 -- what stands in the answer where every earlier row passes; 01: "Each request is written into the rest of the answer buffer, behind
 -- the last one. Bytes after that total are unchanged."
 pub record Answers (table store before : List ℕ) : Type 0 where
   -- one request for each proof, in order, and the old bytes behind them
-  pub count : lockOf table store (length before) .count ≡ length (proofsOf (witnessLock (lentScene table store)))
+  pub count : lockOf table store (length before) .count ≡ length (proofsOf (witnessLock (sceneIn table store)))
   pub buffer : answered before (lockOf table store (length before) .made)
-      ≡ requestsOf (settingOf (lentScene table store) (length before)) (proofsOf (witnessLock (lentScene table store)))
-      ++ drop (length (requestsOf (settingOf (lentScene table store) (length before)) (proofsOf (witnessLock (lentScene table store))))) before
+      ≡ requestsOf (contextOf (sceneIn table store) (length before)) (proofsOf (witnessLock (sceneIn table store)))
+      ++ drop (length (requestsOf (contextOf (sceneIn table store) (length before)) (proofsOf (witnessLock (sceneIn table store))))) before
   -- the request reader reads each as what it was made from
-  pub read : RequestsRead (settingOf (lentScene table store) (length before)) (proofsOf (witnessLock (lentScene table store)))
+  pub read : RequestsRead (contextOf (sceneIn table store) (length before)) (proofsOf (witnessLock (sceneIn table store)))
   -- and the digest in each is the lock's
-  pub carried : settingOf (lentScene table store) (length before) .digest ≡ lockOf table store (length before) .digest
+  pub carried : contextOf (sceneIn table store) (length before) .digest ≡ lockOf table store (length before) .digest
   -- the digest is reached, and is CKB's hash of document 01's input
   pub reached : lockOf table store (length before) .reached ≡ true
   pub digest : lockOf table store (length before) .digest
-      ≡ ckbHash (digestInput (operation (lentScene table store)) (account (lentScene table store)) (sequenceOf (current (lentScene table store))) (current (lentScene table store))
-      (ckbHash (sighashInput (lentScene table store .transaction) (canonicalOf (firstWitness (lentScene table store))) (otherWitnesses (lentScene table store)))))
+      ≡ ckbHash (digestInput (operation (sceneIn table store)) (account (sceneIn table store)) (sequenceOf (current (sceneIn table store))) (current (sceneIn table store))
+      (ckbHash (sighashInput (sceneIn table store .transaction) (canonicalOf (firstWitness (sceneIn table store))) (otherWitnesses (sceneIn table store)))))
 
 -- the numbers that the lock gives; 01, "Where each refusal is raised": its own are "answer buffer too short for this request", 5,
 -- and "a table that the reader, scene length aside, leaves for no accepted scene with a store this long", 7

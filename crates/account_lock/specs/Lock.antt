@@ -13,14 +13,14 @@ use Rattle.protocol.specs.declared.check.Check.the-variants.{Passed, Failed}
 use Rattle.molecule.specs.Bytes as molecule
 use Rattle.authorization.specs.Digest.{digestOf}
 use Rattle.scene_table.specs.Scene.{Scene}
-use Rattle.scene_table.specs.Lent.{lentScene}
+use Rattle.scene_table.specs.Lent.{sceneIn}
 use Rattle.scene_table.specs.Valid.{validTable}
 use Rattle.group_sighash.specs.Witnesses.{firstWitness, lockIn, groupRows, otherRows}
 use Rattle.group_sighash.specs.GroupSighash.{groupSighash}
 use Rattle.state_transition.specs.Resolve.{resolveRows, currentState, successorState, stateSince}
 use Rattle.state_transition.specs.Transition.{dataRows, transitionRows, sequenceOf}
-use Rattle.decision.specs.Proofs.{Setting, settingFor}
-use Rattle.decision.specs.Walk.{Outcome, walkLock}
+use Rattle.decision.specs.Proofs.{Context, contextFor}
+use Rattle.decision.specs.Walk.{WalkOutcome, walkLock}
 use Rattle.account_lock.specs.declared.answer.LockAnswer.{LockAnswer}
 
 -- a script's args, and the account id in them
@@ -32,7 +32,7 @@ accountIn script = accountOf (argsIn script)
 
 -- "script above 512 bytes, its table, args", 20; 32
 unfoldable pub scriptRows : List ℕ → List Row
-scriptRows script = row (leb (length script) 512) InvalidArgs ∷ (molecule.argsRows script ++ argsRows (argsIn script))
+scriptRows script = row (leb (length script) 512) InvalidArgs ∷ (molecule.scriptArgsRows script ++ argsRows (argsIn script))
 
 -- the account id, the witness lock, and its operation and sequence
 unfoldable pub account : Scene → List ℕ
@@ -55,14 +55,14 @@ unfoldable pub successor : Scene → List ℕ
 successor s = successorState (operation s) (account s) s
 
 -- the rows on the states
-unfoldable pub stateRowsOf : Scene → List Row
-stateRowsOf s =
+unfoldable pub statesRows : Scene → List Row
+statesRows s =
     dataRows (current s) (successor s)
     ++ transitionRows (operation s) (witnessSequence s) (stateSince (operation s) (account s) s) (current s) (successor s)
 
 -- the rows of what the script and the group's witness name: the account's states and the other witnesses
 unfoldable pub lateRows : Scene → List Row
-lateRows s = resolveRows (operation s) (account s) s ++ (stateRowsOf s ++ otherRows s)
+lateRows s = resolveRows (operation s) (account s) s ++ (statesRows s ++ otherRows s)
 
 -- every row behind the table's and before the proofs'
 unfoldable pub earlyRows : Scene → List Row
@@ -73,8 +73,8 @@ unfoldable pub digest : Scene → List ℕ
 digest s = digestOf (operation s) (account s) (sequenceOf (current s)) (current s) (groupSighash s)
 
 -- what the proofs are walked with, for an answer buffer of `room` bytes
-unfoldable pub settingOf : Scene → ℕ → Setting
-settingOf s room = settingFor (current s) (s .deps) (s .digits) (operation s) (digest s) room
+unfoldable pub contextOf : Scene → ℕ → Context
+contextOf s room = contextFor (current s) (s .deps) (s .digits) (operation s) (digest s) room
 
 -- what the lock finds, how many requests it made and their bytes end to end, and the digest, where it was reached
 pub record Result : Type 0 where
@@ -87,7 +87,7 @@ pub record Result : Type 0 where
 unfoldable pub refused : Check → Result
 refused found = record { found = found; count = 0; made = []; reached = false; digest = replicate 32 0 }
 
-unfoldable pub walked : Outcome → List ℕ → Result
+unfoldable pub walked : WalkOutcome → List ℕ → Result
 walked o d = record { found = o .found; count = o .count; made = o .made; reached = true; digest = d }
 
 -- a refusal by the early rows, or what the walk over the proofs gives
@@ -96,7 +96,7 @@ orWalked Passed w = w
 orWalked (Failed e) w = refused (Failed e)
 
 unfoldable pub walkResult : Scene → ℕ → Result
-walkResult s room = walked (walkLock (settingOf s room) (witnessLock s)) (digest s)
+walkResult s room = walked (walkLock (contextOf s room) (witnessLock s)) (digest s)
 
 unfoldable pub lateResult : Scene → ℕ → Result
 lateResult s room = orWalked (decide Passed (lateRows s)) (walkResult s room)
@@ -107,8 +107,8 @@ lockScene s room = orWalked (decide Passed (earlyRows s)) (walkResult s room)
 -- "lock: a table that the reader, scene length aside, leaves for no accepted scene with a store this long", 7
 unfoldable pub lockOf : List ℕ → List ℕ → ℕ → Result
 lockOf table store room =
-    cond (validTable table (length store)) (lockScene (lentScene table store) room) (refused (Failed SlicesDisagree))
+    cond (validTable table (length store)) (lockScene (sceneIn table store) room) (refused (Failed SlicesDisagree))
 
 -- "The lock returns number (0 accepted), count and total length of the requests made, and the digest, none if unreached."
-unfoldable pub told : Result → LockAnswer
-told r = record { found = r .found; count = r .count; length = length (r .made); reached = r .reached; digest = r .digest }
+unfoldable pub answerOf : Result → LockAnswer
+answerOf r = record { found = r .found; count = r .count; length = length (r .made); reached = r .reached; digest = r .digest }

@@ -6,7 +6,7 @@ use mathlib.Core.List.{List}
 use Prim.Native.Nat.{ℕ}
 use lib.ListN.{length}
 use Rattle.protocol.specs.Policy.{isOperation}
-use Rattle.protocol.specs.Rows.{Hold}
+use Rattle.protocol.specs.Rows.{AllPass}
 use Rattle.scene_table.specs.Scene.{Scene}
 use Rattle.group_sighash.specs.Witnesses.{groupRows, otherRows}
 use Rattle.group_sighash.specs.GroupSighash.{sighashRows}
@@ -18,19 +18,19 @@ use Rattle.account_lock.specs.Lock as lock
 pub record Authorized (operation : ℕ) (account : List ℕ) (s : Scene) : Type 0 where
   pub known : isOperation operation ≡ true
   pub whole : length account ≡ 32
-  pub witnesses : Hold (sighashRows s)
+  pub witnesses : AllPass (sighashRows s)
 
 -- the account and the witness lock of a scene whose script and group pass
 pub record Named (id bytes : List ℕ) (s : Scene) : Type 0 where
   pub account : id ≡ lock.account s
   pub witness : bytes ≡ lock.witnessLock s
-  pub script : Hold (lock.scriptRows (s .script))
-  pub group : Hold (groupRows s)
+  pub script : AllPass (lock.scriptRows (s .script))
+  pub group : AllPass (groupRows s)
 
 -- and its current state, where the other hashed witnesses pass too
 pub record Settled (id bytes state : List ℕ) (s : Scene) : Type 0 where
   pub named : Named id bytes s
-  pub others : Hold (otherRows s)
+  pub others : AllPass (otherRows s)
   pub current : state ≡ lock.current s
 
 -- where the states stand

@@ -20,11 +20,11 @@ ghost use mathlib.Core.Path.{_≡_};
 ghost use lib.ListN.{length};
 ghost use Rattle.protocol.specs.Rows.{decide};
 ghost use Rattle.authorization.specs.Digest.{digestOf};
-ghost use Rattle.scene_table.specs.Lent.{lentScene};
+ghost use Rattle.scene_table.specs.Lent.{sceneIn};
 ghost use Rattle.group_sighash.specs.GroupSighash.{groupSighash};
 ghost use Rattle.state_transition.specs.Transition.{sequenceOf};
 ghost use Rattle.decision.specs.Walk.{answered};
-ghost use Rattle.account_lock.specs.Lock.{witnessLock, stateRowsOf, lateRows, lateResult, walkResult, told};
+ghost use Rattle.account_lock.specs.Lock.{witnessLock, statesRows, lateRows, lateResult, walkResult, answerOf};
 ghost use Rattle.account_lock.specs.Settled.{Named, Authorized, Settled, resolved};
 
 // The digest that every request carries.
@@ -35,8 +35,8 @@ fn digest_of(
     account_id: &[u8],
     current: &[u8],
 ) -> [u8; 32]
-    requires { ⌜ Authorized operation (now «account_id») (lentScene (now table) (now store)) ⌝ }
-    ensures { λ r. ⌜ r ≡ digestOf operation (now («account_id» .entry)) (sequenceOf (now (current .entry))) (now (current .entry)) (groupSighash (lentScene (now (table .entry)) (now (store .entry)))) ⌝ }
+    requires { ⌜ Authorized operation (now «account_id») (sceneIn (now table) (now store)) ⌝ }
+    ensures { λ r. ⌜ r ≡ digestOf operation (now («account_id» .entry)) (sequenceOf (now (current .entry))) (now (current .entry)) (groupSighash (sceneIn (now (table .entry)) (now (store .entry)))) ⌝ }
 {
     let account = array_32(account_id);
     let sighash = canonical_group_sighash(table, store).hash;
@@ -52,9 +52,9 @@ fn walk_account(
     current: &[u8],
     answer: &mut [u8],
 ) -> LockAnswer
-    requires { ⌜ Settled (now «account_id») (now lock) (now current) (lentScene (now table) (now store)) ⌝ }
-    ensures { λ r. ⌜ r ≡ told (walkResult (lentScene (now (table .entry)) (now (store .entry))) (length (now (answer .entry)))) ⌝ }
-    ensures { λ _. ⌜ now (answer .exit) ≡ answered (now (answer .entry)) (walkResult (lentScene (now (table .entry)) (now (store .entry))) (length (now (answer .entry))) .made) ⌝ }
+    requires { ⌜ Settled (now «account_id») (now lock) (now current) (sceneIn (now table) (now store)) ⌝ }
+    ensures { λ r. ⌜ r ≡ answerOf (walkResult (sceneIn (now (table .entry)) (now (store .entry))) (length (now (answer .entry)))) ⌝ }
+    ensures { λ _. ⌜ now (answer .exit) ≡ answered (now (answer .entry)) (walkResult (sceneIn (now (table .entry)) (now (store .entry))) (length (now (answer .entry))) .made) ⌝ }
 {
     let operation = u8_at(lock, 5);
     let digest = digest_of(table, store, operation, account_id, current);
@@ -73,8 +73,8 @@ fn walk_account(
 
 // The rows of the states, at the places that were found for them.
 fn check_states(table: &[u32], store: &[u8], lock: &[u8], state: ResolvedState) -> Check
-    requires { ⌜ (now lock ≡ witnessLock (lentScene (now table) (now store))) × (state ≡ resolved (lentScene (now table) (now store))) ⌝ }
-    ensures { λ r. ⌜ r ≡ decide Check.Passed (stateRowsOf (lentScene (now (table .entry)) (now (store .entry)))) ⌝ }
+    requires { ⌜ (now lock ≡ witnessLock (sceneIn (now table) (now store))) × (state ≡ resolved (sceneIn (now table) (now store))) ⌝ }
+    ensures { λ r. ⌜ r ≡ decide Check.Passed (statesRows (sceneIn (now (table .entry)) (now (store .entry)))) ⌝ }
 {
     let operation = u8_at(lock, 5);
     let current = current_state(table, store, operation, state.current);
@@ -97,9 +97,9 @@ pub(crate) fn lock_account(
     lock: &[u8],
     answer: &mut [u8],
 ) -> LockAnswer
-    requires { ⌜ Named (now «account_id») (now lock) (lentScene (now table) (now store)) ⌝ }
-    ensures { λ r. ⌜ r ≡ told (lateResult (lentScene (now (table .entry)) (now (store .entry))) (length (now (answer .entry)))) ⌝ }
-    ensures { λ _. ⌜ now (answer .exit) ≡ answered (now (answer .entry)) (lateResult (lentScene (now (table .entry)) (now (store .entry))) (length (now (answer .entry))) .made) ⌝ }
+    requires { ⌜ Named (now «account_id») (now lock) (sceneIn (now table) (now store)) ⌝ }
+    ensures { λ r. ⌜ r ≡ answerOf (lateResult (sceneIn (now (table .entry)) (now (store .entry))) (length (now (answer .entry)))) ⌝ }
+    ensures { λ _. ⌜ now (answer .exit) ≡ answered (now (answer .entry)) (lateResult (sceneIn (now (table .entry)) (now (store .entry))) (length (now (answer .entry))) .made) ⌝ }
 {
     let operation = u8_at(lock, 5);
     let state = resolve_state(table, store, operation, account_id);

@@ -16,7 +16,7 @@ pub struct LockAnswer {
 
 // A refusal before the digest is reached.
 pub fn refused(error: ProtocolError) -> LockAnswer
-    ensures { λ r. ⌜ r ≡ lock.told (lock.refused (Check.Failed error)) ⌝ }
+    ensures { λ r. ⌜ r ≡ lock.answerOf (lock.refused (Check.Failed error)) ⌝ }
 {
     let none = [0u8; 32];
     LockAnswer {

@@ -17,17 +17,17 @@ use scene_table::table_valid;
 ghost use mathlib.Core.Path.{_≡_};
 ghost use mathlib.Core.Logic.{_↔_};
 ghost use lib.ListN.{length};
-ghost use Rattle.scene_table.specs.Lent.{lentScene};
+ghost use Rattle.scene_table.specs.Lent.{sceneIn};
 ghost use Rattle.decision.specs.Walk.{answered};
-ghost use Rattle.account_lock.specs.Lock.{lockOf, lockScene, told};
+ghost use Rattle.account_lock.specs.Lock.{lockOf, lockScene, answerOf};
 ghost use Rattle.account_lock.specs.Decides.{EarlierPass, LockQuorum};
 pub use self::answer::LockAnswer;
 pub use self::answer::refused;
 
 // The lock over a transaction whose table is one that a scene, its length aside, leaves.
 fn lock_scene(table: &[u32], store: &[u8], answer: &mut [u8]) -> LockAnswer
-    ensures { λ r. ⌜ r ≡ told (lockScene (lentScene (now (table .entry)) (now (store .entry))) (length (now (answer .entry)))) ⌝ }
-    ensures { λ _. ⌜ now (answer .exit) ≡ answered (now (answer .entry)) (lockScene (lentScene (now (table .entry)) (now (store .entry))) (length (now (answer .entry))) .made) ⌝ }
+    ensures { λ r. ⌜ r ≡ answerOf (lockScene (sceneIn (now (table .entry)) (now (store .entry))) (length (now (answer .entry)))) ⌝ }
+    ensures { λ _. ⌜ now (answer .exit) ≡ answered (now (answer .entry)) (lockScene (sceneIn (now (table .entry)) (now (store .entry))) (length (now (answer .entry))) .made) ⌝ }
 {
     let place = script(table);
     let script = part(store, place.start, place.len);
@@ -42,7 +42,7 @@ fn lock_scene(table: &[u32], store: &[u8], answer: &mut [u8]) -> LockAnswer
 
 // Decides the transaction, and writes the requests of its proofs to the front of `answer`.
 pub fn lock(table: &[u32], store: &[u8], answer: &mut [u8]) -> LockAnswer
-    ensures outcome { λ r. ⌜ r ≡ told (lockOf (now (table .entry)) (now (store .entry)) (length (now (answer .entry)))) ⌝ }
+    ensures outcome { λ r. ⌜ r ≡ answerOf (lockOf (now (table .entry)) (now (store .entry)) (length (now (answer .entry)))) ⌝ }
     ensures requests { λ _. ⌜ now (answer .exit) ≡ answered (now (answer .entry)) (lockOf (now (table .entry)) (now (store .entry)) (length (now (answer .entry))) .made) ⌝ }
     ensures decision { λ r. ⌜ (r .found ≡ Check.Passed) ↔ (EarlierPass (now (table .entry)) (now (store .entry)) (length (now (answer .entry))) × LockQuorum (now (table .entry)) (now (store .entry)) (length (now (answer .entry)))) ⌝ }
 {

@@ -30,7 +30,7 @@ pub(crate) fn account_in(script: &[u8]) -> &[u8]
 }
 
 fn check_table(script: &[u8]) -> Check
-    ensures { λ r. ⌜ r ≡ decide Check.Passed (molecule.argsRows (now (script .entry))) ⌝ }
+    ensures { λ r. ⌜ r ≡ decide Check.Passed (molecule.scriptArgsRows (now (script .entry))) ⌝ }
 {
     match script_args(script) {
         PlaceAnswer::At(_) => Check::Passed,

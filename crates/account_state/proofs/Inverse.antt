@@ -8,22 +8,22 @@ use borrow.Author.Tests.{leb-true, eqb-true}
 use lib.ListN.{length, take, drop, length-append, take-append-drop}
 use lib.Seq.{take-length}
 use Rattle.octets.specs.Le.{numberAt, Bytes}
-use Rattle.octets.specs.Table.{numbers, numbersAt}
+use Rattle.octets.specs.Layout.{layoutBytes, layoutAt}
 use Rattle.octets.proofs.LeLaws.{number-lt, bytes-drop}
-use Rattle.octets.proofs.TableLaws.{table-back}
+use Rattle.octets.proofs.LayoutLaws.{table-back}
 use Rattle.octets.proofs.Parts.{join, part-length}
-use Rattle.protocol.specs.Rows.{Hold}
-use Rattle.protocol.proofs.Hold.{hold-split}
-use Rattle.account_state.specs.Reading.{EntryReading, StateReading, stateMagic, entrySize, entryHead, entryLengths, entryBytes, entriesBytes, headNumbers, stateHead, stateBytes, lengthOf, slotOf, keyLengthOf, auxLengthOf, entryOf, entriesOf, stateReading, EntryTyped, EntriesTyped, StateTyped}
-use Rattle.account_state.specs.State.{headRows, layoutRows, fieldRows, entryRows, entriesRows, behind, endRows, tailRows, stateRows}
+use Rattle.protocol.specs.Rows.{AllPass}
+use Rattle.protocol.proofs.AllPass.{all-pass-split}
+use Rattle.account_state.specs.Reading.{EntryReading, StateReading, stateMagic, entrySize, entryHeadFields, entryLengthFields, entryBytes, entriesBytes, stateHeaderFields, stateHead, stateBytes, entryLengthOf, entrySlotOf, keyLengthOf, auxLengthOf, entryOf, entriesOf, stateReading, EntryTyped, EntriesTyped, StateTyped}
+use Rattle.account_state.specs.State.{stateHeaderRows, entryLayoutRows, entryFieldRows, entryRows, entriesRows, behindEntries, stateEndRows, stateTailRows, stateRows}
 
 -- what an entry that passes says of its lengths
 record Lengths (e : List ℕ) : Type 0 where
-  sum : lengthOf e ≡ 48 + keyLengthOf e + auxLengthOf e
-  inside : lengthOf e ≤ length e
+  sum : entryLengthOf e ≡ 48 + keyLengthOf e + auxLengthOf e
+  inside : entryLengthOf e ≤ length e
 
-lengths : (e : List ℕ) (least : ℕ) → Hold (entryRows e least) → Lengths e
-unfolding entryRows layoutRows
+lengths : (e : List ℕ) (least : ℕ) → AllPass (entryRows e least) → Lengths e
+unfolding entryRows entryLayoutRows
 lengths e least h = record { sum = eqb-true _ _ (h .1 .0); inside = leb-true _ _ (h .1 .1 .0) }
 
 module _ (e : List ℕ) (b : Bytes e) (z : Lengths e) where
@@ -34,8 +34,8 @@ module _ (e : List ℕ) (b : Bytes e) (z : Lengths e) where
   a = auxLengthOf e
 
   -- an entry's bytes, from its fields
-  entry-back : entryBytes (entryOf e) ≡ take (lengthOf e) e
-  unfolding entryBytes entryOf entryHead entryLengths numbersAt
+  entry-back : entryBytes (entryOf e) ≡ take (entryLengthOf e) e
+  unfolding entryBytes entryOf entryHeadFields entryLengthFields layoutAt
   entry-back =
       let s = z .sum in
       let i = z .inside in
@@ -74,41 +74,41 @@ module _ (e : List ℕ) (b : Bytes e) (z : Lengths e) where
       }
 
 -- entries that pass are written back, and what follows them is left
-entries-back : (n : ℕ) (e : List ℕ) (least : ℕ) → Bytes e → Hold (entriesRows n e least)
-    → (entriesBytes (entriesOf n e) ++ behind n e ≡ e) × EntriesTyped (entriesOf n e)
-unfolding entriesBytes entriesOf entriesRows behind
+entries-back : (n : ℕ) (e : List ℕ) (least : ℕ) → Bytes e → AllPass (entriesRows n e least)
+    → (entriesBytes (entriesOf n e) ++ behindEntries n e ≡ e) × EntriesTyped (entriesOf n e)
+unfolding entriesBytes entriesOf entriesRows behindEntries
 entries-back zero e least b h = (refl, tt)
 entries-back (suc n) e least b h =
-    let p = hold-split (entryRows e least) _ h in
+    let p = all-pass-split (entryRows e least) _ h in
     let z = lengths e least (p .0) in
-    let r = entries-back n (drop (lengthOf e) e) _ (bytes-drop (lengthOf e) e b) (p .1) in
-    (append-assoc (entryBytes (entryOf e)) _ _ ∙ rw (r .0, entry-back e b z) (take-append-drop (lengthOf e) e), (entry-typed e b z, r .1))
+    let r = entries-back n (drop (entryLengthOf e) e) _ (bytes-drop (entryLengthOf e) e b) (p .1) in
+    (append-assoc (entryBytes (entryOf e)) _ _ ∙ rw (r .0, entry-back e b z) (take-append-drop (entryLengthOf e) e), (entry-typed e b z, r .1))
 
 -- and each of their keys has 32 bytes
 abbrev pub Keys : List EntryReading → Type 0
 Keys [] = Unit {0}
 Keys (e ∷ es) = (length (e .key) ≡ 32) × Keys es
 
-entry-key : (e : List ℕ) (least : ℕ) → Hold (entryRows e least) → length (entryOf e .key) ≡ 32
-unfolding entryOf entryRows fieldRows
+entry-key : (e : List ℕ) (least : ℕ) → AllPass (entryRows e least) → length (entryOf e .key) ≡ 32
+unfolding entryOf entryRows entryFieldRows
 entry-key e least h =
     let z = lengths e least h in
     let s = z .sum in
     let i = z .inside in
-    let k : keyLengthOf e ≡ 32 = eqb-true _ _ (hold-split (layoutRows e least) (fieldRows e) h .1 .1 .1 .1 .1 .1 .0) in
+    let k : keyLengthOf e ≡ 32 = eqb-true _ _ (all-pass-split (entryLayoutRows e least) (entryFieldRows e) h .1 .1 .1 .1 .1 .1 .0) in
     part-length e 48 (keyLengthOf e) (omega arith) ∙ k
 
-entries-keys : (n : ℕ) (e : List ℕ) (least : ℕ) → Hold (entriesRows n e least) → Keys (entriesOf n e)
+entries-keys : (n : ℕ) (e : List ℕ) (least : ℕ) → AllPass (entriesRows n e least) → Keys (entriesOf n e)
 unfolding entriesOf entriesRows
 entries-keys zero e least h = tt
 entries-keys (suc n) e least h =
-    let p = hold-split (entryRows e least) (entriesRows n (drop (lengthOf e) e) (slotOf e + 1)) h in
-    (entry-key e least (p .0), entries-keys n (drop (lengthOf e) e) (slotOf e + 1) (p .1))
+    let p = all-pass-split (entryRows e least) (entriesRows n (drop (entryLengthOf e) e) (entrySlotOf e + 1)) h in
+    (entry-key e least (p .0), entries-keys n (drop (entryLengthOf e) e) (entrySlotOf e + 1) (p .1))
 
 pub length-entries : (n : ℕ) (e : List ℕ) → length (entriesOf n e) ≡ n
 unfolding entriesOf
 length-entries zero e = refl
-length-entries (suc n) e = ap suc (length-entries n (drop (lengthOf e) e))
+length-entries (suc n) e = ap suc (length-entries n (drop (entryLengthOf e) e))
 
 -- what a header that passes says
 record Head (s : List ℕ) : Type 0 where
@@ -118,8 +118,8 @@ record Head (s : List ℕ) : Type 0 where
   size : numberAt s 6 2 ≡ 32
   zeroByte : numberAt s 23 1 ≡ 0
 
-head : (s : List ℕ) → Hold (headRows s) → Head s
-unfolding headRows
+head : (s : List ℕ) → AllPass (stateHeaderRows s) → Head s
+unfolding stateHeaderRows
 head s h =
     record {
       present = leb-true _ _ (h .0);
@@ -133,21 +133,21 @@ nothing : (l : List ℕ) → length l ≡ 0 → l ≡ []
 nothing [] e = refl
 nothing (x ∷ l) e = absurd (omega arith)
 
-module _ (s : List ℕ) (b : Bytes s) (h : Hold (stateRows s)) where
+module _ (s : List ℕ) (b : Bytes s) (h : AllPass (stateRows s)) where
   abbrev n : ℕ
   n = numberAt s 22 1
 
-  pub parts : Hold (headRows s) × (Hold (entriesRows n (drop 32 s) 0) × Hold (tailRows s n (drop 32 s)))
+  pub parts : AllPass (stateHeaderRows s) × (AllPass (entriesRows n (drop 32 s) 0) × AllPass (stateTailRows s n (drop 32 s)))
   unfolding stateRows
-  parts = let p = hold-split (headRows s) _ h in (p .0, hold-split (entriesRows n (drop 32 s) 0) _ (p .1))
+  parts = let p = all-pass-split (stateHeaderRows s) _ h in (p .0, all-pass-split (entriesRows n (drop 32 s) 0) _ (p .1))
 
   -- no byte follows the last entry
-  no-tail : behind n (drop 32 s) ≡ []
-  unfolding tailRows endRows
+  no-tail : behindEntries n (drop 32 s) ≡ []
+  unfolding stateTailRows stateEndRows
   no-tail = nothing _ (eqb-true _ 0 (parts .1 .1 .0))
 
   pub state-back : stateBytes (stateReading s) ≡ s
-  unfolding stateBytes stateReading stateHead headNumbers numbersAt
+  unfolding stateBytes stateReading stateHead stateHeaderFields layoutAt
   state-back =
       let z = head s (parts .0) in
       let l = z .present in
@@ -162,7 +162,7 @@ module _ (s : List ℕ) (b : Bytes s) (h : Hold (stateRows s)) where
 
   -- its length and its count stay within their limits
   pub state-limits : (length s ≤ 16384) × (length (stateReading s .entries) ≤ 16)
-  unfolding headRows stateReading
+  unfolding stateHeaderRows stateReading
   state-limits =
       (leb-true _ _ (parts .0 .1 .0), rw (length-entries n (drop 32 s)) (leb-true _ _ (parts .0 .1 .1 .1 .1 .1 .1 .1 .1 .0)))
 

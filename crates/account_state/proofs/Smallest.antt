@@ -8,36 +8,36 @@ use native.Mathlib.Omega.{arith}
 use borrow.Author.Tests.{leb-true, eqb-true}
 use lib.ListN.{length, drop, length-drop}
 use Rattle.octets.specs.Le.{numberAt}
-use Rattle.protocol.specs.Rows.{Hold}
-use Rattle.protocol.proofs.Hold.{hold-split}
-use Rattle.account_state.specs.Reading.{lengthOf, keyLengthOf, auxLengthOf}
-use Rattle.account_state.specs.State.{headRows, layoutRows, fieldRows, entryRows, entriesRows, tailRows, stateRows}
+use Rattle.protocol.specs.Rows.{AllPass}
+use Rattle.protocol.proofs.AllPass.{all-pass-split}
+use Rattle.account_state.specs.Reading.{entryLengthOf, keyLengthOf, auxLengthOf}
+use Rattle.account_state.specs.State.{stateHeaderRows, entryLayoutRows, entryFieldRows, entryRows, entriesRows, stateTailRows, stateRows}
 
 -- an entry that passes has 81 bytes
-entry-smallest : (e : List ℕ) (least : ℕ) → Hold (entryRows e least) → 81 ≤ length e
-unfolding entryRows layoutRows fieldRows
+entry-smallest : (e : List ℕ) (least : ℕ) → AllPass (entryRows e least) → 81 ≤ length e
+unfolding entryRows entryLayoutRows entryFieldRows
 entry-smallest e least h =
-    let z = hold-split (layoutRows e least) (fieldRows e) h in
-    let whole : lengthOf e ≡ 48 + keyLengthOf e + auxLengthOf e = eqb-true _ _ (z .0 .1 .0) in
-    let inside : lengthOf e ≤ length e = leb-true _ _ (z .0 .1 .1 .0) in
+    let z = all-pass-split (entryLayoutRows e least) (entryFieldRows e) h in
+    let whole : entryLengthOf e ≡ 48 + keyLengthOf e + auxLengthOf e = eqb-true _ _ (z .0 .1 .0) in
+    let inside : entryLengthOf e ≤ length e = leb-true _ _ (z .0 .1 .1 .0) in
     let key : keyLengthOf e ≡ 32 = eqb-true _ _ (z .1 .1 .1 .1 .1 .1 .0) in
     let aux : 1 ≤ auxLengthOf e = leb-true _ _ (z .1 .1 .1 .1 .1 .1 .1 .0) in
     omega arith
 
 -- so have the entries that pass, if there is one
-entries-smallest : (n : ℕ) (e : List ℕ) (least : ℕ) → 1 ≤ n → Hold (entriesRows n e least) → 81 ≤ length e
+entries-smallest : (n : ℕ) (e : List ℕ) (least : ℕ) → 1 ≤ n → AllPass (entriesRows n e least) → 81 ≤ length e
 unfolding entriesRows
 entries-smallest zero e least some h = absurd (omega arith)
-entries-smallest (suc n) e least some h = entry-smallest e least (hold-split (entryRows e least) _ h .0)
+entries-smallest (suc n) e least some h = entry-smallest e least (all-pass-split (entryRows e least) _ h .0)
 
 -- The theorem: a state that passes its rows has at least 113 bytes.
-pub state-smallest : (s : List ℕ) → Hold (stateRows s) → 113 ≤ length s
-unfolding stateRows headRows
+pub state-smallest : (s : List ℕ) → AllPass (stateRows s) → 113 ≤ length s
+unfolding stateRows stateHeaderRows
 state-smallest s h =
     let count = numberAt s 22 1 in
     let e = drop 32 s in
-    let z = hold-split (headRows s) (entriesRows count e 0 ++ tailRows s count e) h in
-    let entries = hold-split (entriesRows count e 0) (tailRows s count e) (z .1) .0 in
+    let z = all-pass-split (stateHeaderRows s) (entriesRows count e 0 ++ stateTailRows s count e) h in
+    let entries = all-pass-split (entriesRows count e 0) (stateTailRows s count e) (z .1) .0 in
     let l : 81 ≤ length e = entries-smallest count e 0 (leb-true _ _ (z .0 .1 .1 .1 .1 .1 .1 .1 .0)) entries in
     let n : length e ≡ length s - 32 = length-drop 32 s in
     omega arith

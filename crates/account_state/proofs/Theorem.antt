@@ -12,15 +12,15 @@ use lib.Seq.{drop-drop}
 use borrow.Author.Tests.{leb-true}
 use Rattle.octets.specs.Le.{numberAt, Bytes}
 use Rattle.octets.specs.Lists.{Rising}
-use Rattle.protocol.specs.Rows.{decide, Hold, First}
+use Rattle.protocol.specs.Rows.{decide, AllPass, FirstFailed}
 use Rattle.protocol.specs.Reading.{OneReading}
 use Rattle.protocol.specs.declared.error.ProtocolError.{ProtocolError}
 use Rattle.protocol.specs.declared.check.Check.{Check}
 use Rattle.protocol.specs.declared.check.Check.the-variants.{Passed, Failed}
-use Rattle.protocol.proofs.Hold.{passed-hold, hold-passed, hold-split}
+use Rattle.protocol.proofs.AllPass.{passed-all-pass, all-pass-passed, all-pass-split}
 use Rattle.protocol.proofs.Answers.{answer-accepts, answer-refuses}
-use Rattle.account_state.specs.Reading.{stateBytes, lengthOf, slotOf, keyLengthOf, entryOf, entriesOf, stateReading, slotsOf, StateTyped}
-use Rattle.account_state.specs.State.{stateRows, stateFault, headerOf, summaryOf, stateAnswer, readState, entryRows, entriesRows, entryAt, firstEntry, cursorBehind, stepAnswer, entryStep, entryGiven, Steps, headRows, tailRows, layoutRows, headerAnswer, readHeader, HeaderGives, StateGives}
+use Rattle.account_state.specs.Reading.{stateBytes, entryLengthOf, entrySlotOf, keyLengthOf, entryOf, entriesOf, stateReading, entrySlots, StateTyped}
+use Rattle.account_state.specs.State.{stateRows, stateFault, stateHeaderOf, summaryOf, stateAnswer, readState, entryRows, entriesRows, entryAt, firstEntry, entryCursorBehind, entryStepAnswer, entryStep, entryGiven, EntryStepsGive, stateHeaderRows, stateTailRows, entryLayoutRows, stateHeaderAnswer, readStateHeader, StateHeaderGives, StateGives}
 use Rattle.account_state.specs.declared.header.StateHeader.{StateHeader}
 use Rattle.account_state.specs.declared.header.StateHeaderAnswer.{StateHeaderAnswer}
 use Rattle.account_state.specs.declared.header.StateHeaderAnswer.the-variants as header
@@ -46,14 +46,14 @@ state-found h t Passed = refl
 state-found h t (Failed e) = refl
 
 -- accepted exactly where every check passes
-pub reader-accepts : (s : List ℕ) → (readState s ≡ Valid (headerOf s) (summaryOf (stateReading s .entries))) ↔ Hold (stateRows s)
+pub state-accepts : (s : List ℕ) → (readState s ≡ Valid (stateHeaderOf s) (summaryOf (stateReading s .entries))) ↔ AllPass (stateRows s)
 unfolding readState stateFault stateAnswer stateReading
-reader-accepts s = answer-accepts (λ k. stateAnswer k (headerOf s) _) stateFound (state-found (headerOf s) _) (stateRows s)
+state-accepts s = answer-accepts (λ k. stateAnswer k (stateHeaderOf s) _) stateFound (state-found (stateHeaderOf s) _) (stateRows s)
 
 -- refused exactly with the first check that fails
-pub reader-refuses : (s : List ℕ) (e : ProtocolError) → (readState s ≡ Refused e) ↔ First (stateRows s) e
+pub state-refuses : (s : List ℕ) (e : ProtocolError) → (readState s ≡ Refused e) ↔ FirstFailed (stateRows s) e
 unfolding readState stateFault stateAnswer
-reader-refuses s e = answer-refuses (λ k. stateAnswer k (headerOf s) _) stateFound (state-found (headerOf s) _) (stateRows s) e
+state-refuses s e = answer-refuses (λ k. stateAnswer k (stateHeaderOf s) _) stateFound (state-found (stateHeaderOf s) _) (stateRows s) e
 
 -- the header, likewise
 abbrev headerFound : StateHeaderAnswer → Check
@@ -61,20 +61,20 @@ headerFound (header.Header h) = Passed
 headerFound (header.Refused e) = Failed e
 
 -- which is what it was made from
-header-found : (h : StateHeader) (k : Check) → headerFound (headerAnswer k h) ≡ k
-unfolding headerAnswer
+header-found : (h : StateHeader) (k : Check) → headerFound (stateHeaderAnswer k h) ≡ k
+unfolding stateHeaderAnswer
 header-found h Passed = refl
 header-found h (Failed e) = refl
 
 -- accepted exactly where every check of the header passes
-pub header-accepts : (s : List ℕ) → (readHeader s ≡ header.Header (headerOf s)) ↔ Hold (headRows s)
-unfolding readHeader headerAnswer
-header-accepts s = answer-accepts (λ k. headerAnswer k (headerOf s)) headerFound (header-found (headerOf s)) (headRows s)
+pub state-header-accepts : (s : List ℕ) → (readStateHeader s ≡ header.Header (stateHeaderOf s)) ↔ AllPass (stateHeaderRows s)
+unfolding readStateHeader stateHeaderAnswer
+state-header-accepts s = answer-accepts (λ k. stateHeaderAnswer k (stateHeaderOf s)) headerFound (header-found (stateHeaderOf s)) (stateHeaderRows s)
 
 -- refused exactly with the first that fails
-pub header-refuses : (s : List ℕ) (e : ProtocolError) → (readHeader s ≡ header.Refused e) ↔ First (headRows s) e
-unfolding readHeader headerAnswer
-header-refuses s e = answer-refuses (λ k. headerAnswer k (headerOf s)) headerFound (header-found (headerOf s)) (headRows s) e
+pub state-header-refuses : (s : List ℕ) (e : ProtocolError) → (readStateHeader s ≡ header.Refused e) ↔ FirstFailed (stateHeaderRows s) e
+unfolding readStateHeader stateHeaderAnswer
+state-header-refuses s e = answer-refuses (λ k. stateHeaderAnswer k (stateHeaderOf s)) headerFound (header-found (stateHeaderOf s)) (stateHeaderRows s) e
 
 -- and a step
 abbrev stepFound : EntryStep → Check
@@ -82,34 +82,34 @@ stepFound (step.Entry e c) = Passed
 stepFound (step.Refused x) = Failed x
 
 -- which is what it was made from
-step-found : (e : AuthenticatorEntry) (c : EntryCursor) (k : Check) → stepFound (stepAnswer k e c) ≡ k
-unfolding stepAnswer
+step-found : (e : AuthenticatorEntry) (c : EntryCursor) (k : Check) → stepFound (entryStepAnswer k e c) ≡ k
+unfolding entryStepAnswer
 step-found e c Passed = refl
 step-found e c (Failed x) = refl
 
 module _ (s : List ℕ) (c : EntryCursor) where
   -- by what its checks found
   abbrev stepBy : Check → EntryStep
-  stepBy k = stepAnswer k (entryAt s (c .offset)) (cursorBehind s (c .offset))
+  stepBy k = entryStepAnswer k (entryAt s (c .offset)) (entryCursorBehind s (c .offset))
 
   -- accepted exactly where every check of the entry passes
-  pub step-accepts : (entryStep s c ≡ step.Entry (entryAt s (c .offset)) (cursorBehind s (c .offset))) ↔ Hold (entryRows (drop (c .offset) s) (c .least))
-  unfolding entryStep stepAnswer
-  step-accepts = answer-accepts stepBy stepFound (step-found _ _) (entryRows (drop (c .offset) s) (c .least))
+  pub entry-step-accepts : (entryStep s c ≡ step.Entry (entryAt s (c .offset)) (entryCursorBehind s (c .offset))) ↔ AllPass (entryRows (drop (c .offset) s) (c .least))
+  unfolding entryStep entryStepAnswer
+  entry-step-accepts = answer-accepts stepBy stepFound (step-found _ _) (entryRows (drop (c .offset) s) (c .least))
 
   -- refused exactly with the first that fails
-  pub step-refuses : (x : ProtocolError) → (entryStep s c ≡ step.Refused x) ↔ First (entryRows (drop (c .offset) s) (c .least)) x
-  unfolding entryStep stepAnswer
-  step-refuses x = answer-refuses stepBy stepFound (step-found _ _) (entryRows (drop (c .offset) s) (c .least)) x
+  pub entry-step-refuses : (x : ProtocolError) → (entryStep s c ≡ step.Refused x) ↔ FirstFailed (entryRows (drop (c .offset) s) (c .least)) x
+  unfolding entryStep entryStepAnswer
+  entry-step-refuses x = answer-refuses stepBy stepFound (step-found _ _) (entryRows (drop (c .offset) s) (c .least)) x
 
 -- the one reading
-pub state-one : (s : List ℕ) → Bytes s → Hold (stateRows s) → OneReading StateTyped stateBytes s (stateReading s)
+pub state-one : (s : List ℕ) → Bytes s → AllPass (stateRows s) → OneReading StateTyped stateBytes s (stateReading s)
 state-one s b h =
     record { typed = state-typed s b h; written = state-back s b h; unique = λ r y e. sym (state-read r y) ∙ ap stateReading e }
 
 -- the fields at the front of the bytes are the reading's
-header-of : (s : List ℕ) → HeaderGives s (headerOf s)
-unfolding headerOf stateReading
+header-of : (s : List ℕ) → StateHeaderGives s (stateHeaderOf s)
+unfolding stateHeaderOf stateReading
 header-of s =
     record {
       flags = refl;
@@ -122,8 +122,8 @@ header-of s =
     }
 
 -- an answer that gives a header gives the one it was made from
-header-same : (k : Check) (g h : StateHeader) → headerAnswer k g ≡ header.Header h → g ≡ h
-unfolding headerAnswer
+header-same : (k : Check) (g h : StateHeader) → stateHeaderAnswer k g ≡ header.Header h → g ≡ h
+unfolding stateHeaderAnswer
 header-same Passed g h e = cc
 header-same (Failed x) g h e = absurd (let z : _≡_ {A = ℕ} 0 1 = cc in omega arith)
 
@@ -134,25 +134,25 @@ valid-same Passed g h t u e = (cc, cc)
 valid-same (Failed x) g h t u e = absurd (let z : _≡_ {A = ℕ} 0 1 = cc in omega arith)
 
 -- the header that the header's reader hands out has the reading's fields
-pub header-gives : (s : List ℕ) (h : StateHeader) → readHeader s ≡ header.Header h → HeaderGives s h
-unfolding readHeader
-header-gives s h e = rw (sym (header-same _ (headerOf s) h e)) (header-of s)
+pub state-header-gives : (s : List ℕ) (h : StateHeader) → readStateHeader s ≡ header.Header h → StateHeaderGives s h
+unfolding readStateHeader
+state-header-gives s h e = rw (sym (header-same _ (stateHeaderOf s) h e)) (header-of s)
 
 -- the slots of entries whose rows pass rise strictly
-entries-rising : (n : ℕ) (e : List ℕ) (least : ℕ) → Hold (entriesRows n e least) → Rising least (slotsOf (entriesOf n e))
-unfolding entriesOf entriesRows entryOf entryRows layoutRows
+entries-rising : (n : ℕ) (e : List ℕ) (least : ℕ) → AllPass (entriesRows n e least) → Rising least (entrySlots (entriesOf n e))
+unfolding entriesOf entriesRows entryOf entryRows entryLayoutRows
 entries-rising zero e least h = tt
 entries-rising (suc n) e least h =
-    let p = hold-split (entryRows e least) (entriesRows n (drop (lengthOf e) e) (slotOf e + 1)) h in
-    (leb-true _ _ (p .0 .1 .1 .1 .0), entries-rising n (drop (lengthOf e) e) (slotOf e + 1) (p .1))
+    let p = all-pass-split (entryRows e least) (entriesRows n (drop (entryLengthOf e) e) (entrySlotOf e + 1)) h in
+    (leb-true _ _ (p .0 .1 .1 .1 .0), entries-rising n (drop (entryLengthOf e) e) (entrySlotOf e + 1) (p .1))
 
 -- the slots of an accepted state rise strictly; 01, host/src/lib.rs: "The account in a state has one entry per slot."
-pub state-slots : (s : List ℕ) → Hold (stateRows s) → Rising 0 (slotsOf (stateReading s .entries))
+pub state-slots : (s : List ℕ) → AllPass (stateRows s) → Rising 0 (entrySlots (stateReading s .entries))
 unfolding stateRows stateReading
 state-slots s h =
     let n = numberAt s 22 1 in
     entries-rising n (drop 32 s) 0
-    (hold-split (entriesRows n (drop 32 s) 0) (tailRows s n (drop 32 s)) (hold-split (headRows s) _ h .1) .0)
+    (all-pass-split (entriesRows n (drop 32 s) 0) (stateTailRows s n (drop 32 s)) (all-pass-split (stateHeaderRows s) _ h .1) .0)
 
 -- the entry at a place reads as the one at the front of the bytes there
 given : (s : List ℕ) (at : ℕ) → entryGiven s (entryAt s at) ≡ entryOf (drop at s)
@@ -160,22 +160,22 @@ unfolding entryOf entryGiven entryAt
 given s at = rw (drop-drop 12 at s, drop-drop 48 at s, drop-drop (48 + keyLengthOf (drop at s)) at s, add-assoc at 48 (keyLengthOf (drop at s)))
 
 -- where the rows of n entries pass, the steps hand them out
-steps-from : (s : List ℕ) (n at least : ℕ) → Hold (entriesRows n (drop at s) least)
-    → Steps s n (record { offset = at; least = least }) (entriesOf n (drop at s))
-unfolding Steps entriesRows entriesOf entryStep stepAnswer cursorBehind
+steps-from : (s : List ℕ) (n at least : ℕ) → AllPass (entriesRows n (drop at s) least)
+    → EntryStepsGive s n (record { offset = at; least = least }) (entriesOf n (drop at s))
+unfolding EntryStepsGive entriesRows entriesOf entryStep entryStepAnswer entryCursorBehind
 steps-from s zero at least h = refl
 steps-from s (suc n) at least h =
-    let p = hold-split (entryRows (drop at s) least) _ h in
-    let q : Hold (entriesRows n (drop (at + lengthOf (drop at s)) s) (slotOf (drop at s) + 1)) = rw (← drop-drop (lengthOf (drop at s)) at s) (p .1) in
-    let r = steps-from s n (at + lengthOf (drop at s)) (slotOf (drop at s) + 1) q in
-    (entryAt s at, (cursorBehind s at, (rw (hold-passed _ (p .0)), (given s at, rw (drop-drop (lengthOf (drop at s)) at s) r))))
+    let p = all-pass-split (entryRows (drop at s) least) _ h in
+    let q : AllPass (entriesRows n (drop (at + entryLengthOf (drop at s)) s) (entrySlotOf (drop at s) + 1)) = rw (← drop-drop (entryLengthOf (drop at s)) at s) (p .1) in
+    let r = steps-from s n (at + entryLengthOf (drop at s)) (entrySlotOf (drop at s) + 1) q in
+    (entryAt s at, (entryCursorBehind s at, (rw (all-pass-passed _ (p .0)), (given s at, rw (drop-drop (entryLengthOf (drop at s)) at s) r))))
 
 -- where a state is accepted, the steps hand out its entries in order
-pub state-steps : (s : List ℕ) → Hold (stateRows s) → Steps s (numberAt s 22 1) firstEntry (stateReading s .entries)
+pub state-steps : (s : List ℕ) → AllPass (stateRows s) → EntryStepsGive s (numberAt s 22 1) firstEntry (stateReading s .entries)
 unfolding stateRows stateReading
 state-steps s h =
     let n = numberAt s 22 1 in
-    steps-from s n 32 0 (hold-split (entriesRows n (drop 32 s) 0) (tailRows s n (drop 32 s)) (hold-split (headRows s) _ h .1) .0)
+    steps-from s n 32 0 (all-pass-split (entriesRows n (drop 32 s) 0) (stateTailRows s n (drop 32 s)) (all-pass-split (stateHeaderRows s) _ h .1) .0)
 
 -- what an answer says of the checks
 pub valid-fault : (s : List ℕ) (h : StateHeader) (t : StateSummary) → readState s ≡ Valid h t → stateFault s ≡ Passed
@@ -188,9 +188,9 @@ unfolding readState
 refused-fault s x e = sym (state-found _ _ (stateFault s)) ∙ ap stateFound e
 
 -- a state that the reader accepts passes every check, and what the readers hand out is its one reading
-pub valid-gives : (s : List ℕ) (h : StateHeader) (t : StateSummary) → readState s ≡ Valid h t → Hold (stateRows s) × StateGives s h t
-unfolding readState stateFault stateReading headerOf
-valid-gives s h t e =
-    let z = valid-same _ (headerOf s) h _ t e in
-    let p = passed-hold (stateRows s) (valid-fault s h t e) in
+pub state-given : (s : List ℕ) (h : StateHeader) (t : StateSummary) → readState s ≡ Valid h t → AllPass (stateRows s) × StateGives s h t
+unfolding readState stateFault stateReading stateHeaderOf
+state-given s h t e =
+    let z = valid-same _ (stateHeaderOf s) h _ t e in
+    let p = passed-all-pass (stateRows s) (valid-fault s h t e) in
     (p, rw (sym (z .0)) (record { header = header-of s; weights = z .1; entries = state-steps s p }))

@@ -15,9 +15,9 @@ use Rattle.protocol.specs.Policy.{hasCapability}
 use Rattle.protocol.specs.Rows.{decide}
 use Rattle.protocol.specs.declared.error.ProtocolError.{ProtocolError}
 use Rattle.protocol.specs.declared.check.Check.the-variants.{Passed, Failed}
-use Rattle.protocol.proofs.Hold.{passed-hold, decide-append, decide-failed, hold-split}
-use Rattle.account_state.specs.Reading.{lengthOf, slotOf, entryOf, entriesOf, shareOf, weightOf}
-use Rattle.account_state.specs.State.{layoutRows, entryRows, entriesRows, behind, firstEntry, cursorBehind, summaryOf}
+use Rattle.protocol.proofs.AllPass.{passed-all-pass, decide-append, decide-failed, all-pass-split}
+use Rattle.account_state.specs.Reading.{entryLengthOf, entrySlotOf, entryOf, entriesOf, capableShare, capableWeight}
+use Rattle.account_state.specs.State.{entryLayoutRows, entryRows, entriesRows, behindEntries, firstEntry, entryCursorBehind, summaryOf}
 use Rattle.account_state.specs.Walk.{withEntry, Light}
 use Rattle.account_state.specs.declared.entry.EntryCursor.{EntryCursor}
 use Rattle.account_state.specs.declared.walk.StateSummary.{StateSummary}
@@ -25,12 +25,12 @@ use Rattle.account_state.specs.declared.walk.StateSummary.{StateSummary}
 -- an entry that passes is present, and its length stays inside
 pub record Present (e : List ℕ) : Type 0 where
   pub head : 48 ≤ length e
-  pub whole : lengthOf e ≤ length e
+  pub whole : entryLengthOf e ≤ length e
 
 pub entry-present : (e : List ℕ) (least : ℕ) → decide Passed (entryRows e least) ≡ Passed → Present e
-unfolding entryRows layoutRows
+unfolding entryRows entryLayoutRows
 entry-present e least h =
-    let z = passed-hold _ h in
+    let z = passed-all-pass _ h in
     record { head = leb-true _ _ (z .0); whole = leb-true _ _ (z .1 .1 .0) }
 
 pub entry-room : (s : List ℕ) (at least : ℕ) → decide Passed (entryRows (drop at s) least) ≡ Passed → at + 48 ≤ length s
@@ -41,7 +41,7 @@ entry-room s at least h =
 
 -- one entry, and the rest of them
 pub rows-passed : (n : ℕ) (e : List ℕ) (least : ℕ) → decide Passed (entryRows e least) ≡ Passed
-    → decide Passed (entriesRows (suc n) e least) ≡ decide Passed (entriesRows n (drop (lengthOf e) e) (slotOf e + 1))
+    → decide Passed (entriesRows (suc n) e least) ≡ decide Passed (entriesRows n (drop (entryLengthOf e) e) (entrySlotOf e + 1))
 unfolding entriesRows
 rows-passed n e least h = decide-append Passed (entryRows e least) _ ∙ rw h
 
@@ -53,10 +53,10 @@ rows-failed n e least x h = decide-append Passed (entryRows e least) _ ∙ rw h 
 -- what is left to walk gives the whole
 pub record Walking (s : List ℕ) (count left : ℕ) (c : EntryCursor) (t : StateSummary) : Type 0 where
   pub rows : decide Passed (entriesRows left (drop (c .offset) s) (c .least)) ≡ decide Passed (entriesRows count (drop 32 s) 0)
-  pub tail : behind left (drop (c .offset) s) ≡ behind count (drop 32 s)
-  pub spend : t .«spend_weight» + weightOf 1 (entriesOf left (drop (c .offset) s)) ≡ weightOf 1 (entriesOf count (drop 32 s))
-  pub rotate : t .«rotate_weight» + weightOf 2 (entriesOf left (drop (c .offset) s)) ≡ weightOf 2 (entriesOf count (drop 32 s))
-  pub recovery : t .«recovery_weight» + weightOf 4 (entriesOf left (drop (c .offset) s)) ≡ weightOf 4 (entriesOf count (drop 32 s))
+  pub tail : behindEntries left (drop (c .offset) s) ≡ behindEntries count (drop 32 s)
+  pub spend : t .«spend_weight» + capableWeight 1 (entriesOf left (drop (c .offset) s)) ≡ capableWeight 1 (entriesOf count (drop 32 s))
+  pub rotate : t .«rotate_weight» + capableWeight 2 (entriesOf left (drop (c .offset) s)) ≡ capableWeight 2 (entriesOf count (drop 32 s))
+  pub recovery : t .«recovery_weight» + capableWeight 4 (entriesOf left (drop (c .offset) s)) ≡ capableWeight 4 (entriesOf count (drop 32 s))
   pub inside : c .offset ≤ length s
   pub light : Light left t
 
@@ -75,18 +75,18 @@ walking-first s count h k =
 
 -- every entry is walked
 pub walking-done : (s : List ℕ) (count left : ℕ) (c : EntryCursor) (t : StateSummary) → left ≡ 0 → Walking s count left c t
-    → (Passed ≡ decide Passed (entriesRows count (drop 32 s) 0)) × (length s - c .offset ≡ length (behind count (drop 32 s))) × (t ≡ summaryOf (entriesOf count (drop 32 s)))
-unfolding entriesRows behind entriesOf weightOf summaryOf decide
+    → (Passed ≡ decide Passed (entriesRows count (drop 32 s) 0)) × (length s - c .offset ≡ length (behindEntries count (drop 32 s))) × (t ≡ summaryOf (entriesOf count (drop 32 s)))
+unfolding entriesRows behindEntries entriesOf capableWeight summaryOf decide
 walking-done s count left c t e w =
     let r : Passed ≡ decide Passed (entriesRows count (drop 32 s) 0) = rw e at (w .rows) in
-    let b : drop (c .offset) s ≡ behind count (drop 32 s) = rw e at (w .tail) in
-    let x : t .«spend_weight» ≡ weightOf 1 (entriesOf count (drop 32 s)) = sym (add-zero _) ∙ (rw e at (w .spend)) in
-    let y : t .«rotate_weight» ≡ weightOf 2 (entriesOf count (drop 32 s)) = sym (add-zero _) ∙ (rw e at (w .rotate)) in
-    let z : t .«recovery_weight» ≡ weightOf 4 (entriesOf count (drop 32 s)) = sym (add-zero _) ∙ (rw e at (w .recovery)) in
+    let b : drop (c .offset) s ≡ behindEntries count (drop 32 s) = rw e at (w .tail) in
+    let x : t .«spend_weight» ≡ capableWeight 1 (entriesOf count (drop 32 s)) = sym (add-zero _) ∙ (rw e at (w .spend)) in
+    let y : t .«rotate_weight» ≡ capableWeight 2 (entriesOf count (drop 32 s)) = sym (add-zero _) ∙ (rw e at (w .rotate)) in
+    let z : t .«recovery_weight» ≡ capableWeight 4 (entriesOf count (drop 32 s)) = sym (add-zero _) ∙ (rw e at (w .recovery)) in
     (r, sym (length-drop (c .offset) s) ∙ ap length b, rw (← x, ← y, ← z))
 
-share-le : (b c w : ℕ) → shareOf b c w ≤ w
-unfolding shareOf
+share-le : (b c w : ℕ) → capableShare b c w ≤ w
+unfolding capableShare
 share-le b c w = go (hasCapability c b)
   where
     go : (t : Bool) → cond t w 0 ≤ w
@@ -104,12 +104,12 @@ module _ (s : List ℕ) (count left : ℕ) (c : EntryCursor) (t : StateSummary) 
       sym (w .rows) ∙ (ap (λ (n : ℕ). decide Passed (entriesRows n (drop (c .offset) s) (c .least))) one ∙ rows-failed (left - 1) (drop (c .offset) s) (c .least) x h)
 
   -- the weights with an entry's added
-  share-next : (bit sum : ℕ) → sum + weightOf bit (entriesOf left (drop (c .offset) s)) ≡ weightOf bit (entriesOf count (drop 32 s))
-      → sum + shareOf bit (numberAt (drop (c .offset) s) 6 2) (numberAt (drop (c .offset) s) 8 2)
-      + weightOf bit (entriesOf (left - 1) (drop (lengthOf (drop (c .offset) s)) (drop (c .offset) s))) ≡ weightOf bit (entriesOf count (drop 32 s))
-  unfolding weightOf entriesOf entryOf
+  share-next : (bit sum : ℕ) → sum + capableWeight bit (entriesOf left (drop (c .offset) s)) ≡ capableWeight bit (entriesOf count (drop 32 s))
+      → sum + capableShare bit (numberAt (drop (c .offset) s) 6 2) (numberAt (drop (c .offset) s) 8 2)
+      + capableWeight bit (entriesOf (left - 1) (drop (entryLengthOf (drop (c .offset) s)) (drop (c .offset) s))) ≡ capableWeight bit (entriesOf count (drop 32 s))
+  unfolding capableWeight entriesOf entryOf
   share-next bit sum h =
-      add-assoc sum _ _ ∙ (sym (ap (λ (n : ℕ). sum + weightOf bit (entriesOf n (drop (c .offset) s))) one) ∙ h)
+      add-assoc sum _ _ ∙ (sym (ap (λ (n : ℕ). sum + capableWeight bit (entriesOf n (drop (c .offset) s))) one) ∙ h)
 
   light-next : Bytes s → Light (left - 1) (withEntry t (numberAt (drop (c .offset) s) 6 2) (numberAt (drop (c .offset) s) 8 2))
   unfolding withEntry
@@ -124,18 +124,18 @@ module _ (s : List ℕ) (count left : ℕ) (c : EntryCursor) (t : StateSummary) 
 
   -- an entry that passes leaves the rest to walk
   pub walking-next : Bytes s → decide Passed (entryRows (drop (c .offset) s) (c .least)) ≡ Passed
-      → Walking s count (left - 1) (cursorBehind s (c .offset)) (withEntry t (numberAt (drop (c .offset) s) 6 2) (numberAt (drop (c .offset) s) 8 2))
-  unfolding cursorBehind withEntry behind
+      → Walking s count (left - 1) (entryCursorBehind s (c .offset)) (withEntry t (numberAt (drop (c .offset) s) 6 2) (numberAt (drop (c .offset) s) 8 2))
+  unfolding entryCursorBehind withEntry behindEntries
   walking-next b h =
       let p = entry-present (drop (c .offset) s) (c .least) h in
       let n : length (drop (c .offset) s) ≡ length s - c .offset = length-drop (c .offset) s in
       record {
-        rows = rw (← drop-drop (lengthOf (drop (c .offset) s)) (c .offset) s)
+        rows = rw (← drop-drop (entryLengthOf (drop (c .offset) s)) (c .offset) s)
             (sym (ap (λ (n : ℕ). decide Passed (entriesRows n (drop (c .offset) s) (c .least))) one ∙ rows-passed (left - 1) (drop (c .offset) s) (c .least) h) ∙ w .rows);
-        tail = rw (← drop-drop (lengthOf (drop (c .offset) s)) (c .offset) s) (sym (ap (λ (n : ℕ). behind n (drop (c .offset) s)) one) ∙ w .tail);
-        spend = rw (← drop-drop (lengthOf (drop (c .offset) s)) (c .offset) s) (share-next 1 (t .«spend_weight») (w .spend));
-        rotate = rw (← drop-drop (lengthOf (drop (c .offset) s)) (c .offset) s) (share-next 2 (t .«rotate_weight») (w .rotate));
-        recovery = rw (← drop-drop (lengthOf (drop (c .offset) s)) (c .offset) s) (share-next 4 (t .«recovery_weight») (w .recovery));
+        tail = rw (← drop-drop (entryLengthOf (drop (c .offset) s)) (c .offset) s) (sym (ap (λ (n : ℕ). behindEntries n (drop (c .offset) s)) one) ∙ w .tail);
+        spend = rw (← drop-drop (entryLengthOf (drop (c .offset) s)) (c .offset) s) (share-next 1 (t .«spend_weight») (w .spend));
+        rotate = rw (← drop-drop (entryLengthOf (drop (c .offset) s)) (c .offset) s) (share-next 2 (t .«rotate_weight») (w .rotate));
+        recovery = rw (← drop-drop (entryLengthOf (drop (c .offset) s)) (c .offset) s) (share-next 4 (t .«recovery_weight») (w .recovery));
         inside = omega arith;
         light = light-next b;
       }

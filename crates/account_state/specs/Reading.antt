@@ -5,7 +5,7 @@ use mathlib.Core.Bool.{cond}
 use mathlib.Core.List.{List, [], _∷_, _++_}
 use lib.ListN.{length, take, drop}
 use Rattle.octets.specs.Le.{numberAt}
-use Rattle.octets.specs.Table.{Number, numbers}
+use Rattle.octets.specs.Layout.{Field, layoutBytes}
 use Rattle.protocol.specs.Policy.{hasCapability}
 
 pub record EntryReading : Type 0 where
@@ -37,8 +37,8 @@ stateMagic = 0x53414b43
 abbrev pub entrySize : EntryReading → ℕ
 entrySize e = 48 + length (e .key) + length (e .aux)
 
-unfoldable pub entryHead : EntryReading → List Number
-entryHead e =
+unfoldable pub entryHeadFields : EntryReading → List Field
+entryHeadFields e =
     record { width = 2; value = entrySize e }
     ∷ record { width = 2; value = e .slot }
     ∷ record { width = 2; value = e .algorithm }
@@ -48,11 +48,11 @@ entryHead e =
     ∷ record { width = 1; value = e .abi }
     ∷ []
 
-unfoldable pub entryLengths : EntryReading → List Number
-entryLengths e = record { width = 2; value = length (e .key) } ∷ record { width = 2; value = length (e .aux) } ∷ []
+unfoldable pub entryLengthFields : EntryReading → List Field
+entryLengthFields e = record { width = 2; value = length (e .key) } ∷ record { width = 2; value = length (e .aux) } ∷ []
 
 unfoldable pub entryBytes : EntryReading → List ℕ
-entryBytes e = numbers (entryHead e) ++ e .codeHash ++ numbers (entryLengths e) ++ e .key ++ e .aux
+entryBytes e = layoutBytes (entryHeadFields e) ++ e .codeHash ++ layoutBytes (entryLengthFields e) ++ e .key ++ e .aux
 
 unfoldable pub entriesBytes : List EntryReading → List ℕ
 entriesBytes [] = []
@@ -60,8 +60,8 @@ entriesBytes (e ∷ es) = entryBytes e ++ entriesBytes es
 
 -- 01: "State header, 32 bytes: `CKAS`, version 1, flags, length 32 (u16), sequence (u64), spend, rotate and recovery thresholds
 -- (u16 each), count, 0, recovery_since (u64)."
-unfoldable pub headNumbers : ℕ → ℕ → ℕ → ℕ → ℕ → ℕ → ℕ → List Number
-headNumbers flags sequence spend rotate recovery count since =
+unfoldable pub stateHeaderFields : ℕ → ℕ → ℕ → ℕ → ℕ → ℕ → ℕ → List Field
+stateHeaderFields flags sequence spend rotate recovery count since =
     record { width = 4; value = stateMagic }
     ∷ record { width = 1; value = 1 }
     ∷ record { width = 1; value = flags }
@@ -75,18 +75,18 @@ headNumbers flags sequence spend rotate recovery count since =
     ∷ record { width = 8; value = since }
     ∷ []
 
-unfoldable pub stateHead : StateReading → List Number
-stateHead r = headNumbers (r .flags) (r .sequence) (r .spend) (r .rotate) (r .recovery) (length (r .entries)) (r .since)
+unfoldable pub stateHead : StateReading → List Field
+stateHead r = stateHeaderFields (r .flags) (r .sequence) (r .spend) (r .rotate) (r .recovery) (length (r .entries)) (r .since)
 
 unfoldable pub stateBytes : StateReading → List ℕ
-stateBytes r = numbers (stateHead r) ++ entriesBytes (r .entries)
+stateBytes r = layoutBytes (stateHead r) ++ entriesBytes (r .entries)
 
 -- the fields of the entry at the front of the bytes
-abbrev pub lengthOf : List ℕ → ℕ
-lengthOf e = numberAt e 0 2
+abbrev pub entryLengthOf : List ℕ → ℕ
+entryLengthOf e = numberAt e 0 2
 
-abbrev pub slotOf : List ℕ → ℕ
-slotOf e = numberAt e 2 2
+abbrev pub entrySlotOf : List ℕ → ℕ
+entrySlotOf e = numberAt e 2 2
 
 abbrev pub keyLengthOf : List ℕ → ℕ
 keyLengthOf e = numberAt e 44 2
@@ -97,7 +97,7 @@ auxLengthOf e = numberAt e 46 2
 unfoldable pub entryOf : List ℕ → EntryReading
 entryOf e =
     record {
-      slot = slotOf e;
+      slot = entrySlotOf e;
       algorithm = numberAt e 4 2;
       capabilities = numberAt e 6 2;
       weight = numberAt e 8 2;
@@ -111,7 +111,7 @@ entryOf e =
 -- n entries one behind another
 unfoldable pub entriesOf : ℕ → List ℕ → List EntryReading
 entriesOf zero e = []
-entriesOf (suc n) e = entryOf e ∷ entriesOf n (drop (lengthOf e) e)
+entriesOf (suc n) e = entryOf e ∷ entriesOf n (drop (entryLengthOf e) e)
 
 unfoldable pub stateReading : List ℕ → StateReading
 stateReading s =
@@ -126,17 +126,17 @@ stateReading s =
     }
 
 -- the slots of the entries
-abbrev pub slotsOf : List EntryReading → List ℕ
-slotsOf [] = []
-slotsOf (e ∷ es) = e .slot ∷ slotsOf es
+abbrev pub entrySlots : List EntryReading → List ℕ
+entrySlots [] = []
+entrySlots (e ∷ es) = e .slot ∷ entrySlots es
 
 -- the weight of the entries that have a capability
-unfoldable pub shareOf : ℕ → ℕ → ℕ → ℕ
-shareOf bit capabilities weight = cond (hasCapability capabilities bit) weight 0
+unfoldable pub capableShare : ℕ → ℕ → ℕ → ℕ
+capableShare bit capabilities weight = cond (hasCapability capabilities bit) weight 0
 
-unfoldable pub weightOf : ℕ → List EntryReading → ℕ
-weightOf bit [] = 0
-weightOf bit (e ∷ es) = shareOf bit (e .capabilities) (e .weight) + weightOf bit es
+unfoldable pub capableWeight : ℕ → List EntryReading → ℕ
+capableWeight bit [] = 0
+capableWeight bit (e ∷ es) = capableShare bit (e .capabilities) (e .weight) + capableWeight bit es
 
 -- readings whose fields, lengths and count are values of their types
 pub record EntryTyped (e : EntryReading) : Type 0 where

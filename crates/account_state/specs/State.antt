@@ -12,7 +12,7 @@ use Rattle.protocol.specs.Rows.{Row, row, decide}
 use Rattle.protocol.specs.declared.error.ProtocolError.the-variants.{InvalidState, InvalidVerifierRef, UnsupportedVersion, UnsupportedAlgorithm, UnsatisfiableThreshold}
 use Rattle.protocol.specs.declared.check.Check.{Check}
 use Rattle.protocol.specs.declared.check.Check.the-variants.{Passed, Failed}
-use Rattle.account_state.specs.Reading.{EntryReading, stateMagic, lengthOf, slotOf, keyLengthOf, auxLengthOf, entriesOf, stateReading, weightOf}
+use Rattle.account_state.specs.Reading.{EntryReading, stateMagic, entryLengthOf, entrySlotOf, keyLengthOf, auxLengthOf, entriesOf, stateReading, capableWeight}
 use Rattle.account_state.specs.declared.header.StateHeader.{StateHeader}
 use Rattle.account_state.specs.declared.header.StateHeaderAnswer.{StateHeaderAnswer}
 use Rattle.account_state.specs.declared.header.StateHeaderAnswer.the-variants as header
@@ -26,8 +26,8 @@ use Rattle.account_state.specs.declared.StateAnswer.the-variants as answ
 
 -- 01, State header: "Checks in order: length 32 to 16,384 (21), magic (21), version (32), flags above 3 (21), header length (21),
 -- byte 23 (21), count 1 to 16 (21)."
-unfoldable pub headRows : List ℕ → List Row
-headRows s =
+unfoldable pub stateHeaderRows : List ℕ → List Row
+stateHeaderRows s =
     row (leb 32 (length s)) InvalidState
     ∷ row (leb (length s) 16384) InvalidState
     ∷ row (eqb (numberAt s 0 4) stateMagic) InvalidState
@@ -43,16 +43,16 @@ headRows s =
 -- predecessor, weight not 0 and capabilities at most 0x000F (all 21); hash type at most 1 (0 names a dep by data hash, 1 by type
 -- hash) and ABI 1 (30); algorithm 0x0001, 0x0101, 0x0102, 0x0103 or 0x0201 (33); key of 32 bytes and aux not empty (21)."
 -- e is the state from the entry on, and least is one above the slot of its predecessor.
-unfoldable pub layoutRows : List ℕ → ℕ → List Row
-layoutRows e least =
+unfoldable pub entryLayoutRows : List ℕ → ℕ → List Row
+entryLayoutRows e least =
     row (leb 48 (length e)) InvalidState
-    ∷ row (eqb (lengthOf e) (48 + keyLengthOf e + auxLengthOf e)) InvalidState
-    ∷ row (leb (lengthOf e) (length e)) InvalidState
-    ∷ row (leb least (slotOf e)) InvalidState
+    ∷ row (eqb (entryLengthOf e) (48 + keyLengthOf e + auxLengthOf e)) InvalidState
+    ∷ row (leb (entryLengthOf e) (length e)) InvalidState
+    ∷ row (leb least (entrySlotOf e)) InvalidState
     ∷ []
 
-unfoldable pub fieldRows : List ℕ → List Row
-fieldRows e =
+unfoldable pub entryFieldRows : List ℕ → List Row
+entryFieldRows e =
     row (leb 1 (numberAt e 8 2)) InvalidState
     ∷ row (leb (numberAt e 6 2) 0x000f) InvalidState
     ∷ row (leb (numberAt e 10 1) 1) InvalidVerifierRef
@@ -63,20 +63,20 @@ fieldRows e =
     ∷ []
 
 unfoldable pub entryRows : List ℕ → ℕ → List Row
-entryRows e least = layoutRows e least ++ fieldRows e
+entryRows e least = entryLayoutRows e least ++ entryFieldRows e
 
 unfoldable pub entriesRows : ℕ → List ℕ → ℕ → List Row
 entriesRows zero e least = []
-entriesRows (suc n) e least = entryRows e least ++ entriesRows n (drop (lengthOf e) e) (slotOf e + 1)
+entriesRows (suc n) e least = entryRows e least ++ entriesRows n (drop (entryLengthOf e) e) (entrySlotOf e + 1)
 
 -- what follows n entries
-unfoldable pub behind : ℕ → List ℕ → List ℕ
-behind zero e = e
-behind (suc n) e = behind n (drop (lengthOf e) e)
+unfoldable pub behindEntries : ℕ → List ℕ → List ℕ
+behindEntries zero e = e
+behindEntries (suc n) e = behindEntries n (drop (entryLengthOf e) e)
 
 -- 01: "With flag 1 set the same holds for recovery. With flag 1 clear, a recovery threshold or recovery_since other than 0 is 21."
-unfoldable pub recoveryRows : ℕ → ℕ → ℕ → ℕ → List Row
-recoveryRows flags threshold since weight =
+unfoldable pub recoveryThresholdRows : ℕ → ℕ → ℕ → ℕ → List Row
+recoveryThresholdRows flags threshold since weight =
     cond (eqb (flags % 2) 1)
     (row (leb 1 threshold) UnsatisfiableThreshold ∷ row (leb threshold weight) UnsatisfiableThreshold ∷ [])
     (row (eqb threshold 0) InvalidState ∷ row (eqb since 0) InvalidState ∷ [])
@@ -88,29 +88,29 @@ thresholdRows flags spend rotate recovery since spendWeight rotateWeight recover
     ∷ row (leb 1 rotate) UnsatisfiableThreshold
     ∷ row (leb spend spendWeight) UnsatisfiableThreshold
     ∷ row (leb rotate rotateWeight) UnsatisfiableThreshold
-    ∷ recoveryRows flags recovery since recoveryWeight
+    ∷ recoveryThresholdRows flags recovery since recoveryWeight
 
 -- 01: "After the last entry no byte follows (21). Then:" the thresholds
-unfoldable pub endRows : List ℕ → ℕ → ℕ → ℕ → ℕ → List Row
-endRows s tail spend rotate recovery =
+unfoldable pub stateEndRows : List ℕ → ℕ → ℕ → ℕ → ℕ → List Row
+stateEndRows s tail spend rotate recovery =
     row (eqb tail 0) InvalidState
     ∷ thresholdRows (numberAt s 5 1) (numberAt s 16 2) (numberAt s 18 2) (numberAt s 20 2) (numberAt s 24 8) spend rotate recovery
 
 -- the checks after the last entry; spend, rotate and recovery are capability bits 1, 2 and 4
-unfoldable pub tailRows : List ℕ → ℕ → List ℕ → List Row
-tailRows s n e =
-    endRows s (length (behind n e)) (weightOf 1 (entriesOf n e)) (weightOf 2 (entriesOf n e)) (weightOf 4 (entriesOf n e))
+unfoldable pub stateTailRows : List ℕ → ℕ → List ℕ → List Row
+stateTailRows s n e =
+    stateEndRows s (length (behindEntries n e)) (capableWeight 1 (entriesOf n e)) (capableWeight 2 (entriesOf n e)) (capableWeight 4 (entriesOf n e))
 
 -- all checks of a state
 unfoldable pub stateRows : List ℕ → List Row
-stateRows s = headRows s ++ (entriesRows (numberAt s 22 1) (drop 32 s) 0 ++ tailRows s (numberAt s 22 1) (drop 32 s))
+stateRows s = stateHeaderRows s ++ (entriesRows (numberAt s 22 1) (drop 32 s) 0 ++ stateTailRows s (numberAt s 22 1) (drop 32 s))
 
 unfoldable pub stateFault : List ℕ → Check
 stateFault s = decide Passed (stateRows s)
 
 -- what the header's reader gives
-unfoldable pub headerOf : List ℕ → StateHeader
-headerOf s =
+unfoldable pub stateHeaderOf : List ℕ → StateHeader
+stateHeaderOf s =
     record {
       flags = numberAt s 5 1;
       sequence = numberAt s 8 8;
@@ -121,15 +121,15 @@ headerOf s =
       «recovery_since» = numberAt s 24 8;
     }
 
-unfoldable pub headerAnswer : Check → StateHeader → StateHeaderAnswer
-headerAnswer Passed h = header.Header h
-headerAnswer (Failed e) h = header.Refused e
+unfoldable pub stateHeaderAnswer : Check → StateHeader → StateHeaderAnswer
+stateHeaderAnswer Passed h = header.Header h
+stateHeaderAnswer (Failed e) h = header.Refused e
 
-unfoldable pub readHeader : List ℕ → StateHeaderAnswer
-readHeader s = headerAnswer (decide Passed (headRows s)) (headerOf s)
+unfoldable pub readStateHeader : List ℕ → StateHeaderAnswer
+readStateHeader s = stateHeaderAnswer (decide Passed (stateHeaderRows s)) (stateHeaderOf s)
 
 -- the header that the reader gives has the reading's fields and the count of its entries
-pub record HeaderGives (s : List ℕ) (h : StateHeader) : Type 0 where
+pub record StateHeaderGives (s : List ℕ) (h : StateHeader) : Type 0 where
   pub flags : h .flags ≡ stateReading s .flags
   pub sequence : h .sequence ≡ stateReading s .sequence
   pub spend : h .«spend_threshold» ≡ stateReading s .spend
@@ -142,7 +142,7 @@ pub record HeaderGives (s : List ℕ) (h : StateHeader) : Type 0 where
 unfoldable pub entryAt : List ℕ → ℕ → AuthenticatorEntry
 entryAt s at =
     record {
-      slot = slotOf (drop at s);
+      slot = entrySlotOf (drop at s);
       «algorithm_id» = numberAt (drop at s) 4 2;
       capabilities = numberAt (drop at s) 6 2;
       weight = numberAt (drop at s) 8 2;
@@ -159,16 +159,16 @@ entryAt s at =
 abbrev pub firstEntry : EntryCursor
 firstEntry = record { offset = 32; least = 0 }
 
-unfoldable pub cursorBehind : List ℕ → ℕ → EntryCursor
-cursorBehind s at = record { offset = at + lengthOf (drop at s); least = slotOf (drop at s) + 1 }
+unfoldable pub entryCursorBehind : List ℕ → ℕ → EntryCursor
+entryCursorBehind s at = record { offset = at + entryLengthOf (drop at s); least = entrySlotOf (drop at s) + 1 }
 
-unfoldable pub stepAnswer : Check → AuthenticatorEntry → EntryCursor → EntryStep
-stepAnswer Passed e c = step.Entry e c
-stepAnswer (Failed x) e c = step.Refused x
+unfoldable pub entryStepAnswer : Check → AuthenticatorEntry → EntryCursor → EntryStep
+entryStepAnswer Passed e c = step.Entry e c
+entryStepAnswer (Failed x) e c = step.Refused x
 
 unfoldable pub entryStep : List ℕ → EntryCursor → EntryStep
 entryStep s c =
-    stepAnswer (decide Passed (entryRows (drop (c .offset) s) (c .least))) (entryAt s (c .offset)) (cursorBehind s (c .offset))
+    entryStepAnswer (decide Passed (entryRows (drop (c .offset) s) (c .least))) (entryAt s (c .offset)) (entryCursorBehind s (c .offset))
 
 -- the reading of an entry that a step hands out: its numbers, and the bytes at its places; 01: "a place in the input counting as the
 -- bytes there"
@@ -188,38 +188,38 @@ entryGiven s e =
 
 -- the steps from a cursor on hand out these entries, one by one; 01: "Closures of `parse_authenticators` and `parse_proofs`: a step
 -- per entry."
-unfoldable pub Steps : List ℕ → ℕ → EntryCursor → List EntryReading → Type 0
-Steps s zero c es = es ≡ []
-Steps s (suc n) c [] = ⊥
-Steps s (suc n) c (r ∷ rs) =
-    (e : AuthenticatorEntry) × ((d : EntryCursor) × ((entryStep s c ≡ step.Entry e d) × ((entryGiven s e ≡ r) × Steps s n d rs)))
+unfoldable pub EntryStepsGive : List ℕ → ℕ → EntryCursor → List EntryReading → Type 0
+EntryStepsGive s zero c es = es ≡ []
+EntryStepsGive s (suc n) c [] = ⊥
+EntryStepsGive s (suc n) c (r ∷ rs) =
+    (e : AuthenticatorEntry) × ((d : EntryCursor) × ((entryStep s c ≡ step.Entry e d) × ((entryGiven s e ≡ r) × EntryStepsGive s n d rs)))
 
 -- what the state's reader gives
 unfoldable pub summaryOf : List EntryReading → StateSummary
-summaryOf es = record { «spend_weight» = weightOf 1 es; «rotate_weight» = weightOf 2 es; «recovery_weight» = weightOf 4 es }
+summaryOf es = record { «spend_weight» = capableWeight 1 es; «rotate_weight» = capableWeight 2 es; «recovery_weight» = capableWeight 4 es }
 
 unfoldable pub stateAnswer : Check → StateHeader → StateSummary → StateAnswer
 stateAnswer Passed h t = answer.Valid h t
 stateAnswer (Failed e) h t = answer.Refused e
 
 unfoldable pub readState : List ℕ → StateAnswer
-readState s = stateAnswer (stateFault s) (headerOf s) (summaryOf (entriesOf (numberAt s 22 1) (drop 32 s)))
+readState s = stateAnswer (stateFault s) (stateHeaderOf s) (summaryOf (entriesOf (numberAt s 22 1) (drop 32 s)))
 
 -- what the readers hand out of a state, with the header h and the weights t of its answer, is its reading: the header's fields, the
 -- weights of the entries, and at each step the next entry
 pub record StateGives (s : List ℕ) (h : StateHeader) (t : StateSummary) : Type 0 where
-  pub header : HeaderGives s h
+  pub header : StateHeaderGives s h
   pub weights : summaryOf (stateReading s .entries) ≡ t
-  pub entries : Steps s (h .«authenticator_count») firstEntry (stateReading s .entries)
+  pub entries : EntryStepsGive s (h .«authenticator_count») firstEntry (stateReading s .entries)
 
 -- document 01's number of each answer, 0 where it is accepted
-abbrev pub headerNumber : StateHeaderAnswer → ℕ
-headerNumber (header.Header h) = 0
-headerNumber (header.Refused e) = errorNumber e
+abbrev pub stateHeaderNumber : StateHeaderAnswer → ℕ
+stateHeaderNumber (header.Header h) = 0
+stateHeaderNumber (header.Refused e) = errorNumber e
 
-abbrev pub stepNumber : EntryStep → ℕ
-stepNumber (step.Entry e c) = 0
-stepNumber (step.Refused x) = errorNumber x
+abbrev pub entryStepNumber : EntryStep → ℕ
+entryStepNumber (step.Entry e c) = 0
+entryStepNumber (step.Refused x) = errorNumber x
 
 abbrev pub stateNumber : StateAnswer → ℕ
 stateNumber (answer.Valid h t) = 0

@@ -6,8 +6,8 @@ use lib.ListN.{length, drop}
 use Rattle.protocol.specs.Rows.{decide}
 use Rattle.protocol.specs.declared.check.Check.{Check}
 use Rattle.protocol.specs.declared.check.Check.the-variants.{Passed, Failed}
-use Rattle.account_state.specs.Reading.{entriesOf, shareOf}
-use Rattle.account_state.specs.State.{entriesRows, behind, endRows, summaryOf}
+use Rattle.account_state.specs.Reading.{entriesOf, capableShare}
+use Rattle.account_state.specs.State.{entriesRows, behindEntries, stateEndRows, summaryOf}
 use Rattle.account_state.specs.declared.walk.StateSummary.{StateSummary}
 use Rattle.account_state.specs.declared.walk.Walk.{Walk}
 use Rattle.account_state.specs.declared.walk.WalkAnswer.{WalkAnswer}
@@ -18,7 +18,7 @@ walkAnswer Passed w = Walked w
 walkAnswer (Failed e) w = Refused e
 
 unfoldable pub walkOf : ℕ → List ℕ → Walk
-walkOf n e = record { tail = length (behind n e); summary = summaryOf (entriesOf n e) }
+walkOf n e = record { tail = length (behindEntries n e); summary = summaryOf (entriesOf n e) }
 
 unfoldable pub walkEntries : ℕ → List ℕ → WalkAnswer
 walkEntries n e = walkAnswer (decide Passed (entriesRows n e 0)) (walkOf n e)
@@ -26,15 +26,15 @@ walkEntries n e = walkAnswer (decide Passed (entriesRows n e 0)) (walkOf n e)
 -- what the checks after the last entry find
 unfoldable pub endFault : List ℕ → Walk → Check
 endFault s w =
-    decide Passed (endRows s (w .tail) (w .summary .«spend_weight») (w .summary .«rotate_weight») (w .summary .«recovery_weight»))
+    decide Passed (stateEndRows s (w .tail) (w .summary .«spend_weight») (w .summary .«rotate_weight») (w .summary .«recovery_weight»))
 
 -- the weights with one entry's added
 unfoldable pub withEntry : StateSummary → ℕ → ℕ → StateSummary
 withEntry t capabilities weight =
     record {
-      «spend_weight» = t .«spend_weight» + shareOf 1 capabilities weight;
-      «rotate_weight» = t .«rotate_weight» + shareOf 2 capabilities weight;
-      «recovery_weight» = t .«recovery_weight» + shareOf 4 capabilities weight;
+      «spend_weight» = t .«spend_weight» + capableShare 1 capabilities weight;
+      «rotate_weight» = t .«rotate_weight» + capableShare 2 capabilities weight;
+      «recovery_weight» = t .«recovery_weight» + capableShare 4 capabilities weight;
     }
 
 -- the weights have room for those of `left` entries more, of sixteen in all

@@ -12,7 +12,7 @@ ghost use Prim.Native.Nat.{_+_, _≤_};
 ghost use lib.ListN.{length};
 ghost use Rattle.protocol.specs.Rows.{decide};
 ghost use Rattle.protocol.specs.declared.check.Check.the-variants.{Passed};
-ghost use Rattle.account_state.specs.State.{layoutRows, fieldRows, entryRows, entryAt, firstEntry, cursorBehind, entryStep};
+ghost use Rattle.account_state.specs.State.{entryLayoutRows, entryFieldRows, entryRows, entryAt, firstEntry, entryCursorBehind, entryStep};
 
 // Where the next entry begins, and the least slot that it may have: one above its predecessor's.
 pub struct EntryCursor {
@@ -55,7 +55,7 @@ impl EntryCursor {
 // The lengths and the slot of the entry at the front of the bytes, which have its 48.
 fn check_layout(entry: &[u8], least: u32) -> Check
     requires { ⌜ 48 ≤ length (now entry) ⌝ }
-    ensures { λ r. ⌜ r ≡ decide Passed (layoutRows (now (entry .entry)) least) ⌝ }
+    ensures { λ r. ⌜ r ≡ decide Passed (entryLayoutRows (now (entry .entry)) least) ⌝ }
 {
     let invalid = ProtocolError::InvalidState;
     let len = u16_at(entry, 0) as usize;
@@ -68,7 +68,7 @@ fn check_layout(entry: &[u8], least: u32) -> Check
 
 // The policy fields of the entry at the front of the bytes.
 fn check_fields(entry: &[u8], check: Check) -> Check
-    ensures { λ r. ⌜ r ≡ decide check (fieldRows (now (entry .entry))) ⌝ }
+    ensures { λ r. ⌜ r ≡ decide check (entryFieldRows (now (entry .entry))) ⌝ }
 {
     let invalid = ProtocolError::InvalidState;
     let verifier = ProtocolError::InvalidVerifierRef;
@@ -119,7 +119,7 @@ fn entry_at(state: &[u8], at: usize) -> AuthenticatorEntry
 
 pub(crate) fn cursor_behind(state: &[u8], at: usize) -> EntryCursor
     requires { ⌜ at + 48 ≤ length (now state) ⌝ }
-    ensures { λ r. ⌜ r ≡ cursorBehind (now (state .entry)) at ⌝ }
+    ensures { λ r. ⌜ r ≡ entryCursorBehind (now (state .entry)) at ⌝ }
 {
     let entry = &state[at..];
     EntryCursor {

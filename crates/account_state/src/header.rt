@@ -16,7 +16,7 @@ ghost use Prim.Native.Nat.{_≤_};
 ghost use lib.ListN.{length};
 ghost use Rattle.protocol.specs.Rows.{decide};
 ghost use Rattle.protocol.specs.declared.check.Check.the-variants.{Passed};
-ghost use Rattle.account_state.specs.State.{headRows, headerOf, readHeader};
+ghost use Rattle.account_state.specs.State.{stateHeaderRows, stateHeaderOf, readStateHeader};
 
 pub struct StateHeader {
     pub flags: u8,
@@ -35,7 +35,7 @@ pub enum StateHeaderAnswer {
 
 // The first row stands alone, so that no read behind it looks for the end of the bytes.
 pub(crate) fn check_head(state: &[u8]) -> Check
-    ensures { λ r. ⌜ r ≡ decide Passed (headRows (now (state .entry))) ⌝ }
+    ensures { λ r. ⌜ r ≡ decide Passed (stateHeaderRows (now (state .entry))) ⌝ }
 {
     let invalid = ProtocolError::InvalidState;
     if state.len() < ACCOUNT_STATE_HEADER_LEN {
@@ -62,7 +62,7 @@ pub(crate) fn check_head(state: &[u8]) -> Check
 // The fields of a header that is present.
 pub(crate) fn header_at(state: &[u8]) -> StateHeader
     requires { ⌜ 32 ≤ length (now state) ⌝ }
-    ensures { λ r. ⌜ r ≡ headerOf (now (state .entry)) ⌝ }
+    ensures { λ r. ⌜ r ≡ stateHeaderOf (now (state .entry)) ⌝ }
 {
     let head = &state[0..ACCOUNT_STATE_HEADER_LEN];
     StateHeader {
@@ -79,7 +79,7 @@ pub(crate) fn header_at(state: &[u8]) -> StateHeader
 impl StateHeader {
     // The header, or 21 or 32.
     pub fn parse(state: &[u8]) -> StateHeaderAnswer
-        ensures { λ r. ⌜ r ≡ readHeader (now (state .entry)) ⌝ }
+        ensures { λ r. ⌜ r ≡ readStateHeader (now (state .entry)) ⌝ }
     {
         match check_head(state) {
             Check::Failed(error) => StateHeaderAnswer::Refused(error),

@@ -18,7 +18,7 @@ ghost use mathlib.Core.Path.{_≡_};
 ghost use Prim.Native.Nat.{_≤_};
 ghost use lib.ListN.{length};
 ghost use Rattle.protocol.specs.Rows.{decide};
-ghost use Rattle.account_state.specs.State.{headerOf, stateAnswer, readState};
+ghost use Rattle.account_state.specs.State.{stateHeaderOf, stateAnswer, readState};
 ghost use Rattle.account_state.specs.Walk.{endFault};
 pub use self::entry::AuthenticatorEntry;
 pub use self::entry::EntryCursor;
@@ -54,7 +54,7 @@ fn check_end(state: &[u8], walk: Walk) -> Check
 // The answer once every entry passed.
 fn state_end(state: &[u8], walk: Walk) -> StateAnswer
     requires { ⌜ 32 ≤ length (now state) ⌝ }
-    ensures { λ r. ⌜ r ≡ stateAnswer (endFault (now (state .entry)) walk) (headerOf (now (state .entry))) (walk .summary) ⌝ }
+    ensures { λ r. ⌜ r ≡ stateAnswer (endFault (now (state .entry)) walk) (stateHeaderOf (now (state .entry))) (walk .summary) ⌝ }
 {
     match check_end(state, walk) {
         Check::Failed(error) => StateAnswer::Refused(error),

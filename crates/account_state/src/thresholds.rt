@@ -5,10 +5,10 @@ use protocol::ProtocolError;
 ghost use mathlib.Core.Path.{_≡_};
 ghost use Rattle.protocol.specs.Rows.{decide};
 ghost use Rattle.protocol.specs.declared.check.Check.the-variants.{Passed};
-ghost use Rattle.account_state.specs.State.{recoveryRows, thresholdRows};
+ghost use Rattle.account_state.specs.State.{recoveryThresholdRows, thresholdRows};
 
 fn check_recovery(check: Check, flags: u8, threshold: u16, since: u64, weight: u32) -> Check
-    ensures { λ r. ⌜ r ≡ decide check (recoveryRows flags threshold since weight) ⌝ }
+    ensures { λ r. ⌜ r ≡ decide check (recoveryThresholdRows flags threshold since weight) ⌝ }
 {
     let unmet = ProtocolError::UnsatisfiableThreshold;
     let invalid = ProtocolError::InvalidState;

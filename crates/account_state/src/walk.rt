@@ -11,7 +11,7 @@ use protocol::ProtocolError;
 ghost use mathlib.Core.Path.{_≡_};
 ghost use Prim.Native.Nat.{_+_, _≤_, _<_};
 ghost use lib.ListN.{length, drop};
-ghost use Rattle.account_state.specs.Reading.{shareOf};
+ghost use Rattle.account_state.specs.Reading.{capableShare};
 ghost use Rattle.account_state.specs.Walk.{Light, withEntry, walkEntries};
 
 pub struct StateSummary {
@@ -32,7 +32,7 @@ pub(crate) enum WalkAnswer {
 
 // The weight that an entry adds to the capability of a bit; 0 is no bit.
 pub fn share(bit: u16, capabilities: u16, weight: u16) -> u32
-    ensures { λ r. ⌜ (r ≡ shareOf bit capabilities weight) × (r < 65536) ⌝ }
+    ensures { λ r. ⌜ (r ≡ capableShare bit capabilities weight) × (r < 65536) ⌝ }
 {
     if bit == 0 {
         return 0;

@@ -8,18 +8,18 @@ use borrow.Author.Tests.{leb-true, eqb-true}
 use lib.Dec.{leb}
 use lib.ListN.{length, getD, length-append}
 use Rattle.octets.specs.Le.{Bytes}
-use Rattle.octets.specs.Table.{numbers}
-use Rattle.protocol.specs.Rows.{Row, row, _▷_, decide, Hold}
+use Rattle.octets.specs.Layout.{layoutBytes}
+use Rattle.protocol.specs.Rows.{Row, row, _▷_, decide, AllPass}
 use Rattle.protocol.specs.Write.{writeFault, writeAnswer, afterWrite}
 use Rattle.protocol.specs.declared.check.WriteAnswer.the-variants.{Refused}
 use Rattle.protocol.specs.declared.error.ProtocolError.{ProtocolError}
 use Rattle.protocol.specs.declared.error.ProtocolError.the-variants.{BufferTooShort}
 use Rattle.protocol.specs.declared.check.Check.{Check}
 use Rattle.protocol.specs.declared.check.Check.the-variants.{Passed, Failed}
-use Rattle.protocol.proofs.Hold.{decide-append, decide-failed, hold-passed}
+use Rattle.protocol.proofs.AllPass.{decide-append, decide-failed, all-pass-passed}
 use Rattle.account_state.specs.Reading.{StateReading, StateTyped, stateHead, stateBytes}
 use Rattle.account_state.specs.State.{stateRows, stateFault}
-use Rattle.account_state_writer.specs.Writer.{entryCount, entriesFrom, neededBytes, stateTotal, sliceRows, encodeRows, stateFrom, validWritten, validStored, stateWritten, stateStored}
+use Rattle.account_state_writer.specs.Writer.{entryCount, entriesFrom, neededBytes, stateTotal, sliceRows, stateWriterRows, stateFrom, validWritten, validStored, stateWritten, stateStored}
 use Rattle.account_state_writer.proofs.Lent.{length-all, length-head, length-entries, entries-typed}
 use Rattle.account_state_writer.proofs.Checked.{state-checked}
 use Rattle.account_state_writer.specs.Checks.{stateChecks}
@@ -30,7 +30,7 @@ pub record Agreed (fields bytes : List ℕ) : Type 0 where
   pub count : entryCount fields ≤ 255
   pub total : 32 + 14 * entryCount fields + length bytes ≤ 16384
 
-pub agreed : (fields bytes : List ℕ) → Hold (sliceRows fields bytes) → Agreed fields bytes
+pub agreed : (fields bytes : List ℕ) → AllPass (sliceRows fields bytes) → Agreed fields bytes
 unfolding sliceRows stateTotal
 agreed fields bytes h =
     record { needed = eqb-true _ _ (h .1 .0); count = leb-true _ _ (h .1 .1 .0); total = leb-true _ _ (h .1 .1 .1 .0) }
@@ -70,16 +70,16 @@ module _ (flags sequence spend rotate recovery since : ℕ) (fields bytes : List
 
 -- a refusal of the slices is the writer's
 pub slices-failed : (r : StateReading) (fields bytes : List ℕ) (total room : ℕ) (e : ProtocolError) → decide Passed (sliceRows fields bytes) ≡ Failed e
-    → writeFault (encodeRows r fields bytes) total room ≡ Failed e
-unfolding writeFault encodeRows
+    → writeFault (stateWriterRows r fields bytes) total room ≡ Failed e
+unfolding writeFault stateWriterRows
 slices-failed r fields bytes total room e h =
     ap (decide Passed) (append-assoc (sliceRows fields bytes) (stateRows (stateBytes r)) _)
     ∙ (decide-append Passed (sliceRows fields bytes) _ ∙ rw h (decide-failed _ e))
 
 -- else the state decides
 pub slices-passed : (r : StateReading) (fields bytes : List ℕ) (total room : ℕ) → decide Passed (sliceRows fields bytes) ≡ Passed
-    → writeFault (encodeRows r fields bytes) total room ≡ writeFault (stateRows (stateBytes r)) total room
-unfolding writeFault encodeRows
+    → writeFault (stateWriterRows r fields bytes) total room ≡ writeFault (stateRows (stateBytes r)) total room
+unfolding writeFault stateWriterRows
 slices-passed r fields bytes total room h =
     ap (decide Passed) (append-assoc (sliceRows fields bytes) (stateRows (stateBytes r)) _)
     ∙ (decide-append Passed (sliceRows fields bytes) _ ∙ rw h)

@@ -10,16 +10,16 @@ use lib.Dec.{leb, eqb}
 use lib.ListN.{length, drop, length-append}
 use lib.Seq.{drop-at}
 use Rattle.octets.specs.Le.{numberAt}
-use Rattle.octets.specs.Table.{numbers, numbersAt, valueOf}
-use Rattle.octets.proofs.TableLaws.{length-numbers}
+use Rattle.octets.specs.Layout.{layoutBytes, layoutAt, fieldValue}
+use Rattle.octets.proofs.LayoutLaws.{length-numbers}
 use Rattle.protocol.specs.Rows.{row, _▷_, _then_, decide}
 use Rattle.protocol.specs.declared.error.ProtocolError.{ProtocolError}
 use Rattle.protocol.specs.declared.error.ProtocolError.the-variants.{InvalidState}
 use Rattle.protocol.specs.declared.check.Check.{Check}
 use Rattle.protocol.specs.declared.check.Check.the-variants.{Passed, Failed}
-use Rattle.protocol.proofs.Hold.{decide-append, decide-failed, decide-then, passed-hold}
-use Rattle.account_state.specs.Reading.{EntryReading, StateReading, EntryTyped, EntriesTyped, StateTyped, stateMagic, entryHead, entryLengths, entryBytes, entriesBytes, headNumbers, stateHead, stateBytes, lengthOf, slotOf, keyLengthOf, auxLengthOf, entryOf, weightOf}
-use Rattle.account_state.specs.State.{headRows, layoutRows, fieldRows, entryRows, entriesRows, behind, thresholdRows, endRows, tailRows, stateRows, stateFault}
+use Rattle.protocol.proofs.AllPass.{decide-append, decide-failed, decide-then, passed-all-pass}
+use Rattle.account_state.specs.Reading.{EntryReading, StateReading, EntryTyped, EntriesTyped, StateTyped, stateMagic, entryHeadFields, entryLengthFields, entryBytes, entriesBytes, stateHeaderFields, stateHead, stateBytes, entryLengthOf, entrySlotOf, keyLengthOf, auxLengthOf, entryOf, capableWeight}
+use Rattle.account_state.specs.State.{stateHeaderRows, entryLayoutRows, entryFieldRows, entryRows, entriesRows, behindEntries, thresholdRows, stateEndRows, stateTailRows, stateRows, stateFault}
 use Rattle.account_state.proofs.Inverse.{Keys}
 use Rattle.account_state.proofs.Unique.{lengths-read, size-read, entry-read, entries-read, head-numbers, behind-head}
 use Rattle.account_state_writer.specs.Checks.{headChecks, entryChecks, entriesChecks, stateChecks, lentWeight}
@@ -33,7 +33,7 @@ row-true Passed e = refl
 row-true (Failed x) e = refl
 
 -- what follows an entry at the front of bytes
-rest-read : (e : EntryReading) (t : List ℕ) → EntryTyped e → drop (lengthOf (entryBytes e ++ t)) (entryBytes e ++ t) ≡ t
+rest-read : (e : EntryReading) (t : List ℕ) → EntryTyped e → drop (entryLengthOf (entryBytes e ++ t)) (entryBytes e ++ t) ≡ t
 rest-read e t y = rw (size-read e t (entryBytes e ++ t) y refl) (drop-at (entryBytes e) t (length (entryBytes e)) refl)
 
 -- an entry at the front of bytes
@@ -42,27 +42,27 @@ module _ (e : EntryReading) (t : List ℕ) (y : EntryTyped e) (k : length (e .ke
   s = entryBytes e ++ t
 
   size : length (entryBytes e) ≡ 80 + length (e .aux)
-  unfolding entryBytes entryHead entryLengths
+  unfolding entryBytes entryHeadFields entryLengthFields
   size =
-      let n : length (numbers (entryHead e)) ≡ 12 = length-numbers (entryHead e) in
-      let m : length (numbers (entryLengths e)) ≡ 4 = length-numbers (entryLengths e) in
+      let n : length (layoutBytes (entryHeadFields e)) ≡ 12 = length-numbers (entryHeadFields e) in
+      let m : length (layoutBytes (entryLengthFields e)) ≡ 4 = length-numbers (entryLengthFields e) in
       simp length-append (omega (arith, n, m, y .codeHash, k))
 
-  slot-read : slotOf s ≡ e .slot
+  slot-read : entrySlotOf s ≡ e .slot
   unfolding entryOf
   slot-read = ap (λ (x : EntryReading). x .slot) (entry-read e t s y refl)
 
   entry-checked : (c : Check) (least : ℕ) → decide c (entryRows s least) ≡ decide c (entryChecks e least)
-  unfolding entryRows layoutRows fieldRows entryChecks entryOf entryLengths numbersAt decide
+  unfolding entryRows entryLayoutRows entryFieldRows entryChecks entryOf entryLengthFields layoutAt decide
   entry-checked c least =
       let r = entry-read e t s y refl in
-      let m : keyLengthOf s ≡ 32 = ap (valueOf 0) (lengths-read e t s y refl) ∙ k in
-      let a : auxLengthOf s ≡ length (e .aux) = ap (valueOf 1) (lengths-read e t s y refl) in
-      let z : lengthOf s ≡ 80 + length (e .aux) = size-read e t s y refl ∙ size in
+      let m : keyLengthOf s ≡ 32 = ap (fieldValue 0) (lengths-read e t s y refl) ∙ k in
+      let a : auxLengthOf s ≡ length (e .aux) = ap (fieldValue 1) (lengths-read e t s y refl) in
+      let z : entryLengthOf s ≡ 80 + length (e .aux) = size-read e t s y refl ∙ size in
       let l : length s ≡ 80 + length (e .aux) + length t = length-append (entryBytes e) t ∙ ap (λ (n : ℕ). n + length t) size in
       let e₁ : leb 48 (length s) ≡ true = le-leb 48 (length s) (omega arith) in
-      let e₂ : eqb (lengthOf s) (48 + keyLengthOf s + auxLengthOf s) ≡ true = eq-eqb (lengthOf s) (48 + keyLengthOf s + auxLengthOf s) (omega arith) in
-      let e₃ : leb (lengthOf s) (length s) ≡ true = le-leb (lengthOf s) (length s) (omega arith) in
+      let e₂ : eqb (entryLengthOf s) (48 + keyLengthOf s + auxLengthOf s) ≡ true = eq-eqb (entryLengthOf s) (48 + keyLengthOf s + auxLengthOf s) (omega arith) in
+      let e₃ : leb (entryLengthOf s) (length s) ≡ true = le-leb (entryLengthOf s) (length s) (omega arith) in
       let e₄ : eqb (keyLengthOf s) 32 ≡ true = eq-eqb (keyLengthOf s) 32 m in
       let f₁ : numberAt s 4 2 ≡ e .algorithm = ap (λ (x : EntryReading). x .algorithm) r in
       let f₂ : numberAt s 6 2 ≡ e .capabilities = ap (λ (x : EntryReading). x .capabilities) r in
@@ -83,10 +83,10 @@ entries-checked (e ∷ es) y k c least =
     ∙ (rw (rest-read e t (y .0), slot-read e t (y .0) (k .0), entry-checked e t (y .0) (k .0) c least) (entries-checked es (y .1) (k .1) _ (e .slot + 1))
     ∙ sym (decide-append c (entryChecks e least) _))
 
-entries-behind : (es : List EntryReading) → EntriesTyped es → behind (length es) (entriesBytes es) ≡ []
-unfolding behind entriesBytes
+entries-behind : (es : List EntryReading) → EntriesTyped es → behindEntries (length es) (entriesBytes es) ≡ []
+unfolding behindEntries entriesBytes
 entries-behind [] y = refl
-entries-behind (e ∷ es) y = ap (behind (length es)) (rest-read e (entriesBytes es) (y .0)) ∙ entries-behind es (y .1)
+entries-behind (e ∷ es) y = ap (behindEntries (length es)) (rest-read e (entriesBytes es) (y .0)) ∙ entries-behind es (y .1)
 
 -- a state
 module _ (r : StateReading) (y : StateTyped r) (k : Keys (r .entries)) (h : length (stateBytes r) ≤ 16384) where
@@ -97,47 +97,47 @@ module _ (r : StateReading) (y : StateTyped r) (k : Keys (r .entries)) (h : leng
   n = length (r .entries)
 
   flags-read : numberAt b 5 1 ≡ r .flags
-  unfolding stateHead headNumbers numbersAt
-  flags-read = ap (valueOf 2) (head-numbers r y)
+  unfolding stateHead stateHeaderFields layoutAt
+  flags-read = ap (fieldValue 2) (head-numbers r y)
 
   count-read : numberAt b 22 1 ≡ n
-  unfolding stateHead headNumbers numbersAt
-  count-read = ap (valueOf 8) (head-numbers r y)
+  unfolding stateHead stateHeaderFields layoutAt
+  count-read = ap (fieldValue 8) (head-numbers r y)
 
   present : 32 ≤ length b
-  unfolding stateBytes stateHead headNumbers
+  unfolding stateBytes stateHead stateHeaderFields
   present =
-      let m : length (numbers (stateHead r)) ≡ 32 = length-numbers (stateHead r) in
+      let m : length (layoutBytes (stateHead r)) ≡ 32 = length-numbers (stateHead r) in
       rw (length-append, m) (omega arith)
 
-  head-checked : decide Passed (headRows b) ≡ decide Passed (headChecks (r .flags) n)
-  unfolding headRows headChecks stateHead headNumbers numbersAt decide
+  head-checked : decide Passed (stateHeaderRows b) ≡ decide Passed (headChecks (r .flags) n)
+  unfolding stateHeaderRows headChecks stateHead stateHeaderFields layoutAt decide
   head-checked =
       let m = head-numbers r y in
       let e₁ : leb 32 (length b) ≡ true = le-leb 32 (length b) present in
       let e₂ : leb (length b) 16384 ≡ true = le-leb (length b) 16384 h in
-      let e₃ : eqb (numberAt b 0 4) stateMagic ≡ true = eq-eqb (numberAt b 0 4) stateMagic (ap (valueOf 0) m) in
-      let e₄ : eqb (numberAt b 4 1) 1 ≡ true = eq-eqb (numberAt b 4 1) 1 (ap (valueOf 1) m) in
-      let e₅ : eqb (numberAt b 6 2) 32 ≡ true = eq-eqb (numberAt b 6 2) 32 (ap (valueOf 3) m) in
-      let e₆ : eqb (numberAt b 23 1) 0 ≡ true = eq-eqb (numberAt b 23 1) 0 (ap (valueOf 9) m) in
+      let e₃ : eqb (numberAt b 0 4) stateMagic ≡ true = eq-eqb (numberAt b 0 4) stateMagic (ap (fieldValue 0) m) in
+      let e₄ : eqb (numberAt b 4 1) 1 ≡ true = eq-eqb (numberAt b 4 1) 1 (ap (fieldValue 1) m) in
+      let e₅ : eqb (numberAt b 6 2) 32 ≡ true = eq-eqb (numberAt b 6 2) 32 (ap (fieldValue 3) m) in
+      let e₆ : eqb (numberAt b 23 1) 0 ≡ true = eq-eqb (numberAt b 23 1) 0 (ap (fieldValue 9) m) in
       rw (e₁, e₂, e₃, e₄, e₅, e₆, flags-read, count-read) (simp row-true)
 
-  end-checked : (c : Check) → decide c (tailRows b n (entriesBytes (r .entries)))
-      ≡ decide c (thresholdRows (r .flags) (r .spend) (r .rotate) (r .recovery) (r .since) (weightOf 1 (r .entries)) (weightOf 2 (r .entries)) (weightOf 4 (r .entries)))
-  unfolding tailRows endRows stateHead headNumbers numbersAt decide
+  end-checked : (c : Check) → decide c (stateTailRows b n (entriesBytes (r .entries)))
+      ≡ decide c (thresholdRows (r .flags) (r .spend) (r .rotate) (r .recovery) (r .since) (capableWeight 1 (r .entries)) (capableWeight 2 (r .entries)) (capableWeight 4 (r .entries)))
+  unfolding stateTailRows stateEndRows stateHead stateHeaderFields layoutAt decide
   end-checked c =
       let m = head-numbers r y in
-      let f₁ : numberAt b 16 2 ≡ r .spend = ap (valueOf 5) m in
-      let f₂ : numberAt b 18 2 ≡ r .rotate = ap (valueOf 6) m in
-      let f₃ : numberAt b 20 2 ≡ r .recovery = ap (valueOf 7) m in
-      let f₄ : numberAt b 24 8 ≡ r .since = ap (valueOf 10) m in
+      let f₁ : numberAt b 16 2 ≡ r .spend = ap (fieldValue 5) m in
+      let f₂ : numberAt b 18 2 ≡ r .rotate = ap (fieldValue 6) m in
+      let f₃ : numberAt b 20 2 ≡ r .recovery = ap (fieldValue 7) m in
+      let f₄ : numberAt b 24 8 ≡ r .since = ap (fieldValue 10) m in
       rw (entries-behind (r .entries) (y .entries), entries-read (r .entries) (y .entries), flags-read, f₁, f₂, f₃, f₄)
-      (ap (λ (x : Check). decide x (thresholdRows (r .flags) (r .spend) (r .rotate) (r .recovery) (r .since) (weightOf 1 (r .entries)) (weightOf 2 (r .entries)) (weightOf 4 (r .entries)))) (row-true c InvalidState))
+      (ap (λ (x : Check). decide x (thresholdRows (r .flags) (r .spend) (r .rotate) (r .recovery) (r .since) (capableWeight 1 (r .entries)) (capableWeight 2 (r .entries)) (capableWeight 4 (r .entries)))) (row-true c InvalidState))
 
   pub state-checked : stateFault b ≡ decide Passed (stateChecks (r .flags) (r .spend) (r .rotate) (r .recovery) (r .since) (r .entries))
   unfolding stateFault stateRows stateChecks
   state-checked =
-      decide-append Passed (headRows b) _
+      decide-append Passed (stateHeaderRows b) _
       ∙ (rw (head-checked, count-read, behind-head r)
       (decide-append (decide Passed (headChecks (r .flags) n)) (entriesRows n (entriesBytes (r .entries)) 0) _
       ∙ (rw (entries-checked (r .entries) (y .entries) k (decide Passed (headChecks (r .flags) n)) 0) (end-checked _)
@@ -147,7 +147,7 @@ module _ (r : StateReading) (y : StateTyped r) (k : Keys (r .entries)) (h : leng
 -- the checks, part by part
 pub head-limit : (flags count : ℕ) → decide Passed (headChecks flags count) ≡ Passed → count ≤ 16
 unfolding headChecks
-head-limit flags count h = leb-true count 16 (passed-hold _ h .1 .1 .0)
+head-limit flags count h = leb-true count 16 (passed-all-pass _ h .1 .1 .0)
 
 module _ (flags spend rotate recovery since count : ℕ) (fields bytes : List ℕ) where
   abbrev es : List EntryReading

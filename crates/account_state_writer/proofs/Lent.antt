@@ -11,21 +11,21 @@ use lib.Dec.{eqb}
 use lib.ListN.{length, take, drop, getD, length-append, length-drop}
 use lib.Seq.{drop-drop, getD-drop, sets, take-all}
 use Rattle.octets.specs.Le.{numberAt, toLe, Bytes}
-use Rattle.octets.specs.Table.{Number, numbers}
-use Rattle.octets.proofs.TableLaws.{number-back, storeNumbers, numbers-stored, length-numbers}
+use Rattle.octets.specs.Layout.{Field, layoutBytes}
+use Rattle.octets.proofs.LayoutLaws.{number-back, storeNumbers, numbers-stored, length-numbers}
 use Rattle.octets.proofs.LeLaws.{length-to, bytes-drop, number-lt}
 use Rattle.octets.proofs.Parts.{join, part-length}
 use Rattle.octets.proofs.Stores.{sets-append, sets-lent}
 use borrow.Rule.Slice.PartMut.{midOf, putMid}
-use Rattle.account_state.specs.Reading.{EntryReading, EntryTyped, EntriesTyped, entrySize, entryHead, entryLengths, entryBytes, entriesBytes, headNumbers, shareOf, weightOf}
+use Rattle.account_state.specs.Reading.{EntryReading, EntryTyped, EntriesTyped, entrySize, entryHeadFields, entryLengthFields, entryBytes, entriesBytes, stateHeaderFields, capableShare, capableWeight}
 use Rattle.account_state.proofs.Inverse.{Keys}
-use Rattle.account_state_writer.specs.Writer.{auxOf, entryFrom, fieldNumbers, lengthNumbers, entryFront, entriesFrom, neededBytes}
+use Rattle.account_state_writer.specs.Writer.{auxOf, entryFrom, entryFieldNumbers, lengthNumbers, entryFront, entriesFrom, neededBytes}
 use Rattle.account_state_writer.specs.Checks.{entryChecks, entriesChecks, lentWeight}
 use Rattle.protocol.specs.Rows.{decide}
 use Rattle.protocol.specs.declared.error.ProtocolError.{ProtocolError}
 use Rattle.protocol.specs.declared.check.Check.{Check}
 use Rattle.protocol.specs.declared.check.Check.the-variants.{Passed, Failed}
-use Rattle.protocol.proofs.Hold.{decide-append, decide-failed}
+use Rattle.protocol.proofs.AllPass.{decide-append, decide-failed}
 
 -- a test of equality, by what decides it
 eqb-by : (a b c d : ℕ) (t : Bool) → eqb a b ≡ t → (a ≡ b → c ≡ d) → ((a ≡ b → ⊥) → c ≡ d → ⊥) → t ≡ eqb c d
@@ -63,7 +63,7 @@ module _ (fields : List ℕ) (count i : ℕ) (h : i < count) where
   entries-turn bytes from = rw (one, behind, aux-at, drop-drop (66 + getD fields (5 * i + 4) 0) from bytes)
 
   pub weight-turn : (bit : ℕ) → lentWeight bit (count - i) (drop (5 * i) fields)
-      ≡ shareOf bit (getD fields (5 * i + 2) 0) (getD fields (5 * i + 3) 0) + lentWeight bit (count - (i + 1)) (drop (5 * (i + 1)) fields)
+      ≡ capableShare bit (getD fields (5 * i + 2) 0) (getD fields (5 * i + 3) 0) + lentWeight bit (count - (i + 1)) (drop (5 * (i + 1)) fields)
   unfolding lentWeight
   weight-turn bit = rw (one, behind, getD-drop (5 * i) fields 2 0, getD-drop (5 * i) fields 3 0)
 
@@ -87,19 +87,19 @@ unfolding lentWeight
 weight-none bit n fields e = rw e
 
 -- the weights of the entries do not depend on their bytes
-pub weight-lent : (bit n : ℕ) (fields bytes : List ℕ) → weightOf bit (entriesFrom n fields bytes) ≡ lentWeight bit n fields
-unfolding weightOf entriesFrom entryFrom lentWeight
+pub weight-lent : (bit n : ℕ) (fields bytes : List ℕ) → capableWeight bit (entriesFrom n fields bytes) ≡ lentWeight bit n fields
+unfolding capableWeight entriesFrom entryFrom lentWeight
 weight-lent bit zero fields bytes = refl
 weight-lent bit (suc n) fields bytes =
-    ap (λ (m : ℕ). shareOf bit (getD fields 2 0) (getD fields 3 0) + m) (weight-lent bit n (drop 5 fields) (drop (66 + auxOf fields) bytes))
+    ap (λ (m : ℕ). capableShare bit (getD fields 2 0) (getD fields 3 0) + m) (weight-lent bit n (drop 5 fields) (drop (66 + auxOf fields) bytes))
 
 pub entries-none : (n : ℕ) (fields bytes : List ℕ) → n ≡ 0 → entriesBytes (entriesFrom n fields bytes) ≡ []
 unfolding entriesFrom entriesBytes
 entries-none n fields bytes e = rw e
 
-length-fields : (fields : List ℕ) → length (numbers (fieldNumbers fields)) ≡ 10
-unfolding fieldNumbers
-length-fields fields = length-numbers (fieldNumbers fields)
+length-fields : (fields : List ℕ) → length (layoutBytes (entryFieldNumbers fields)) ≡ 10
+unfolding entryFieldNumbers
+length-fields fields = length-numbers (entryFieldNumbers fields)
 
 -- a verifier's 34 bytes, stored as numbers
 pub verifier-stored : (v l : List ℕ) → Bytes v → length v ≡ 34
@@ -130,10 +130,10 @@ length-front fields verifier h =
     rw (length-append, length-fields fields, length-append, h, length-numbers (lengthNumbers fields))
 
 pub front-stored : (fields verifier l : List ℕ) → length verifier ≡ 34
-    → sets (sets (sets (sets l 0 (numbers (fieldNumbers fields))) 10 verifier) 44 (toLe 2 32)) 46 (toLe 2 (auxOf fields)) ≡ sets l 0 (entryFront fields verifier)
-unfolding entryFront lengthNumbers numbers
+    → sets (sets (sets (sets l 0 (layoutBytes (entryFieldNumbers fields))) 10 verifier) 44 (toLe 2 32)) 46 (toLe 2 (auxOf fields)) ≡ sets l 0 (entryFront fields verifier)
+unfolding entryFront lengthNumbers layoutBytes
 front-stored fields verifier l h =
-    let f = numbers (fieldNumbers fields) in
+    let f = layoutBytes (entryFieldNumbers fields) in
     rw (
       sets-append (sets (sets l 0 f) 10 verifier) 44 (toLe 2 32) (toLe 2 (auxOf fields)) 46 (rw (length-to 2 32)),
       sets-append (sets l 0 f) 10 verifier (toLe 2 32 ++ toLe 2 (auxOf fields)) 44 (rw h),
@@ -146,8 +146,8 @@ module _ (fields bytes : List ℕ) (b : Bytes bytes) (h : 66 + auxOf fields ≤ 
   abbrev a : ℕ
   a = auxOf fields
 
-  pub entry-form : entryBytes (entryFrom fields bytes) ≡ numbers (fieldNumbers fields) ++ (take 34 bytes ++ (numbers (lengthNumbers fields) ++ take (32 + a) (drop 34 bytes)))
-  unfolding entryBytes entryFrom entryHead entryLengths fieldNumbers lengthNumbers numbers
+  pub entry-form : entryBytes (entryFrom fields bytes) ≡ layoutBytes (entryFieldNumbers fields) ++ (take 34 bytes ++ (layoutBytes (lengthNumbers fields) ++ take (32 + a) (drop 34 bytes)))
+  unfolding entryBytes entryFrom entryHeadFields entryLengthFields entryFieldNumbers lengthNumbers layoutBytes
   entry-form =
       rw (
         part-length bytes 34 32 (omega arith),
@@ -238,9 +238,9 @@ length-all (suc n) fields bytes b h =
     let r = length-all n (drop 5 fields) g (bytes-drop (66 + auxOf fields) bytes b) (omega arith) in
     rw (length-append, e, r) (omega arith)
 
-pub length-head : (flags sequence spend rotate recovery count since : ℕ) → length (numbers (headNumbers flags sequence spend rotate recovery count since)) ≡ 32
-unfolding headNumbers
-length-head flags sequence spend rotate recovery count since = length-numbers (headNumbers flags sequence spend rotate recovery count since)
+pub length-head : (flags sequence spend rotate recovery count since : ℕ) → length (layoutBytes (stateHeaderFields flags sequence spend rotate recovery count since)) ≡ 32
+unfolding stateHeaderFields
+length-head flags sequence spend rotate recovery count since = length-numbers (stateHeaderFields flags sequence spend rotate recovery count since)
 
 -- a turn of the loop that checks the entries
 module _ (fields bytes : List ℕ) (count i from least : ℕ) (h : i < count) (whole : Check) (left : decide Passed (entriesChecks (entriesFrom (count - i) (drop (5 * i) fields) (drop from bytes)) least) ≡ whole) where

@@ -8,7 +8,7 @@ use lib.ListN.{length, drop, getD}
 use Rattle.protocol.specs.Policy.{isSupportedAlgorithm}
 use Rattle.protocol.specs.Rows.{Row, row}
 use Rattle.protocol.specs.declared.error.ProtocolError.the-variants.{InvalidState, InvalidVerifierRef, UnsupportedAlgorithm}
-use Rattle.account_state.specs.Reading.{EntryReading, shareOf, weightOf}
+use Rattle.account_state.specs.Reading.{EntryReading, capableShare, capableWeight}
 use Rattle.account_state.specs.State.{thresholdRows}
 
 unfoldable pub headChecks : ℕ → ℕ → List Row
@@ -33,9 +33,9 @@ entriesChecks (e ∷ es) least = entryChecks e least ++ entriesChecks es (e .slo
 unfoldable pub stateChecks : ℕ → ℕ → ℕ → ℕ → ℕ → List EntryReading → List Row
 stateChecks flags spend rotate recovery since es =
     headChecks flags (length es)
-    ++ (entriesChecks es 0 ++ thresholdRows flags spend rotate recovery since (weightOf 1 es) (weightOf 2 es) (weightOf 4 es))
+    ++ (entriesChecks es 0 ++ thresholdRows flags spend rotate recovery since (capableWeight 1 es) (capableWeight 2 es) (capableWeight 4 es))
 
 -- the weight of n entries that have a capability
 unfoldable pub lentWeight : ℕ → ℕ → List ℕ → ℕ
 lentWeight bit zero fields = 0
-lentWeight bit (suc n) fields = shareOf bit (getD fields 2 0) (getD fields 3 0) + lentWeight bit n (drop 5 fields)
+lentWeight bit (suc n) fields = capableShare bit (getD fields 2 0) (getD fields 3 0) + lentWeight bit n (drop 5 fields)

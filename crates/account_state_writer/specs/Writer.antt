@@ -6,7 +6,7 @@ use mathlib.Core.List.{List, [], _∷_, _++_}
 use lib.Dec.{leb, eqb}
 use lib.ListN.{length, take, drop, getD}
 use Rattle.octets.specs.Le.{numberAt, Bytes}
-use Rattle.octets.specs.Table.{Number, numbers}
+use Rattle.octets.specs.Layout.{Field, layoutBytes}
 use Rattle.protocol.specs.Rows.{Row, row}
 use Rattle.protocol.specs.Write.{writeFault, writeAnswer, afterWrite}
 use Rattle.protocol.specs.declared.error.ProtocolError.the-variants.{InvalidState, SlicesDisagree}
@@ -33,8 +33,8 @@ entryFrom fields bytes =
     }
 
 -- the first five numbers of an entry's layout, whose key has 32 bytes
-unfoldable pub fieldNumbers : List ℕ → List Number
-fieldNumbers fields =
+unfoldable pub entryFieldNumbers : List ℕ → List Field
+entryFieldNumbers fields =
     record { width = 2; value = 80 + auxOf fields }
     ∷ record { width = 2; value = getD fields 0 0 }
     ∷ record { width = 2; value = getD fields 1 0 }
@@ -43,11 +43,11 @@ fieldNumbers fields =
     ∷ []
 
 -- the 48 bytes before an entry's key: these numbers, the bytes of its verifier, and the lengths of key and aux
-unfoldable pub lengthNumbers : List ℕ → List Number
+unfoldable pub lengthNumbers : List ℕ → List Field
 lengthNumbers fields = record { width = 2; value = 32 } ∷ record { width = 2; value = auxOf fields } ∷ []
 
 unfoldable pub entryFront : List ℕ → List ℕ → List ℕ
-entryFront fields verifier = numbers (fieldNumbers fields) ++ (verifier ++ numbers (lengthNumbers fields))
+entryFront fields verifier = layoutBytes (entryFieldNumbers fields) ++ (verifier ++ layoutBytes (lengthNumbers fields))
 
 unfoldable pub entriesFrom : ℕ → List ℕ → List ℕ → List EntryReading
 entriesFrom zero fields bytes = []
@@ -76,8 +76,8 @@ sliceRows fields bytes =
     ∷ []
 
 -- the Rust validates the state that it wrote
-unfoldable pub encodeRows : StateReading → List ℕ → List ℕ → List Row
-encodeRows r fields bytes = sliceRows fields bytes ++ stateRows (stateBytes r)
+unfoldable pub stateWriterRows : StateReading → List ℕ → List ℕ → List Row
+stateWriterRows r fields bytes = sliceRows fields bytes ++ stateRows (stateBytes r)
 
 unfoldable pub stateFrom : ℕ → ℕ → ℕ → ℕ → ℕ → ℕ → List ℕ → List ℕ → StateReading
 stateFrom flags sequence spend rotate recovery since fields bytes =
@@ -101,20 +101,20 @@ validStored s out = afterWrite (writeFault (stateRows s) (length s) (length out)
 -- what the writer answers and leaves
 unfoldable pub stateWritten : StateReading → List ℕ → List ℕ → List ℕ → WriteAnswer
 stateWritten r fields bytes out =
-    writeAnswer (writeFault (encodeRows r fields bytes) (stateTotal fields bytes) (length out)) (stateTotal fields bytes)
+    writeAnswer (writeFault (stateWriterRows r fields bytes) (stateTotal fields bytes) (length out)) (stateTotal fields bytes)
 
 unfoldable pub stateStored : StateReading → List ℕ → List ℕ → List ℕ → List ℕ
 stateStored r fields bytes out =
-    afterWrite (writeFault (encodeRows r fields bytes) (stateTotal fields bytes) (length out)) (stateBytes r) out
+    afterWrite (writeFault (stateWriterRows r fields bytes) (stateTotal fields bytes) (length out)) (stateBytes r) out
 
 -- the slices that say a list of entries
-unfoldable pub fieldsOf : List EntryReading → List ℕ
-fieldsOf [] = []
-fieldsOf (e ∷ es) = e .slot ∷ e .algorithm ∷ e .capabilities ∷ e .weight ∷ length (e .aux) ∷ fieldsOf es
+unfoldable pub entriesFields : List EntryReading → List ℕ
+entriesFields [] = []
+entriesFields (e ∷ es) = e .slot ∷ e .algorithm ∷ e .capabilities ∷ e .weight ∷ length (e .aux) ∷ entriesFields es
 
-unfoldable pub bytesOf : List EntryReading → List ℕ
-bytesOf [] = []
-bytesOf (e ∷ es) = (e .hashType ∷ e .abi ∷ []) ++ (e .codeHash ++ (e .key ++ (e .aux ++ bytesOf es)))
+unfoldable pub entriesPayload : List EntryReading → List ℕ
+entriesPayload [] = []
+entriesPayload (e ∷ es) = (e .hashType ∷ e .abi ∷ []) ++ (e .codeHash ++ (e .key ++ (e .aux ++ entriesPayload es)))
 
 -- what a reading lends the writer are values of the types of its parameters: u8, u64, u16, and slices of u16 and of bytes whose
 -- lengths a usize holds
@@ -125,6 +125,6 @@ pub record StateFits (r : StateReading) : Type 0 where
   pub rotate : r .rotate < 2 ^ 16
   pub recovery : r .recovery < 2 ^ 16
   pub since : r .since < 2 ^ 64
-  pub fields : (i : ℕ) → getD (fieldsOf (r .entries)) i 0 < 2 ^ 16
-  pub bytes : Bytes (bytesOf (r .entries))
-  pub lengths : (length (fieldsOf (r .entries)) < 2 ^ 64) × (length (bytesOf (r .entries)) < 2 ^ 64)
+  pub fields : (i : ℕ) → getD (entriesFields (r .entries)) i 0 < 2 ^ 16
+  pub bytes : Bytes (entriesPayload (r .entries))
+  pub lengths : (length (entriesFields (r .entries)) < 2 ^ 64) × (length (entriesPayload (r .entries)) < 2 ^ 64)

@@ -9,9 +9,9 @@ ghost use mathlib.Core.Path.{_≡_};
 ghost use Prim.Native.Nat.{_+_, _*_, _≤_};
 ghost use lib.ListN.{length};
 ghost use lib.Seq.{sets};
-ghost use Rattle.octets.specs.Table.{numbers};
-ghost use Rattle.account_state.specs.Reading.{headNumbers, stateBytes, entryBytes, entriesBytes};
-ghost use Rattle.account_state_writer.specs.Writer.{auxOf, fieldNumbers, entryFront, entryFrom, entriesFrom, neededBytes, entryCount, stateFrom};
+ghost use Rattle.octets.specs.Layout.{layoutBytes};
+ghost use Rattle.account_state.specs.Reading.{stateHeaderFields, stateBytes, entryBytes, entriesBytes};
+ghost use Rattle.account_state_writer.specs.Writer.{auxOf, entryFieldNumbers, entryFront, entryFrom, entriesFrom, neededBytes, entryCount, stateFrom};
 
 fn store_head(
     out: &mut [u8],
@@ -23,7 +23,7 @@ fn store_head(
     count: u8,
     since: u64,
 )
-    ensures { λ _. ⌜ now (out .exit) ≡ sets (now (out .entry)) 0 (numbers (headNumbers flags sequence spend rotate recovery count since)) ⌝ }
+    ensures { λ _. ⌜ now (out .exit) ≡ sets (now (out .entry)) 0 (layoutBytes (stateHeaderFields flags sequence spend rotate recovery count since)) ⌝ }
 {
     store_number(out, 0, 4, ACCOUNT_STATE_MAGIC as u64);
     store_number(out, 4, 1, 1);
@@ -41,7 +41,7 @@ fn store_head(
 // The first five numbers of an entry, from its five fields.
 fn store_fields(front: &mut [u8], fields: &[u16])
     requires { ⌜ 5 ≤ length (now fields) ⌝ }
-    ensures { λ _. ⌜ now (front .exit) ≡ sets (now (front .entry)) 0 (numbers (fieldNumbers (now (fields .entry)))) ⌝ }
+    ensures { λ _. ⌜ now (front .exit) ≡ sets (now (front .entry)) 0 (layoutBytes (entryFieldNumbers (now (fields .entry)))) ⌝ }
 {
     store_number(front, 0, 2, 80 + fields[4] as u64);
     store_number(front, 2, 2, fields[0] as u64);

@@ -11,7 +11,7 @@ use protocol::Check;
 use protocol::ProtocolError;
 use protocol::WriteAnswer;
 ghost use mathlib.Core.Path.{_≡_};
-ghost use Rattle.protocol.specs.Rows.{Hold};
+ghost use Rattle.protocol.specs.Rows.{AllPass};
 ghost use Rattle.account_state.specs.Reading.{stateBytes};
 ghost use Rattle.account_state_writer.specs.Writer.{stateFrom, sliceRows, validWritten, validStored, stateWritten, stateStored};
 
@@ -27,7 +27,7 @@ fn encode_agreed(
     bytes: &[u8],
     out: &mut [u8],
 ) -> WriteAnswer
-    requires { ⌜ Hold (sliceRows (now fields) (now bytes)) ⌝ }
+    requires { ⌜ AllPass (sliceRows (now fields) (now bytes)) ⌝ }
     ensures { λ r. ⌜ r ≡ validWritten (stateBytes (stateFrom flags sequence spend rotate recovery since (now (fields .entry)) (now (bytes .entry)))) (now (out .entry)) ⌝ }
     ensures { λ _. ⌜ now (out .exit) ≡ validStored (stateBytes (stateFrom flags sequence spend rotate recovery since (now (fields .entry)) (now (bytes .entry)))) (now (out .entry)) ⌝ }
 {

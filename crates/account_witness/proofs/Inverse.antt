@@ -11,17 +11,17 @@ use lib.ListN.{length, take, drop}
 use lib.Seq.{take-add, take-all}
 use Rattle.octets.specs.Le.{numberAt, Bytes}
 use Rattle.octets.specs.Lists.{joined}
-use Rattle.octets.specs.Table.{numbers, numbersAt}
+use Rattle.octets.specs.Layout.{layoutBytes, layoutAt}
 use Rattle.octets.proofs.LeLaws.{number-lt}
-use Rattle.octets.proofs.TableLaws.{table-back}
+use Rattle.octets.proofs.LayoutLaws.{table-back}
 use Rattle.octets.proofs.Parts.{part-length, join}
 use Rattle.protocol.specs.Policy.{isOperation}
-use Rattle.protocol.specs.Rows.{Hold}
-use Rattle.protocol.proofs.Hold.{hold-split}
-use Rattle.account_witness.specs.Header.{witnessMagic, headerRows, headerTable}
-use Rattle.account_witness.specs.Walk.{proofRows, proofAt, proofsRows}
+use Rattle.protocol.specs.Rows.{AllPass}
+use Rattle.protocol.proofs.AllPass.{all-pass-split}
+use Rattle.account_witness.specs.Header.{witnessMagic, witnessHeaderRows, witnessHeaderFields}
+use Rattle.account_witness.specs.Walk.{proofLayoutRows, proofAt, proofsLayoutRows}
 use Rattle.account_witness.specs.Witness.{witnessRows}
-use Rattle.account_witness.specs.Reading.{proofTable, proofBytes, proofsBytes, witnessBytes, proofReading, proofReadings, witnessReading, ProofTyped, ProofsTyped, WitnessTyped}
+use Rattle.account_witness.specs.Reading.{proofFields, proofBytes, proofsBytes, witnessBytes, proofReading, proofReadings, witnessReading, ProofTyped, ProofsTyped, WitnessTyped}
 use Rattle.account_witness.proofs.WalkLaws.{ProofHolds, proof-holds}
 
 -- what the rows of a witness lock say
@@ -33,10 +33,10 @@ pub record WitnessHolds (s : List ℕ) : Type 0 where
   pub operation : isOperation (numberAt s 5 1) ≡ true
   pub zeros : numberAt s 7 1 ≡ 0
   pub count : numberAt s 6 1 ≤ 16
-  pub proofs : Hold (proofsRows s (numberAt s 6 1) 16 0)
+  pub proofs : AllPass (proofsLayoutRows s (numberAt s 6 1) 16 0)
 
-pub witness-holds : (s : List ℕ) → Hold (witnessRows s) → WitnessHolds s
-unfolding witnessRows headerRows
+pub witness-holds : (s : List ℕ) → AllPass (witnessRows s) → WitnessHolds s
+unfolding witnessRows witnessHeaderRows
 witness-holds s h =
     record {
       present = leb-true _ _ (h .0);
@@ -50,13 +50,13 @@ witness-holds s h =
     }
 
 -- the rows of one proof, and of those behind it
-pub proofs-split : (s : List ℕ) (n off least : ℕ) → Hold (proofsRows s (suc n) off least)
-    → ProofHolds s off least × Hold (proofsRows s n (off + 8 + numberAt s (off + 4) 4) (numberAt s off 2 + 1))
-unfolding proofsRows
-proofs-split s n off least h = let z = hold-split (proofRows s off least) _ h in (proof-holds s off least (z .0), z .1)
+pub proofs-split : (s : List ℕ) (n off least : ℕ) → AllPass (proofsLayoutRows s (suc n) off least)
+    → ProofHolds s off least × AllPass (proofsLayoutRows s n (off + 8 + numberAt s (off + 4) 4) (numberAt s off 2 + 1))
+unfolding proofsLayoutRows
+proofs-split s n off least h = let z = all-pass-split (proofLayoutRows s off least) _ h in (proof-holds s off least (z .0), z .1)
 
-pub proofs-end : (s : List ℕ) (off least : ℕ) → Hold (proofsRows s 0 off least) → off ≡ length s
-unfolding proofsRows
+pub proofs-end : (s : List ℕ) (off least : ℕ) → AllPass (proofsLayoutRows s 0 off least) → off ≡ length s
+unfolding proofsLayoutRows
 proofs-end s off least h = eqb-true _ _ (h .0)
 
 pub length-readings : (s : List ℕ) (n off : ℕ) → length (proofReadings s n off) ≡ n
@@ -68,7 +68,7 @@ module _ (s : List ℕ) (b : Bytes s) where
   -- a proof is written back
   proof-back : (off least : ℕ) → ProofHolds s off least
       → proofBytes (proofReading s (proofAt s off)) ≡ take (8 + numberAt s (off + 4) 4) (drop off s)
-  unfolding proofBytes proofTable proofReading proofAt numbersAt
+  unfolding proofBytes proofFields proofReading proofAt layoutAt
   proof-back off least z =
       let n = numberAt s (off + 4) 4 in
       let i = z .inside in
@@ -81,7 +81,7 @@ module _ (s : List ℕ) (b : Bytes s) where
       record { slot = number-lt s off 2 b; len = rw (part-length s (off + 8) (numberAt s (off + 4) 4) (z .inside)) (number-lt s (off + 4) 4 b) }
 
   -- n proofs are, to the end
-  proofs-back : (n off least : ℕ) → Hold (proofsRows s n off least) → take off s ++ proofsBytes (proofReadings s n off) ≡ s
+  proofs-back : (n off least : ℕ) → AllPass (proofsLayoutRows s n off least) → take off s ++ proofsBytes (proofReadings s n off) ≡ s
   unfolding proofReadings proofsBytes joined
   proofs-back zero off least h =
       let e : off ≡ length s = proofs-end s off least h in
@@ -90,25 +90,25 @@ module _ (s : List ℕ) (b : Bytes s) where
       let z = proofs-split s n off least h in
       rw (proof-back off least (z .0), ← append-assoc, ← take-add off (8 + numberAt s (off + 4) 4) s, ← add-assoc) (proofs-back n _ _ (z .1))
 
-  proofs-typed : (n off least : ℕ) → Hold (proofsRows s n off least) → ProofsTyped (proofReadings s n off)
+  proofs-typed : (n off least : ℕ) → AllPass (proofsLayoutRows s n off least) → ProofsTyped (proofReadings s n off)
   unfolding proofReadings
   proofs-typed zero off least h = tt
   proofs-typed (suc n) off least h =
       let z = proofs-split s n off least h in
       (proof-typed off least (z .0), proofs-typed n _ _ (z .1))
 
-  header-back : WitnessHolds s → numbers (headerTable (numberAt s 5 1) (numberAt s 6 1) (numberAt s 8 8)) ≡ take 16 s
-  unfolding headerTable numbersAt
+  header-back : WitnessHolds s → layoutBytes (witnessHeaderFields (numberAt s 5 1) (numberAt s 6 1) (numberAt s 8 8)) ≡ take 16 s
+  unfolding witnessHeaderFields layoutAt
   header-back z = rw (z .magic, z .version, z .zeros) at (table-back (4 ∷ 1 ∷ 1 ∷ 1 ∷ 1 ∷ 8 ∷ []) s 0 b (z .present))
 
   -- the whole is
-  pub witness-back : Hold (witnessRows s) → witnessBytes (witnessReading s) ≡ s
+  pub witness-back : AllPass (witnessRows s) → witnessBytes (witnessReading s) ≡ s
   unfolding witnessBytes witnessReading
   witness-back h =
       let z = witness-holds s h in
       rw (length-readings s (numberAt s 6 1) 16, header-back z) (proofs-back (numberAt s 6 1) 16 0 (z .proofs))
 
-  pub witness-typed : Hold (witnessRows s) → WitnessTyped (witnessReading s)
+  pub witness-typed : AllPass (witnessRows s) → WitnessTyped (witnessReading s)
   unfolding witnessReading
   witness-typed h =
       record {

@@ -7,34 +7,34 @@ use native.Mathlib.Nat.{add-zero, zero-add}
 use native.Mathlib.Omega.{arith}
 use lib.ListN.{length, getD}
 use Rattle.octets.specs.Le.{numberAt}
-use Rattle.protocol.specs.Rows.{Hold}
-use Rattle.protocol.proofs.Hold.{hold-split}
+use Rattle.protocol.specs.Rows.{AllPass}
+use Rattle.protocol.proofs.AllPass.{all-pass-split}
 use Rattle.account_witness.specs.declared.walk.Proof.{Proof}
 use Rattle.account_witness.specs.declared.walk.ProofCursor.{ProofCursor}
 use Rattle.account_witness.specs.declared.walk.ProofStep.the-variants.{Next}
-use Rattle.account_witness.specs.Walk.{proofRows, proofAt, cursorBehind, proofStep, cursorAt, proofsRows}
+use Rattle.account_witness.specs.Walk.{proofLayoutRows, proofAt, proofCursorBehind, proofStep, proofCursorAt, proofsLayoutRows}
 use Rattle.account_witness.specs.Witness.{witnessRows}
-use Rattle.account_witness.specs.Reading.{ProofReading, proofReading, proofReadings, witnessReading, HandsOut}
-use Rattle.account_witness.proofs.Accepted.{step-accepted}
+use Rattle.account_witness.specs.Reading.{ProofReading, proofReading, proofReadings, witnessReading, ProofStepGives}
+use Rattle.account_witness.proofs.Accepted.{proof-step-accepts}
 use Rattle.account_witness.proofs.WalkLaws.{step-next}
 use Rattle.account_witness.proofs.Inverse.{witness-holds, proofs-end}
 
 -- the rows of suc n proofs: those of the proof at the cursor, then those of n proofs from the next cursor on
 pub rows-unrolled : (s : List ℕ) (n k : ℕ)
-    → proofsRows s (suc n) (cursorAt s k .offset) (cursorAt s k .least)
-    ≡ proofRows s (cursorAt s k .offset) (cursorAt s k .least) ++ proofsRows s n (cursorAt s (suc k) .offset) (cursorAt s (suc k) .least)
-unfolding proofsRows cursorAt cursorBehind
+    → proofsLayoutRows s (suc n) (proofCursorAt s k .offset) (proofCursorAt s k .least)
+    ≡ proofLayoutRows s (proofCursorAt s k .offset) (proofCursorAt s k .least) ++ proofsLayoutRows s n (proofCursorAt s (suc k) .offset) (proofCursorAt s (suc k) .least)
+unfolding proofsLayoutRows proofCursorAt proofCursorBehind
 rows-unrolled s n k = refl
 
 -- and so their readings
 pub readings-unrolled : (s : List ℕ) (n k : ℕ)
-    → proofReadings s (suc n) (cursorAt s k .offset) ≡ proofReading s (proofAt s (cursorAt s k .offset)) ∷ proofReadings s n (cursorAt s (suc k) .offset)
-unfolding proofReadings cursorAt cursorBehind
+    → proofReadings s (suc n) (proofCursorAt s k .offset) ≡ proofReading s (proofAt s (proofCursorAt s k .offset)) ∷ proofReadings s n (proofCursorAt s (suc k) .offset)
+unfolding proofReadings proofCursorAt proofCursorBehind
 readings-unrolled s n k = refl
 
 -- the i-th of n readings is that of the proof at the cursor after i proofs, whatever the bytes
 readings-from : (s : List ℕ) (d : ProofReading) (n k i : ℕ) → i < n
-    → getD (proofReadings s n (cursorAt s k .offset)) i d ≡ proofReading s (proofAt s (cursorAt s (k + i) .offset))
+    → getD (proofReadings s n (proofCursorAt s k .offset)) i d ≡ proofReading s (proofAt s (proofCursorAt s (k + i) .offset))
 readings-from s d zero k i h = absurd (omega arith)
 readings-from s d (suc n) k zero h = rw (readings-unrolled s n k, add-zero k)
 readings-from s d (suc n) k (suc i) h =
@@ -43,49 +43,49 @@ readings-from s d (suc n) k (suc i) h =
     rw (readings-unrolled s n k, e) (readings-from s d n (suc k) i l)
 
 pub reading-at : (s : List ℕ) (d : ProofReading) (i : ℕ) → i < numberAt s 6 1
-    → getD (witnessReading s .proofs) i d ≡ proofReading s (proofAt s (cursorAt s i .offset))
-unfolding witnessReading cursorAt
+    → getD (witnessReading s .proofs) i d ≡ proofReading s (proofAt s (proofCursorAt s i .offset))
+unfolding witnessReading proofCursorAt
 reading-at s d i h = rw zero-add at (readings-from s d (numberAt s 6 1) 0 i h)
 
 -- where the rows of n proofs hold, so do those of each,
-rows-from : (s : List ℕ) (n k i : ℕ) → Hold (proofsRows s n (cursorAt s k .offset) (cursorAt s k .least)) → i < n
-    → Hold (proofRows s (cursorAt s (k + i) .offset) (cursorAt s (k + i) .least))
+rows-from : (s : List ℕ) (n k i : ℕ) → AllPass (proofsLayoutRows s n (proofCursorAt s k .offset) (proofCursorAt s k .least)) → i < n
+    → AllPass (proofLayoutRows s (proofCursorAt s (k + i) .offset) (proofCursorAt s (k + i) .least))
 rows-from s zero k i h l = absurd (omega arith)
 rows-from s (suc n) k zero h l =
-    rw (add-zero k) (hold-split (proofRows s (cursorAt s k .offset) (cursorAt s k .least)) _ (rw (rows-unrolled s n k) at h) .0)
+    rw (add-zero k) (all-pass-split (proofLayoutRows s (proofCursorAt s k .offset) (proofCursorAt s k .least)) _ (rw (rows-unrolled s n k) at h) .0)
 rows-from s (suc n) k (suc i) h l =
     let e : k + suc i ≡ suc k + i = omega arith in
     let m : i < n = omega arith in
-    rw e (rows-from s n (suc k) i (hold-split (proofRows s (cursorAt s k .offset) (cursorAt s k .least)) _ (rw (rows-unrolled s n k) at h) .1) m)
+    rw e (rows-from s n (suc k) i (all-pass-split (proofLayoutRows s (proofCursorAt s k .offset) (proofCursorAt s k .least)) _ (rw (rows-unrolled s n k) at h) .1) m)
 
 -- and the cursor after n proofs is at the end
-end-from : (s : List ℕ) (n k : ℕ) → Hold (proofsRows s n (cursorAt s k .offset) (cursorAt s k .least)) → cursorAt s (k + n) .offset ≡ length s
+end-from : (s : List ℕ) (n k : ℕ) → AllPass (proofsLayoutRows s n (proofCursorAt s k .offset) (proofCursorAt s k .least)) → proofCursorAt s (k + n) .offset ≡ length s
 end-from s zero k h = rw (add-zero k) (proofs-end s _ _ h)
 end-from s (suc n) k h =
     let e : k + suc n ≡ suc k + n = omega arith in
-    rw e (end-from s n (suc k) (hold-split (proofRows s (cursorAt s k .offset) (cursorAt s k .least)) _ (rw (rows-unrolled s n k) at h) .1))
+    rw e (end-from s n (suc k) (all-pass-split (proofLayoutRows s (proofCursorAt s k .offset) (proofCursorAt s k .least)) _ (rw (rows-unrolled s n k) at h) .1))
 
 -- a step that goes on from the cursor after i proofs hands out the proof there, and comes to the cursor after the next
-pub step-on : (s : List ℕ) (i : ℕ) (p : Proof) (d : ProofCursor) → proofStep s (cursorAt s i) ≡ Next p d
-    → (proofAt s (cursorAt s i .offset) ≡ p) × (cursorAt s (suc i) ≡ d)
-unfolding cursorAt
-step-on s i p d h = let z = step-next s (cursorAt s i) p d h in (z .1, z .2)
+pub step-on : (s : List ℕ) (i : ℕ) (p : Proof) (d : ProofCursor) → proofStep s (proofCursorAt s i) ≡ Next p d
+    → (proofAt s (proofCursorAt s i .offset) ≡ p) × (proofCursorAt s (suc i) ≡ d)
+unfolding proofCursorAt
+step-on s i p d h = let z = step-next s (proofCursorAt s i) p d h in (z .1, z .2)
 
 -- so that what it hands out reads as the i-th proof, whatever follows
-pub step-given : (s : List ℕ) (i : ℕ) (p : Proof) (d : ProofCursor) → i < numberAt s 6 1 → proofStep s (cursorAt s i) ≡ Next p d
+pub step-given : (s : List ℕ) (i : ℕ) (p : Proof) (d : ProofCursor) → i < numberAt s 6 1 → proofStep s (proofCursorAt s i) ≡ Next p d
     → (q : ProofReading) → getD (witnessReading s .proofs) i q ≡ proofReading s p
 step-given s i p d l h q = reading-at s q i l ∙ ap (proofReading s) (step-on s i p d h .0)
 
 -- in an accepted witness lock each step goes on, with its proof of the reading
-pub steps : (s : List ℕ) → Hold (witnessRows s) → (i : ℕ) → i < numberAt s 6 1 → HandsOut s i
-unfolding cursorAt
+pub steps : (s : List ℕ) → AllPass (witnessRows s) → (i : ℕ) → i < numberAt s 6 1 → ProofStepGives s i
+unfolding proofCursorAt
 steps s h i l =
     record {
-      step = step-accepted s (cursorAt s i) .1 (rw zero-add at (rows-from s (numberAt s 6 1) 0 i (witness-holds s h .proofs) l));
+      step = proof-step-accepts s (proofCursorAt s i) .1 (rw zero-add at (rows-from s (numberAt s 6 1) 0 i (witness-holds s h .proofs) l));
       reading = λ d. reading-at s d i l;
     }
 
 -- after them the cursor is at the end
-pub steps-end : (s : List ℕ) → Hold (witnessRows s) → cursorAt s (numberAt s 6 1) .offset ≡ length s
-unfolding cursorAt
+pub steps-end : (s : List ℕ) → AllPass (witnessRows s) → proofCursorAt s (numberAt s 6 1) .offset ≡ length s
+unfolding proofCursorAt
 steps-end s h = rw zero-add at (end-from s (numberAt s 6 1) 0 (witness-holds s h .proofs))

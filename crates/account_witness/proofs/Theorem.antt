@@ -5,21 +5,21 @@ use mathlib.Core.Path.{_≡_, refl, sym, ap, _∙_}
 use mathlib.Core.List.{List}
 use Prim.Native.Nat.{ℕ}
 use Rattle.octets.specs.Le.{Bytes}
-use Rattle.protocol.specs.Rows.{Hold}
+use Rattle.protocol.specs.Rows.{AllPass}
 use Rattle.protocol.specs.Reading.{OneReading}
 use Rattle.account_witness.specs.declared.header.AccountWitnessHeader.{AccountWitnessHeader}
 use Rattle.account_witness.specs.declared.header.WitnessHeaderAnswer.the-variants.{Header}
 use Rattle.account_witness.specs.declared.witness.WitnessAnswer.the-variants.{Witness}
-use Rattle.account_witness.specs.Header.{headerAt, readHeader}
+use Rattle.account_witness.specs.Header.{witnessHeaderOf, readWitnessHeader}
 use Rattle.account_witness.specs.Witness.{witnessRows, readWitness}
-use Rattle.account_witness.specs.Reading.{witnessBytes, witnessReading, WitnessTyped, HeaderGives, WitnessGives}
+use Rattle.account_witness.specs.Reading.{witnessBytes, witnessReading, WitnessTyped, WitnessHeaderGives, WitnessGives}
 use Rattle.account_witness.proofs.Accepted.{header-answered, witness-answered}
 use Rattle.account_witness.proofs.Inverse.{witness-back, witness-typed, length-readings}
 use Rattle.account_witness.proofs.Unique.{witness-read}
 use Rattle.account_witness.proofs.Steps.{steps, steps-end}
 
 -- exactly one reading
-pub witness-one : (s : List ℕ) → Bytes s → Hold (witnessRows s) → OneReading WitnessTyped witnessBytes s (witnessReading s)
+pub witness-one : (s : List ℕ) → Bytes s → AllPass (witnessRows s) → OneReading WitnessTyped witnessBytes s (witnessReading s)
 witness-one s b h =
     record {
       typed = witness-typed s b h;
@@ -28,17 +28,17 @@ witness-one s b h =
     }
 
 -- the fields at the front of the bytes are the reading's
-header-of : (s : List ℕ) → HeaderGives s (headerAt s)
-unfolding headerAt witnessReading
+header-of : (s : List ℕ) → WitnessHeaderGives s (witnessHeaderOf s)
+unfolding witnessHeaderOf witnessReading
 header-of s = record { operation = refl; sequence = refl; count = sym (length-readings s _ 16) }
 
 -- the header that the header's reader hands out has the reading's fields
-pub header-gives : (s : List ℕ) (h : AccountWitnessHeader) → readHeader s ≡ Header h → HeaderGives s h
-header-gives s h e = rw (sym (header-answered s h e .1)) (header-of s)
+pub witness-header-gives : (s : List ℕ) (h : AccountWitnessHeader) → readWitnessHeader s ≡ Header h → WitnessHeaderGives s h
+witness-header-gives s h e = rw (sym (header-answered s h e .1)) (header-of s)
 
 -- a witness lock that the reader accepts passes every check, and what the readers hand out is its one reading
-pub witness-given : (s : List ℕ) (h : AccountWitnessHeader) → readWitness s ≡ Witness h → Hold (witnessRows s) × WitnessGives s h
-unfolding headerAt
+pub witness-given : (s : List ℕ) (h : AccountWitnessHeader) → readWitness s ≡ Witness h → AllPass (witnessRows s) × WitnessGives s h
+unfolding witnessHeaderOf
 witness-given s h e =
     let z = witness-answered s h e in
     (z .0, rw (sym (z .1)) (record { header = header-of s; proofs = steps s (z .0); ended = steps-end s (z .0) }))

@@ -8,39 +8,39 @@ use native.Mathlib.Omega.{arith}
 use lib.ListN.{length, take, drop, length-append}
 use Rattle.octets.specs.Le.{numberAt}
 use Rattle.octets.specs.Lists.{joined}
-use Rattle.octets.specs.Table.{numbers, numbersAt, valueOf}
-use Rattle.octets.proofs.TableLaws.{numbers-back, length-numbers}
+use Rattle.octets.specs.Layout.{layoutBytes, layoutAt, fieldValue}
+use Rattle.octets.proofs.LayoutLaws.{numbers-back, length-numbers}
 use Rattle.octets.proofs.Parts.{part-back}
-use Rattle.account_witness.specs.Header.{headerTable}
+use Rattle.account_witness.specs.Header.{witnessHeaderFields}
 use Rattle.account_witness.specs.Walk.{proofAt}
-use Rattle.account_witness.specs.Reading.{ProofReading, WitnessReading, proofTable, proofBytes, proofsBytes, witnessBytes, proofReading, proofReadings, witnessReading, ProofTyped, ProofsTyped, WitnessTyped}
+use Rattle.account_witness.specs.Reading.{ProofReading, WitnessReading, proofFields, proofBytes, proofsBytes, witnessBytes, proofReading, proofReadings, witnessReading, ProofTyped, ProofsTyped, WitnessTyped}
 
 -- the length of a proof's written form
 pub length-proof : (p : ProofReading) → length (proofBytes p) ≡ 8 + length (p .bytes)
-unfolding proofBytes proofTable
-length-proof p = length-append (numbers (proofTable (p .slot) (length (p .bytes)))) (p .bytes) ∙ ap (λ (n : ℕ). n + length (p .bytes)) (length-numbers (proofTable (p .slot) (length (p .bytes))))
+unfolding proofBytes proofFields
+length-proof p = length-append (layoutBytes (proofFields (p .slot) (length (p .bytes)))) (p .bytes) ∙ ap (λ (n : ℕ). n + length (p .bytes)) (length-numbers (proofFields (p .slot) (length (p .bytes))))
 
 -- one proof, wherever it stands
 module _ (s p t : List ℕ) (off : ℕ) (q : ProofReading) (y : ProofTyped q) (e : s ≡ p ++ (proofBytes q ++ t)) (l : length p ≡ off) where
-  pub table-read : numbersAt (2 ∷ 2 ∷ 4 ∷ []) s off ≡ proofTable (q .slot) (length (q .bytes))
-  unfolding proofBytes proofTable
-  table-read = numbers-back (proofTable (q .slot) (length (q .bytes))) s p (q .bytes ++ t) off (omega arith) (e ∙ simp append-assoc) l
+  pub table-read : layoutAt (2 ∷ 2 ∷ 4 ∷ []) s off ≡ proofFields (q .slot) (length (q .bytes))
+  unfolding proofBytes proofFields
+  table-read = numbers-back (proofFields (q .slot) (length (q .bytes))) s p (q .bytes ++ t) off (omega arith) (e ∙ simp append-assoc) l
 
   pub len-read : numberAt s (off + 4) 4 ≡ length (q .bytes)
-  unfolding proofTable numbersAt
-  len-read = simp add-assoc at (ap (valueOf 2) table-read)
+  unfolding proofFields layoutAt
+  len-read = simp add-assoc at (ap (fieldValue 2) table-read)
 
   bytes-read : take (length (q .bytes)) (drop (off + 8) s) ≡ q .bytes
-  unfolding proofBytes proofTable
+  unfolding proofBytes proofFields
   bytes-read =
-      let h = numbers (proofTable (q .slot) (length (q .bytes))) in
-      let n : length h ≡ 8 = length-numbers (proofTable (q .slot) (length (q .bytes))) in
+      let h = layoutBytes (proofFields (q .slot) (length (q .bytes))) in
+      let n : length h ≡ 8 = length-numbers (proofFields (q .slot) (length (q .bytes))) in
       part-back s (p ++ h) (q .bytes) t (off + 8) _ (e ∙ simp append-assoc) (rw (length-append p h, l, n)) refl
 
   proof-read : proofReading s (proofAt s off) ≡ q
-  unfolding proofReading proofAt proofTable numbersAt
+  unfolding proofReading proofAt proofFields layoutAt
   proof-read =
-      let v : numberAt s off 2 ≡ q .slot = ap (valueOf 0) table-read in
+      let v : numberAt s off 2 ≡ q .slot = ap (fieldValue 0) table-read in
       rw (v, len-read, bytes-read)
 
 -- proofs one behind another
@@ -57,19 +57,19 @@ proofs-read (q ∷ qs) s p t off y e l =
 
 -- the header
 pub header-read : (r : WitnessReading) → WitnessTyped r
-    → numbersAt (4 ∷ 1 ∷ 1 ∷ 1 ∷ 1 ∷ 8 ∷ []) (witnessBytes r) 0 ≡ headerTable (r .operation) (length (r .proofs)) (r .sequence)
-unfolding witnessBytes headerTable
+    → layoutAt (4 ∷ 1 ∷ 1 ∷ 1 ∷ 1 ∷ 8 ∷ []) (witnessBytes r) 0 ≡ witnessHeaderFields (r .operation) (length (r .proofs)) (r .sequence)
+unfolding witnessBytes witnessHeaderFields
 header-read r y =
-    numbers-back (headerTable (r .operation) (length (r .proofs)) (r .sequence)) (witnessBytes r) [] (proofsBytes (r .proofs)) 0 (omega arith) refl refl
+    numbers-back (witnessHeaderFields (r .operation) (length (r .proofs)) (r .sequence)) (witnessBytes r) [] (proofsBytes (r .proofs)) 0 (omega arith) refl refl
 
 -- the whole
 pub witness-read : (r : WitnessReading) → WitnessTyped r → witnessReading (witnessBytes r) ≡ r
-unfolding witnessReading witnessBytes headerTable numbersAt
+unfolding witnessReading witnessBytes witnessHeaderFields layoutAt
 witness-read r y =
-    let t = headerTable (r .operation) (length (r .proofs)) (r .sequence) in
+    let t = witnessHeaderFields (r .operation) (length (r .proofs)) (r .sequence) in
     let s = witnessBytes r in
     let h = header-read r y in
-    let e₁ : numberAt s 5 1 ≡ r .operation = ap (valueOf 2) h in
-    let e₂ : numberAt s 6 1 ≡ length (r .proofs) = ap (valueOf 3) h in
-    let e₃ : numberAt s 8 8 ≡ r .sequence = ap (valueOf 5) h in
-    rw (e₁, e₂, e₃, proofs-read (r .proofs) s (numbers t) [] 16 (y .proofs) (simp append-nil) (length-numbers t))
+    let e₁ : numberAt s 5 1 ≡ r .operation = ap (fieldValue 2) h in
+    let e₂ : numberAt s 6 1 ≡ length (r .proofs) = ap (fieldValue 3) h in
+    let e₃ : numberAt s 8 8 ≡ r .sequence = ap (fieldValue 5) h in
+    rw (e₁, e₂, e₃, proofs-read (r .proofs) s (layoutBytes t) [] 16 (y .proofs) (simp append-nil) (length-numbers t))

@@ -8,13 +8,13 @@ use Rattle.octets.specs.Le.{numberAt}
 use Rattle.protocol.specs.Rows.{row, _▷_, _then_, decide}
 use Rattle.protocol.specs.declared.error.ProtocolError.the-variants.{InvalidWitness}
 use Rattle.protocol.specs.declared.check.Check.the-variants.{Passed}
-use Rattle.protocol.proofs.Hold.{decide-append, decide-then}
-use Rattle.account_witness.specs.Header.{headerRows, headerFault}
-use Rattle.account_witness.specs.Walk.{proofsRows}
+use Rattle.protocol.proofs.AllPass.{decide-append, decide-then}
+use Rattle.account_witness.specs.Header.{witnessHeaderRows, witnessHeaderFault}
+use Rattle.account_witness.specs.Walk.{proofsLayoutRows}
 use Rattle.account_witness.specs.Witness.{witnessRows, witnessFault}
 
 -- the header, the count, and then the proofs
 pub witness-parts : (s : List ℕ)
-    → (headerFault s ▷ row (leb (numberAt s 6 1) 16) InvalidWitness) then decide Passed (proofsRows s (numberAt s 6 1) 16 0) ≡ witnessFault s
-unfolding witnessFault witnessRows headerFault decide
-witness-parts s = sym (decide-append Passed (headerRows s) _ ∙ decide-then _ (proofsRows s (numberAt s 6 1) 16 0))
+    → (witnessHeaderFault s ▷ row (leb (numberAt s 6 1) 16) InvalidWitness) then decide Passed (proofsLayoutRows s (numberAt s 6 1) 16 0) ≡ witnessFault s
+unfolding witnessFault witnessRows witnessHeaderFault decide
+witness-parts s = sym (decide-append Passed (witnessHeaderRows s) _ ∙ decide-then _ (proofsLayoutRows s (numberAt s 6 1) 16 0))

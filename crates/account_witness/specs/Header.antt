@@ -5,7 +5,7 @@ use mathlib.Core.List.{List, [], _∷_}
 use lib.Dec.{leb, eqb}
 use lib.ListN.{length}
 use Rattle.octets.specs.Le.{numberAt}
-use Rattle.octets.specs.Table.{Number}
+use Rattle.octets.specs.Layout.{Field}
 use Rattle.protocol.specs.Errors.{errorNumber}
 use Rattle.protocol.specs.Policy.{isOperation}
 use Rattle.protocol.specs.Rows.{Row, row, decide}
@@ -20,8 +20,8 @@ use Rattle.account_witness.specs.declared.header.WitnessHeaderAnswer.the
 abbrev pub witnessMagic : ℕ
 witnessMagic = 0x57414b43
 
-unfoldable pub headerRows : List ℕ → List Row
-headerRows s =
+unfoldable pub witnessHeaderRows : List ℕ → List Row
+witnessHeaderRows s =
     row (leb 16 (length s)) InvalidWitness
     ∷ row (leb (length s) 131072) InvalidWitness
     ∷ row (eqb (numberAt s 0 4) witnessMagic) InvalidWitness
@@ -30,23 +30,23 @@ headerRows s =
     ∷ row (eqb (numberAt s 7 1) 0) InvalidWitness
     ∷ []
 
-unfoldable pub headerFault : List ℕ → Check
-headerFault s = decide Passed (headerRows s)
+unfoldable pub witnessHeaderFault : List ℕ → Check
+witnessHeaderFault s = decide Passed (witnessHeaderRows s)
 
-unfoldable pub headerAt : List ℕ → AccountWitnessHeader
-headerAt s = record { operation = numberAt s 5 1; «proof_count» = numberAt s 6 1; «state_sequence» = numberAt s 8 8 }
+unfoldable pub witnessHeaderOf : List ℕ → AccountWitnessHeader
+witnessHeaderOf s = record { operation = numberAt s 5 1; «proof_count» = numberAt s 6 1; «state_sequence» = numberAt s 8 8 }
 
-unfoldable pub headerAnswer : Check → AccountWitnessHeader → WitnessHeaderAnswer
-headerAnswer Passed h = Header h
-headerAnswer (Failed e) h = Refused e
+unfoldable pub witnessHeaderAnswer : Check → AccountWitnessHeader → WitnessHeaderAnswer
+witnessHeaderAnswer Passed h = Header h
+witnessHeaderAnswer (Failed e) h = Refused e
 
 -- 01: "Counts 17 to 255 pass `parse_witness_header`"
-unfoldable pub readHeader : List ℕ → WitnessHeaderAnswer
-readHeader s = headerAnswer (headerFault s) (headerAt s)
+unfoldable pub readWitnessHeader : List ℕ → WitnessHeaderAnswer
+readWitnessHeader s = witnessHeaderAnswer (witnessHeaderFault s) (witnessHeaderOf s)
 
 -- the layout
-unfoldable pub headerTable : ℕ → ℕ → ℕ → List Number
-headerTable operation count sequence =
+unfoldable pub witnessHeaderFields : ℕ → ℕ → ℕ → List Field
+witnessHeaderFields operation count sequence =
     record { width = 4; value = witnessMagic }
     ∷ record { width = 1; value = 1 }
     ∷ record { width = 1; value = operation }
@@ -56,6 +56,6 @@ headerTable operation count sequence =
     ∷ []
 
 -- document 01's number of the answer
-abbrev pub headerNumber : WitnessHeaderAnswer → ℕ
-headerNumber (Header h) = 0
-headerNumber (Refused e) = errorNumber e
+abbrev pub witnessHeaderNumber : WitnessHeaderAnswer → ℕ
+witnessHeaderNumber (Header h) = 0
+witnessHeaderNumber (Refused e) = errorNumber e

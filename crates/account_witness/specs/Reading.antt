@@ -6,12 +6,12 @@ use mathlib.Core.List.{List, [], _∷_, _++_, map}
 use lib.ListN.{length, take, drop, getD}
 use Rattle.octets.specs.Le.{numberAt}
 use Rattle.octets.specs.Lists.{joined}
-use Rattle.octets.specs.Table.{Number, numbers}
+use Rattle.octets.specs.Layout.{Field, layoutBytes}
 use Rattle.account_witness.specs.declared.header.AccountWitnessHeader.{AccountWitnessHeader}
 use Rattle.account_witness.specs.declared.walk.Proof.{Proof}
 use Rattle.account_witness.specs.declared.walk.ProofStep.the-variants.{Next}
-use Rattle.account_witness.specs.Header.{headerTable}
-use Rattle.account_witness.specs.Walk.{proofAt, proofStep, cursorAt}
+use Rattle.account_witness.specs.Header.{witnessHeaderFields}
+use Rattle.account_witness.specs.Walk.{proofAt, proofStep, proofCursorAt}
 
 pub record ProofReading : Type 0 where
   pub slot : ℕ
@@ -23,17 +23,17 @@ pub record WitnessReading : Type 0 where
   pub proofs : List ProofReading
 
 -- 01, Proof: "slot (u16), two zero bytes, length (u32, not 0), bytes"
-unfoldable pub proofTable : ℕ → ℕ → List Number
-proofTable slot len = record { width = 2; value = slot } ∷ record { width = 2; value = 0 } ∷ record { width = 4; value = len } ∷ []
+unfoldable pub proofFields : ℕ → ℕ → List Field
+proofFields slot len = record { width = 2; value = slot } ∷ record { width = 2; value = 0 } ∷ record { width = 4; value = len } ∷ []
 
 unfoldable pub proofBytes : ProofReading → List ℕ
-proofBytes p = numbers (proofTable (p .slot) (length (p .bytes))) ++ p .bytes
+proofBytes p = layoutBytes (proofFields (p .slot) (length (p .bytes))) ++ p .bytes
 
 unfoldable pub proofsBytes : List ProofReading → List ℕ
 proofsBytes ps = joined (map proofBytes ps)
 
 unfoldable pub witnessBytes : WitnessReading → List ℕ
-witnessBytes r = numbers (headerTable (r .operation) (length (r .proofs)) (r .sequence)) ++ proofsBytes (r .proofs)
+witnessBytes r = layoutBytes (witnessHeaderFields (r .operation) (length (r .proofs)) (r .sequence)) ++ proofsBytes (r .proofs)
 
 -- the reading of s: that of a proof whose place the walk hands out, of n proofs from `off` on, and of the whole
 unfoldable pub proofReading : List ℕ → Proof → ProofReading
@@ -64,20 +64,20 @@ pub record WitnessTyped (r : WitnessReading) : Type 0 where
   pub proofs : ProofsTyped (r .proofs)
 
 -- the header that a reader gives has the reading's fields and the count of its proofs
-pub record HeaderGives (s : List ℕ) (h : AccountWitnessHeader) : Type 0 where
+pub record WitnessHeaderGives (s : List ℕ) (h : AccountWitnessHeader) : Type 0 where
   pub operation : h .operation ≡ witnessReading s .operation
   pub sequence : h .«state_sequence» ≡ witnessReading s .sequence
   pub count : h .«proof_count» ≡ length (witnessReading s .proofs)
 
 -- the i-th step of an accepted witness lock goes on, with the i-th proof of the reading; 01: "Closures of `parse_authenticators` and
 -- `parse_proofs`: a step per entry."
-pub record HandsOut (s : List ℕ) (i : ℕ) : Type 0 where
-  pub step : proofStep s (cursorAt s i) ≡ Next (proofAt s (cursorAt s i .offset)) (cursorAt s (suc i))
-  pub reading : (d : ProofReading) → getD (witnessReading s .proofs) i d ≡ proofReading s (proofAt s (cursorAt s i .offset))
+pub record ProofStepGives (s : List ℕ) (i : ℕ) : Type 0 where
+  pub step : proofStep s (proofCursorAt s i) ≡ Next (proofAt s (proofCursorAt s i .offset)) (proofCursorAt s (suc i))
+  pub reading : (d : ProofReading) → getD (witnessReading s .proofs) i d ≡ proofReading s (proofAt s (proofCursorAt s i .offset))
 
 -- what the readers hand out of a witness lock, with the header h of its answer, is its reading: the header's fields, and at each step
 -- the next proof; behind the last no byte follows
 pub record WitnessGives (s : List ℕ) (h : AccountWitnessHeader) : Type 0 where
-  pub header : HeaderGives s h
-  pub proofs : (i : ℕ) → i < h .«proof_count» → HandsOut s i
-  pub ended : cursorAt s (h .«proof_count») .offset ≡ length s
+  pub header : WitnessHeaderGives s h
+  pub proofs : (i : ℕ) → i < h .«proof_count» → ProofStepGives s i
+  pub ended : proofCursorAt s (h .«proof_count») .offset ≡ length s

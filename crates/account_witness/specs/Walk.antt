@@ -15,8 +15,8 @@ use Rattle.account_witness.specs.declared.walk.ProofStep.{ProofStep}
 use Rattle.account_witness.specs.declared.walk.ProofStep.the-variants.{Next, Refused}
 
 -- the proof at `off`, whose slot is at least `least`: 8 bytes present, two zeros, its bytes present, not empty, its slot
-unfoldable pub proofRows : List ℕ → ℕ → ℕ → List Row
-proofRows s off least =
+unfoldable pub proofLayoutRows : List ℕ → ℕ → ℕ → List Row
+proofLayoutRows s off least =
     row (leb (off + 8) (length s)) InvalidWitness
     ∷ row (eqb (numberAt s (off + 2) 2) 0) InvalidWitness
     ∷ row (leb (off + 8 + numberAt s (off + 4) 4) (length s)) InvalidWitness
@@ -28,34 +28,34 @@ unfoldable pub proofAt : List ℕ → ℕ → Proof
 proofAt s off = record { slot = numberAt s off 2; start = off + 8; len = numberAt s (off + 4) 4 }
 
 -- behind the proof at `off`: the next one begins where its bytes end, and has a higher slot
-unfoldable pub cursorBehind : List ℕ → ℕ → ProofCursor
-cursorBehind s off = record { offset = off + 8 + numberAt s (off + 4) 4; least = numberAt s off 2 + 1 }
+unfoldable pub proofCursorBehind : List ℕ → ℕ → ProofCursor
+proofCursorBehind s off = record { offset = off + 8 + numberAt s (off + 4) 4; least = numberAt s off 2 + 1 }
 
-unfoldable pub stepAnswer : Check → Proof → ProofCursor → ProofStep
-stepAnswer Passed p c = Next p c
-stepAnswer (Failed e) p c = Refused e
+unfoldable pub proofStepAnswer : Check → Proof → ProofCursor → ProofStep
+proofStepAnswer Passed p c = Next p c
+proofStepAnswer (Failed e) p c = Refused e
 
 -- one step of the walk
 unfoldable pub proofStep : List ℕ → ProofCursor → ProofStep
 proofStep s c =
-    stepAnswer (decide Passed (proofRows s (c .offset) (c .least))) (proofAt s (c .offset)) (cursorBehind s (c .offset))
+    proofStepAnswer (decide Passed (proofLayoutRows s (c .offset) (c .least))) (proofAt s (c .offset)) (proofCursorBehind s (c .offset))
 
 -- the walk begins behind the header, where any slot may come
-abbrev pub firstCursor : ProofCursor
-firstCursor = record { offset = 16; least = 0 }
+abbrev pub firstProof : ProofCursor
+firstProof = record { offset = 16; least = 0 }
 
 -- the cursor after i proofs
-unfoldable pub cursorAt : List ℕ → ℕ → ProofCursor
-cursorAt s zero = firstCursor
-cursorAt s (suc i) = cursorBehind s (cursorAt s i .offset)
+unfoldable pub proofCursorAt : List ℕ → ℕ → ProofCursor
+proofCursorAt s zero = firstProof
+proofCursorAt s (suc i) = proofCursorBehind s (proofCursorAt s i .offset)
 
 -- n proofs from `off` on, the first with a slot of at least `least`; no byte follows the last
-unfoldable pub proofsRows : List ℕ → ℕ → ℕ → ℕ → List Row
-proofsRows s zero off least = row (eqb off (length s)) InvalidWitness ∷ []
-proofsRows s (suc n) off least =
-    proofRows s off least ++ proofsRows s n (off + 8 + numberAt s (off + 4) 4) (numberAt s off 2 + 1)
+unfoldable pub proofsLayoutRows : List ℕ → ℕ → ℕ → ℕ → List Row
+proofsLayoutRows s zero off least = row (eqb off (length s)) InvalidWitness ∷ []
+proofsLayoutRows s (suc n) off least =
+    proofLayoutRows s off least ++ proofsLayoutRows s n (off + 8 + numberAt s (off + 4) 4) (numberAt s off 2 + 1)
 
 -- document 01's number of a step
-abbrev pub stepNumber : ProofStep → ℕ
-stepNumber (Next p c) = 0
-stepNumber (Refused e) = errorNumber e
+abbrev pub proofStepNumber : ProofStep → ℕ
+proofStepNumber (Next p c) = 0
+proofStepNumber (Refused e) = errorNumber e

@@ -11,8 +11,8 @@ use Rattle.protocol.specs.declared.check.Check.the-variants.{Passed, Failed}
 use Rattle.account_witness.specs.declared.header.AccountWitnessHeader.{AccountWitnessHeader}
 use Rattle.account_witness.specs.declared.witness.WitnessAnswer.{WitnessAnswer}
 use Rattle.account_witness.specs.declared.witness.WitnessAnswer.the-variants.{Witness, Refused}
-use Rattle.account_witness.specs.Header.{headerRows, headerAt}
-use Rattle.account_witness.specs.Walk.{proofsRows}
+use Rattle.account_witness.specs.Header.{witnessHeaderRows, witnessHeaderOf}
+use Rattle.account_witness.specs.Walk.{proofsLayoutRows}
 
 -- 01: "Counts 17 to 255 pass `parse_witness_header`; `run` refuses them with 22 before it looks for the state."
 abbrev pub countRow : List ℕ → Row
@@ -20,7 +20,7 @@ countRow s = row (leb (numberAt s 6 1) 16) InvalidWitness
 
 -- then the proofs
 unfoldable pub witnessRows : List ℕ → List Row
-witnessRows s = headerRows s ++ (countRow s ∷ proofsRows s (numberAt s 6 1) 16 0)
+witnessRows s = witnessHeaderRows s ++ (countRow s ∷ proofsLayoutRows s (numberAt s 6 1) 16 0)
 
 unfoldable pub witnessFault : List ℕ → Check
 witnessFault s = decide Passed (witnessRows s)
@@ -30,7 +30,7 @@ witnessAnswer Passed h = Witness h
 witnessAnswer (Failed e) h = Refused e
 
 unfoldable pub readWitness : List ℕ → WitnessAnswer
-readWitness s = witnessAnswer (witnessFault s) (headerAt s)
+readWitness s = witnessAnswer (witnessFault s) (witnessHeaderOf s)
 
 -- document 01's number of the answer
 abbrev pub witnessNumber : WitnessAnswer → ℕ

@@ -10,7 +10,7 @@ use protocol::Check;
 use protocol::ProtocolError;
 use protocol::is_operation;
 ghost use mathlib.Core.Path.{_≡_};
-ghost use Rattle.account_witness.specs.Header.{headerFault, headerAt, readHeader};
+ghost use Rattle.account_witness.specs.Header.{witnessHeaderFault, witnessHeaderOf, readWitnessHeader};
 
 pub struct AccountWitnessHeader {
     pub operation: u8,
@@ -24,7 +24,7 @@ pub enum WitnessHeaderAnswer {
 }
 
 pub(crate) fn check_header(witness: &[u8]) -> Check
-    ensures { λ r. ⌜ r ≡ headerFault (now (witness .entry)) ⌝ }
+    ensures { λ r. ⌜ r ≡ witnessHeaderFault (now (witness .entry)) ⌝ }
 {
     let invalid = ProtocolError::InvalidWitness;
     Check::Passed
@@ -38,7 +38,7 @@ pub(crate) fn check_header(witness: &[u8]) -> Check
 
 // The fields of a header.
 pub(crate) fn header_at(witness: &[u8]) -> AccountWitnessHeader
-    ensures { λ r. ⌜ r ≡ headerAt (now (witness .entry)) ⌝ }
+    ensures { λ r. ⌜ r ≡ witnessHeaderOf (now (witness .entry)) ⌝ }
 {
     AccountWitnessHeader {
         operation: u8_at(witness, 5),
@@ -49,7 +49,7 @@ pub(crate) fn header_at(witness: &[u8]) -> AccountWitnessHeader
 
 // The header of a witness lock, or 22.
 pub fn parse_witness_header(witness: &[u8]) -> WitnessHeaderAnswer
-    ensures { λ r. ⌜ r ≡ readHeader (now (witness .entry)) ⌝ }
+    ensures { λ r. ⌜ r ≡ readWitnessHeader (now (witness .entry)) ⌝ }
 {
     match check_header(witness) {
         Check::Failed(error) => WitnessHeaderAnswer::Refused(error),

@@ -9,7 +9,7 @@ ghost use mathlib.Core.Path.{_≡_};
 ghost use Prim.Native.Nat.{_+_, _≤_};
 ghost use lib.ListN.{length};
 ghost use Rattle.protocol.specs.Rows.{decide};
-ghost use Rattle.account_witness.specs.Walk.{proofRows, proofStep, firstCursor, proofsRows};
+ghost use Rattle.account_witness.specs.Walk.{proofLayoutRows, proofStep, firstProof, proofsLayoutRows};
 
 // Where the next proof begins, and the least slot that it may have.
 pub struct ProofCursor {
@@ -32,7 +32,7 @@ pub enum ProofStep {
 
 // The cursor behind the header.
 pub fn first_proof() -> ProofCursor
-    ensures { λ r. ⌜ r ≡ firstCursor ⌝ }
+    ensures { λ r. ⌜ r ≡ firstProof ⌝ }
 {
     ProofCursor {
         offset: ACCOUNT_WITNESS_HEADER_LEN,
@@ -43,7 +43,7 @@ pub fn first_proof() -> ProofCursor
 // The checks of a proof whose first 8 bytes are present.
 fn check_proof(witness: &[u8], offset: usize, least: u32) -> Check
     requires { ⌜ offset + 8 ≤ length (now witness) ⌝ }
-    ensures { λ r. ⌜ r ≡ decide Check.Passed (proofRows (now (witness .entry)) offset least) ⌝ }
+    ensures { λ r. ⌜ r ≡ decide Check.Passed (proofLayoutRows (now (witness .entry)) offset least) ⌝ }
 {
     let invalid = ProtocolError::InvalidWitness;
     let slot = u16_at(witness, offset) as u32;
@@ -89,7 +89,7 @@ pub fn next_proof(witness: &[u8], cursor: ProofCursor) -> ProofStep
 
 // The checks of `count` proofs behind the header, and that no byte follows the last.
 pub(crate) fn check_proofs(witness: &[u8], count: u8) -> Check
-    ensures { λ r. ⌜ r ≡ decide Check.Passed (proofsRows (now (witness .entry)) count 16 0) ⌝ }
+    ensures { λ r. ⌜ r ≡ decide Check.Passed (proofsLayoutRows (now (witness .entry)) count 16 0) ⌝ }
 {
     let mut cursor = first_proof();
     let mut left = count;

@@ -10,53 +10,53 @@ use lib.ListN.{length, take, drop, getD}
 use Rattle.octets.specs.Le.{numberAt, Bytes}
 use Rattle.octets.specs.Lists.{joined}
 use Rattle.octets.proofs.LeLaws.{bytes-take, bytes-drop, bytes-append}
-use Rattle.protocol.specs.Rows.{Hold}
+use Rattle.protocol.specs.Rows.{AllPass}
 use Rattle.protocol.specs.Reading.{WritesBack}
 use Rattle.protocol.proofs.Back.{writes-back}
 use Rattle.account_witness.specs.Witness.{witnessRows}
 use Rattle.account_witness.specs.Walk.{proofAt}
 use Rattle.account_witness.specs.Reading.{ProofReading, WitnessReading, witnessBytes, proofReading, proofReadings, witnessReading, ProofsTyped, WitnessTyped}
 use Rattle.account_witness.proofs.Inverse.{witness-holds, witness-back, witness-typed}
-use Rattle.account_witness_writer.specs.Encode.{readingFrom, encodeTotal, encodeRows, encodeFault, witnessWritten, witnessStored, slotsOf, lengthsOf, bytesOf, WitnessFits}
+use Rattle.account_witness_writer.specs.Encode.{witnessFrom, encodeTotal, witnessWriterRows, encodeFault, witnessWritten, witnessStored, proofSlots, proofLengths, proofsPayload, WitnessFits}
 use Rattle.account_witness_writer.proofs.Lent.{length-slots, counts, lent-back, lent-total, lent-hold}
 use Rattle.account_witness_writer.proofs.Written.{written-accepted}
 
 -- its slices lend it again
-from-reading : (r : WitnessReading) → readingFrom (r .operation) (r .sequence) (slotsOf (r .proofs)) (lengthsOf (r .proofs)) (bytesOf (r .proofs)) ≡ r
-unfolding readingFrom
+from-reading : (r : WitnessReading) → witnessFrom (r .operation) (r .sequence) (proofSlots (r .proofs)) (proofLengths (r .proofs)) (proofsPayload (r .proofs)) ≡ r
+unfolding witnessFrom
 from-reading r = rw (lent-back (r .proofs))
 
 -- the slots and lengths of proofs whose numbers fit are u16 and u32
-slots-fit : (ps : List ProofReading) → ProofsTyped ps → (i : ℕ) → getD (slotsOf ps) i 0 < 2 ^ 16
-unfolding slotsOf
+slots-fit : (ps : List ProofReading) → ProofsTyped ps → (i : ℕ) → getD (proofSlots ps) i 0 < 2 ^ 16
+unfolding proofSlots
 slots-fit [] y i = lit< tt
 slots-fit (p ∷ ps) y zero = y .0 .slot
 slots-fit (p ∷ ps) y (suc i) = slots-fit ps (y .1) i
 
-lengths-fit : (ps : List ProofReading) → ProofsTyped ps → (i : ℕ) → getD (lengthsOf ps) i 0 < 2 ^ 32
-unfolding lengthsOf
+lengths-fit : (ps : List ProofReading) → ProofsTyped ps → (i : ℕ) → getD (proofLengths ps) i 0 < 2 ^ 32
+unfolding proofLengths
 lengths-fit [] y i = lit< tt
 lengths-fit (p ∷ ps) y zero = y .0 .len
 lengths-fit (p ∷ ps) y (suc i) = lengths-fit ps (y .1) i
 
 -- what proofs that are read from bytes lend are bytes
-readings-bytes : (s : List ℕ) (n off : ℕ) → Bytes s → Bytes (bytesOf (proofReadings s n off))
-unfolding bytesOf joined proofReadings proofReading proofAt
+readings-bytes : (s : List ℕ) (n off : ℕ) → Bytes s → Bytes (proofsPayload (proofReadings s n off))
+unfolding proofsPayload joined proofReadings proofReading proofAt
 readings-bytes s zero off b = λ i. lit< tt
 readings-bytes s (suc n) off b =
     let len = numberAt s (off + 4) 4 in
-    bytes-append (take len (drop (off + 8) s)) (bytesOf (proofReadings s n (off + 8 + len))) (bytes-take len (drop (off + 8) s) (bytes-drop (off + 8) s b)) (readings-bytes s n (off + 8 + len) b)
+    bytes-append (take len (drop (off + 8) s)) (proofsPayload (proofReadings s n (off + 8 + len))) (bytes-take len (drop (off + 8) s) (bytes-drop (off + 8) s b)) (readings-bytes s n (off + 8 + len) b)
 
 -- what the reading lends fits the writer's types
-fits : (s : List ℕ) → Bytes s → Hold (witnessRows s) → WitnessFits (witnessReading s)
+fits : (s : List ℕ) → Bytes s → AllPass (witnessRows s) → WitnessFits (witnessReading s)
 unfolding witnessReading
 fits s b h =
     let y = witness-typed s b h in
     let z = witness-holds s h in
     let r = witnessReading s in
-    let n : length (slotsOf (r .proofs)) ≡ length (r .proofs) = length-slots (r .proofs) in
-    let m : length (slotsOf (r .proofs)) ≡ length (lengthsOf (r .proofs)) = counts (r .proofs) in
-    let t : encodeTotal (slotsOf (r .proofs)) (bytesOf (r .proofs)) ≡ length s = lent-total r ∙ ap length (witness-back s b h) in
+    let n : length (proofSlots (r .proofs)) ≡ length (r .proofs) = length-slots (r .proofs) in
+    let m : length (proofSlots (r .proofs)) ≡ length (proofLengths (r .proofs)) = counts (r .proofs) in
+    let t : encodeTotal (proofSlots (r .proofs)) (proofsPayload (r .proofs)) ≡ length s = lent-total r ∙ ap length (witness-back s b h) in
     record {
       operation = y .operation;
       sequence = y .sequence;
@@ -67,13 +67,13 @@ fits s b h =
     }
 
 -- the writer can be lent what the reading says, and writes it back
-pub witness-writes-back : (s : List ℕ) → Bytes s → Hold (witnessRows s)
+pub witness-writes-back : (s : List ℕ) → Bytes s → AllPass (witnessRows s)
     → let r = witnessReading s in
     let ps = r .proofs in
     WitnessFits r
     × WritesBack
-    (witnessWritten (r .operation) (slotsOf ps) (lengthsOf ps) (bytesOf ps))
-    (witnessStored (r .operation) (r .sequence) (slotsOf ps) (lengthsOf ps) (bytesOf ps))
+    (witnessWritten (r .operation) (proofSlots ps) (proofLengths ps) (proofsPayload ps))
+    (witnessStored (r .operation) (r .sequence) (proofSlots ps) (proofLengths ps) (proofsPayload ps))
     s
 unfolding witnessWritten witnessStored encodeFault
 witness-writes-back s b h =
@@ -81,11 +81,11 @@ witness-writes-back s b h =
     let ps = r .proofs in
     let back = ap witnessBytes (from-reading r) ∙ witness-back s b h in
     let total = lent-total r ∙ ap length (witness-back s b h) in
-    (fits s b h, writes-back (encodeRows (r .operation) (slotsOf ps) (lengthsOf ps) (bytesOf ps)) (witnessBytes (readingFrom (r .operation) (r .sequence) (slotsOf ps) (lengthsOf ps) (bytesOf ps))) (encodeTotal (slotsOf ps) (bytesOf ps)) s (lent-hold s b h) back total)
+    (fits s b h, writes-back (witnessWriterRows (r .operation) (proofSlots ps) (proofLengths ps) (proofsPayload ps)) (witnessBytes (witnessFrom (r .operation) (r .sequence) (proofSlots ps) (proofLengths ps) (proofsPayload ps))) (encodeTotal (proofSlots ps) (proofsPayload ps)) s (lent-hold s b h) back total)
 
 -- a witness lock is accepted exactly where it is the written form of a reading that the writer takes
 pub witness-written : (s : List ℕ) → Bytes s
-    → Hold (witnessRows s)
-    ↔ ((r : WitnessReading) × WitnessTyped r × Hold (encodeRows (r .operation) (slotsOf (r .proofs)) (lengthsOf (r .proofs)) (bytesOf (r .proofs))) × (witnessBytes r ≡ s))
+    → AllPass (witnessRows s)
+    ↔ ((r : WitnessReading) × WitnessTyped r × AllPass (witnessWriterRows (r .operation) (proofSlots (r .proofs)) (proofLengths (r .proofs)) (proofsPayload (r .proofs))) × (witnessBytes r ≡ s))
 witness-written s b =
-    (λ h. (witnessReading s, witness-typed s b h, lent-hold s b h, witness-back s b h), λ w. subst (λ (x : List ℕ). Hold (witnessRows x)) (w .3) (written-accepted (w .0) (w .1) (w .2)))
+    (λ h. (witnessReading s, witness-typed s b h, lent-hold s b h, witness-back s b h), λ w. subst (λ (x : List ℕ). AllPass (witnessRows x)) (w .3) (written-accepted (w .0) (w .1) (w .2)))

@@ -10,15 +10,15 @@ use borrow.Author.Tests.{leb-true, le-leb, eq-eqb}
 use lib.ListN.{length, length-append}
 use Rattle.octets.specs.Le.{numberAt}
 use Rattle.octets.specs.Lists.{both, joined}
-use Rattle.octets.specs.Table.{numbers, numbersAt, valueOf}
-use Rattle.octets.proofs.TableLaws.{length-numbers}
-use Rattle.protocol.specs.Rows.{Hold}
-use Rattle.protocol.proofs.Hold.{hold-append}
-use Rattle.account_witness.specs.Header.{headerRows, headerTable}
-use Rattle.account_witness.specs.Walk.{proofRows, proofsRows}
+use Rattle.octets.specs.Layout.{layoutBytes, layoutAt, fieldValue}
+use Rattle.octets.proofs.LayoutLaws.{length-numbers}
+use Rattle.protocol.specs.Rows.{AllPass}
+use Rattle.protocol.proofs.AllPass.{all-pass-append}
+use Rattle.account_witness.specs.Header.{witnessHeaderRows, witnessHeaderFields}
+use Rattle.account_witness.specs.Walk.{proofLayoutRows, proofsLayoutRows}
 use Rattle.account_witness.specs.Witness.{witnessRows}
-use Rattle.account_witness.specs.Reading.{ProofReading, WitnessReading, proofTable, proofBytes, proofsBytes, witnessBytes, ProofTyped, ProofsTyped, WitnessTyped}
-use Rattle.account_witness_writer.specs.Encode.{filled, rising, encodeTotal, lentRows, encodeRows, slotsOf, lengthsOf, bytesOf}
+use Rattle.account_witness.specs.Reading.{ProofReading, WitnessReading, proofFields, proofBytes, proofsBytes, witnessBytes, ProofTyped, ProofsTyped, WitnessTyped}
+use Rattle.account_witness_writer.specs.Encode.{filled, rising, encodeTotal, lentRows, witnessWriterRows, proofSlots, proofLengths, proofsPayload}
 use Rattle.account_witness_writer.proofs.Lent.{length-slots, lent-total}
 use Rattle.account_witness.proofs.Unique.{length-proof, table-read, len-read, header-read}
 
@@ -28,12 +28,12 @@ both-true false b h = absurd (let z : _≡_ {A = ℕ} 0 1 = cc in omega arith)
 
 -- a proof that is not empty, with a slot of at least `least`, wherever it stands
 proof-rows : (s p t : List ℕ) (off least : ℕ) (q : ProofReading) → ProofTyped q → s ≡ p ++ (proofBytes q ++ t) → length p ≡ off
-    → 1 ≤ length (q .bytes) → least ≤ q .slot → Hold (proofRows s off least)
-unfolding proofRows proofTable numbersAt
+    → 1 ≤ length (q .bytes) → least ≤ q .slot → AllPass (proofLayoutRows s off least)
+unfolding proofLayoutRows proofFields layoutAt
 proof-rows s p t off least q y e l some above =
     let r = table-read s p t off q y e l in
-    let v : numberAt s off 2 ≡ q .slot = ap (valueOf 0) r in
-    let z : numberAt s (off + 2) 2 ≡ 0 = ap (valueOf 1) r in
+    let v : numberAt s off 2 ≡ q .slot = ap (fieldValue 0) r in
+    let z : numberAt s (off + 2) 2 ≡ 0 = ap (fieldValue 1) r in
     let n : numberAt s (off + 4) 4 ≡ length (q .bytes) = len-read s p t off q y e l in
     let m : length s ≡ length p + (length (proofBytes q) + length t) = ap length e ∙ simp length-append in
     let k : length (proofBytes q) ≡ 8 + length (q .bytes) = length-proof q in
@@ -45,8 +45,8 @@ proof-rows s p t off least q y e l some above =
 
 -- proofs one behind another, to the end
 proofs-rows : (qs : List ProofReading) (s p : List ℕ) (off least : ℕ) → ProofsTyped qs → s ≡ p ++ proofsBytes qs → length p ≡ off
-    → filled (lengthsOf qs) ≡ true → rising least (slotsOf qs) ≡ true → Hold (proofsRows s (length qs) off least)
-unfolding proofsRows proofsBytes joined filled rising lengthsOf slotsOf proofTable numbersAt
+    → filled (proofLengths qs) ≡ true → rising least (proofSlots qs) ≡ true → AllPass (proofsLayoutRows s (length qs) off least)
+unfolding proofsLayoutRows proofsBytes joined filled rising proofLengths proofSlots proofFields layoutAt
 proofs-rows [] s p off least y e l f g =
     let n : off ≡ length s = sym l ∙ (sym (ap length (append-nil p)) ∙ sym (ap length e)) in
     (eq-eqb _ _ n, tt)
@@ -56,31 +56,31 @@ proofs-rows (q ∷ qs) s p off least y e l f g =
     let t = proofsBytes qs in
     let e₂ : s ≡ (p ++ proofBytes q) ++ proofsBytes qs = e ∙ simp append-assoc in
     let n : numberAt s (off + 4) 4 ≡ length (q .bytes) = len-read s p t off q (y .0) e l in
-    let v : numberAt s off 2 ≡ q .slot = ap (valueOf 0) (table-read s p t off q (y .0) e l) in
+    let v : numberAt s off 2 ≡ q .slot = ap (fieldValue 0) (table-read s p t off q (y .0) e l) in
     let l₂ : length (p ++ proofBytes q) ≡ off + 8 + length (q .bytes) = rw (length-append p (proofBytes q), l, length-proof q, add-assoc) in
-    hold-append (proofRows s off least) _ (proof-rows s p t off least q (y .0) e l (leb-true _ _ (f₂ .0)) (leb-true _ _ (g₂ .0)))
+    all-pass-append (proofLayoutRows s off least) _ (proof-rows s p t off least q (y .0) e l (leb-true _ _ (f₂ .0)) (leb-true _ _ (g₂ .0)))
     (rw (n, v) (proofs-rows qs s (p ++ proofBytes q) (off + 8 + length (q .bytes)) (q .slot + 1) (y .1) e₂ l₂ (f₂ .1) (g₂ .1)))
 
 -- the whole
 pub written-accepted : (r : WitnessReading) → WitnessTyped r
-    → Hold (encodeRows (r .operation) (slotsOf (r .proofs)) (lengthsOf (r .proofs)) (bytesOf (r .proofs))) → Hold (witnessRows (witnessBytes r))
-unfolding witnessRows headerRows encodeRows lentRows witnessBytes headerTable numbersAt
+    → AllPass (witnessWriterRows (r .operation) (proofSlots (r .proofs)) (proofLengths (r .proofs)) (proofsPayload (r .proofs))) → AllPass (witnessRows (witnessBytes r))
+unfolding witnessRows witnessHeaderRows witnessWriterRows lentRows witnessBytes witnessHeaderFields layoutAt
 written-accepted r y h =
     let ps = r .proofs in
-    let x = headerTable (r .operation) (length ps) (r .sequence) in
+    let x = witnessHeaderFields (r .operation) (length ps) (r .sequence) in
     let s = witnessBytes r in
     let t = header-read r y in
-    let total : encodeTotal (slotsOf ps) (bytesOf ps) ≡ length s = lent-total r in
-    let count : numberAt s 6 1 ≡ length ps = ap (valueOf 3) t in
-    let few : length (slotsOf ps) ≤ 16 = leb-true _ _ (h .1 .1 .1 .0) in
-    let most : encodeTotal (slotsOf ps) (bytesOf ps) ≤ 131072 = leb-true _ _ (h .1 .1 .1 .1 .1 .0) in
-    let slots : length (slotsOf ps) ≡ length ps = length-slots ps in
+    let total : encodeTotal (proofSlots ps) (proofsPayload ps) ≡ length s = lent-total r in
+    let count : numberAt s 6 1 ≡ length ps = ap (fieldValue 3) t in
+    let few : length (proofSlots ps) ≤ 16 = leb-true _ _ (h .1 .1 .1 .0) in
+    let most : encodeTotal (proofSlots ps) (proofsPayload ps) ≤ 131072 = leb-true _ _ (h .1 .1 .1 .1 .1 .0) in
+    let slots : length (proofSlots ps) ≡ length ps = length-slots ps in
     let a : 16 ≤ length s = omega arith in
     let b : length s ≤ 131072 = omega arith in
     let c : numberAt s 6 1 ≤ 16 = omega arith in
-    let magic = eq-eqb _ _ (ap (valueOf 0) t) in
-    let version = eq-eqb _ _ (ap (valueOf 1) t) in
-    let operation : numberAt s 5 1 ≡ r .operation = ap (valueOf 2) t in
-    let zeros = eq-eqb _ _ (ap (valueOf 4) t) in
-    let proofs = proofs-rows ps s (numbers x) 16 0 (y .proofs) refl (length-numbers x) (h .1 .1 .1 .1 .0) (h .1 .1 .1 .1 .1 .1 .0) in
+    let magic = eq-eqb _ _ (ap (fieldValue 0) t) in
+    let version = eq-eqb _ _ (ap (fieldValue 1) t) in
+    let operation : numberAt s 5 1 ≡ r .operation = ap (fieldValue 2) t in
+    let zeros = eq-eqb _ _ (ap (fieldValue 4) t) in
+    let proofs = proofs-rows ps s (layoutBytes x) 16 0 (y .proofs) refl (length-numbers x) (h .1 .1 .1 .1 .0) (h .1 .1 .1 .1 .1 .1 .0) in
     (le-leb _ _ a, (le-leb _ _ b, (magic, (version, (rw operation (h .1 .1 .0), (zeros, (le-leb _ _ c, rw count proofs)))))))

@@ -19,15 +19,15 @@ sum [] = 0
 sum (n ∷ ns) = n + sum ns
 
 -- the proofs that the slices lend: each takes its length of the bytes that are left
-unfoldable pub proofsFrom : List ℕ → List ℕ → List ℕ → List ProofReading
-proofsFrom [] lengths bytes = []
-proofsFrom (slot ∷ slots) [] bytes = []
-proofsFrom (slot ∷ slots) (len ∷ lengths) bytes =
-    record { slot = slot; bytes = take len bytes } ∷ proofsFrom slots lengths (drop len bytes)
+unfoldable pub lentProofs : List ℕ → List ℕ → List ℕ → List ProofReading
+lentProofs [] lengths bytes = []
+lentProofs (slot ∷ slots) [] bytes = []
+lentProofs (slot ∷ slots) (len ∷ lengths) bytes =
+    record { slot = slot; bytes = take len bytes } ∷ lentProofs slots lengths (drop len bytes)
 
-unfoldable pub readingFrom : ℕ → ℕ → List ℕ → List ℕ → List ℕ → WitnessReading
-readingFrom operation sequence slots lengths bytes =
-    record { operation = operation; sequence = sequence; proofs = proofsFrom slots lengths bytes }
+unfoldable pub witnessFrom : ℕ → ℕ → List ℕ → List ℕ → List ℕ → WitnessReading
+witnessFrom operation sequence slots lengths bytes =
+    record { operation = operation; sequence = sequence; proofs = lentProofs slots lengths bytes }
 
 -- no proof is empty
 unfoldable pub filled : List ℕ → Bool
@@ -53,8 +53,8 @@ lentRows slots lengths bytes =
 
 -- 01: "slices that don't agree with each other are 7, before all else. Then writers refuse as in the Rust"; "Operation outside
 -- 1 to 3 is 37 in them."
-unfoldable pub encodeRows : ℕ → List ℕ → List ℕ → List ℕ → List Row
-encodeRows operation slots lengths bytes =
+unfoldable pub witnessWriterRows : ℕ → List ℕ → List ℕ → List ℕ → List Row
+witnessWriterRows operation slots lengths bytes =
     row (eqb (length slots) (length lengths)) SlicesDisagree
     ∷ row (eqb (sum lengths) (length bytes)) SlicesDisagree
     ∷ row (isOperation operation) InvalidOperation
@@ -64,7 +64,7 @@ encodeRows operation slots lengths bytes =
 -- 01: "then with 5 if the buffer is short"
 unfoldable pub encodeFault : ℕ → List ℕ → List ℕ → List ℕ → ℕ → Check
 encodeFault operation slots lengths bytes room =
-    writeFault (encodeRows operation slots lengths bytes) (encodeTotal slots bytes) room
+    writeFault (witnessWriterRows operation slots lengths bytes) (encodeTotal slots bytes) room
 
 -- what the writer answers, and the buffer afterwards
 unfoldable pub witnessWritten : ℕ → List ℕ → List ℕ → List ℕ → List ℕ → WriteAnswer
@@ -73,24 +73,24 @@ witnessWritten operation slots lengths bytes out =
 
 unfoldable pub witnessStored : ℕ → ℕ → List ℕ → List ℕ → List ℕ → List ℕ → List ℕ
 witnessStored operation sequence slots lengths bytes out =
-    afterWrite (encodeFault operation slots lengths bytes (length out)) (witnessBytes (readingFrom operation sequence slots lengths bytes)) out
+    afterWrite (encodeFault operation slots lengths bytes (length out)) (witnessBytes (witnessFrom operation sequence slots lengths bytes)) out
 
 -- the slices that lend these proofs
-unfoldable pub slotsOf : List ProofReading → List ℕ
-slotsOf ps = map (λ (p : ProofReading). p .slot) ps
+unfoldable pub proofSlots : List ProofReading → List ℕ
+proofSlots ps = map (λ (p : ProofReading). p .slot) ps
 
-unfoldable pub lengthsOf : List ProofReading → List ℕ
-lengthsOf ps = map (λ (p : ProofReading). length (p .bytes)) ps
+unfoldable pub proofLengths : List ProofReading → List ℕ
+proofLengths ps = map (λ (p : ProofReading). length (p .bytes)) ps
 
-unfoldable pub bytesOf : List ProofReading → List ℕ
-bytesOf ps = joined (map (λ (p : ProofReading). p .bytes) ps)
+unfoldable pub proofsPayload : List ProofReading → List ℕ
+proofsPayload ps = joined (map (λ (p : ProofReading). p .bytes) ps)
 
 -- what a reading lends the writer are values of the types of its parameters: u8, u64, and slices of u16, u32 and bytes whose lengths a
 -- usize holds
 pub record WitnessFits (r : WitnessReading) : Type 0 where
   pub operation : r .operation < 2 ^ 8
   pub sequence : r .sequence < 2 ^ 64
-  pub slots : (i : ℕ) → getD (slotsOf (r .proofs)) i 0 < 2 ^ 16
-  pub lengths : (i : ℕ) → getD (lengthsOf (r .proofs)) i 0 < 2 ^ 32
-  pub bytes : Bytes (bytesOf (r .proofs))
-  pub counts : (length (slotsOf (r .proofs)) < 2 ^ 64) × (length (lengthsOf (r .proofs)) < 2 ^ 64) × (length (bytesOf (r .proofs)) < 2 ^ 64)
+  pub slots : (i : ℕ) → getD (proofSlots (r .proofs)) i 0 < 2 ^ 16
+  pub lengths : (i : ℕ) → getD (proofLengths (r .proofs)) i 0 < 2 ^ 32
+  pub bytes : Bytes (proofsPayload (r .proofs))
+  pub counts : (length (proofSlots (r .proofs)) < 2 ^ 64) × (length (proofLengths (r .proofs)) < 2 ^ 64) × (length (proofsPayload (r .proofs)) < 2 ^ 64)

@@ -8,9 +8,9 @@ use Rattle.octets.specs.Le.{toLe, numberAt}
 use Rattle.blake2b.specs.State.{fedAll}
 use Rattle.blake2b.specs.declared.Blake2b.{Blake2b}
 use Rattle.blake2b.proofs.Feed.{fed-append}
-use Rattle.protocol.specs.Rows.{Hold}
+use Rattle.protocol.specs.Rows.{AllPass}
 use Rattle.protocol.specs.declared.error.ProtocolError.the-variants.{InvalidWitness}
-use Rattle.protocol.proofs.Hold.{hold-passed}
+use Rattle.protocol.proofs.AllPass.{all-pass-passed}
 use Rattle.molecule.specs.Table3.{tableRows}
 use Rattle.molecule.specs.Canonical.{canonicalOf}
 use Rattle.molecule.proofs.Form.{Passes}
@@ -27,6 +27,6 @@ parts-fed hash s z =
     (fed-append (fedAll hash n) (take 20 (canonicalOf s)) (drop (numberAt s 8 4) s) ∙ rw (canonical-whole s z) (fed-append hash n (canonicalOf s)))
 
 -- a witness whose table passes is fed
-pub table-fed : (hash : Blake2b) (s : List ℕ) → Hold (tableRows InvalidWitness s) → canonicalFed hash s .hash ≡ fedAll hash (hashedWitness (canonicalOf s))
+pub table-fed : (hash : Blake2b) (s : List ℕ) → AllPass (tableRows InvalidWitness s) → canonicalFed hash s .hash ≡ fedAll hash (hashedWitness (canonicalOf s))
 unfolding canonicalFed fedAnswer
-table-fed hash s h = rw (hold-passed (tableRows InvalidWitness s) h)
+table-fed hash s h = rw (all-pass-passed (tableRows InvalidWitness s) h)

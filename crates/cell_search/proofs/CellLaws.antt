@@ -14,7 +14,7 @@ use denote.Enum.Declared.{tagOf, declared}
 use Rattle.octets.specs.Lists.{same}
 use Rattle.octets.specs.Places.{bytesAt}
 use Rattle.scene_table.specs.Scene.{Cell, Input}
-use Rattle.scene_table.specs.Lent.{lentScene}
+use Rattle.scene_table.specs.Lent.{sceneIn}
 use Rattle.scene_table.specs.Places as places
 use Rattle.scene_table.proofs.Rows.{Listed, listed}
 use Rattle.scene_table.proofs.PlaceLaws.{lentInput, lent-given}
@@ -23,8 +23,8 @@ use Rattle.cell_search.specs.declared.cells.Source.the-variants as sourc
 use Rattle.cell_search.specs.declared.cells.CellField.{CellField}
 use Rattle.cell_search.specs.declared.search.Search.{Search}
 use Rattle.cell_search.specs.declared.search.Search.the-variants.{Missing, One, Several}
-use Rattle.cell_search.specs.Search.{cellsOf, hashOf, matching, searchOf, isMissing, isOne, isSeveral, cellAt, noCell}
-use Rattle.cell_search.specs.Cells.{cellCount, cellPlaces, noPlaces, placesWithin}
+use Rattle.cell_search.specs.Search.{cellsOf, cellHash, matching, searchOf, isMissing, isOne, isSeveral, cellAt, noCell}
+use Rattle.cell_search.specs.Cells.{cellCount, sourcePlaces, noPlaces, placesWithin}
 use Rattle.cell_search.proofs.search.Search.{enum}
 
 map-nth : {A B : Type 0} (f : A → B) (l : List A) (i : ℕ) (d : B) (a : A) → i < length l → getD (map f l) i d ≡ f (getD l i a)
@@ -37,34 +37,34 @@ map-listed f l n g h =
     listed (map f l) n (λ i. f (g i)) (length-map l f ∙ h .long)
     (λ i d k. map-nth f l i d (g i) (rw (h .long) k) ∙ ap f (h .nth i (g i) k))
 
--- the cells of a list are the table's rows
+-- the cells of a list are the table's records
 pub cells-listed : (from : Source) (table store : List ℕ)
-    → Listed (cellsOf from (lentScene table store)) (cellCount from table) (λ i. places.cellAt store (cellPlaces from table i))
-unfolding cellsOf cellCount cellPlaces lentInput
+    → Listed (cellsOf from (sceneIn table store)) (cellCount from table) (λ i. places.cellIn store (sourcePlaces from table i))
+unfolding cellsOf cellCount sourcePlaces lentInput
 cells-listed source.Input table store =
-    map-listed (λ (i : Input). i .cell) (lentScene table store .inputs) _ (lentInput table store) (lent-given table store .inputs)
+    map-listed (λ (i : Input). i .cell) (sceneIn table store .inputs) _ (lentInput table store) (lent-given table store .inputs)
 cells-listed source.Output table store = lent-given table store .outputs
 cells-listed source.CellDep table store = lent-given table store .deps
 
 module _ (from : Source) (table store : List ℕ) (i : ℕ) where
-  -- a cell of the list is the table's row
+  -- a cell of the list is the table's record
   pub cell-there : i < cellCount from table
-      → cellAt (cellsOf from (lentScene table store)) i ≡ places.cellAt store (cellPlaces from table i)
+      → cellAt (cellsOf from (sceneIn table store)) i ≡ places.cellIn store (sourcePlaces from table i)
   unfolding cellAt
   cell-there h = cells-listed from table store .nth i noCell h
 
   -- behind the last there is none
-  pub cell-missing : cellCount from table ≤ i → cellAt (cellsOf from (lentScene table store)) i ≡ noCell
+  pub cell-missing : cellCount from table ≤ i → cellAt (cellsOf from (sceneIn table store)) i ≡ noCell
   unfolding cellAt
-  cell-missing h = List·getD-eq-default (cellsOf from (lentScene table store)) noCell (rw (cells-listed from table store .long) h)
+  cell-missing h = List·getD-eq-default (cellsOf from (sceneIn table store)) noCell (rw (cells-listed from table store .long) h)
 
   -- either way it is what stands at its places
-  pub cell-within : places.cellAt store (placesWithin from table i) ≡ cellAt (cellsOf from (lentScene table store)) i
-  unfolding placesWithin noPlaces noCell places.cellAt bytesAt places.placeOf
+  pub cell-within : places.cellIn store (placesWithin from table i) ≡ cellAt (cellsOf from (sceneIn table store)) i
+  unfolding placesWithin noPlaces noCell places.cellIn bytesAt places.placeAt
   cell-within = go (ltb i (cellCount from table)) refl
     where
       go : (b : Bool) → ltb i (cellCount from table) ≡ b
-          → places.cellAt store (cond b (cellPlaces from table i) noPlaces) ≡ cellAt (cellsOf from (lentScene table store)) i
+          → places.cellIn store (cond b (sourcePlaces from table i) noPlaces) ≡ cellAt (cellsOf from (sceneIn table store)) i
       go true e = sym (cell-there (ltb-true i (cellCount from table) e))
       go false e = sym (cell-missing (ltb-false i (cellCount from table) e))
 
@@ -73,11 +73,11 @@ unfoldable pub matchFrom : CellField → List ℕ → List Cell → ℕ → List
 matchFrom f hash cells k = matching f hash k (drop k cells)
 
 module _ (f : CellField) (hash : List ℕ) {cells : List Cell} {n : ℕ} {g : ℕ → Cell} (l : Listed cells n g) (k : ℕ) where
-  pub match-yes : k < n → same (hashOf f (g k)) hash ≡ true → matchFrom f hash cells k ≡ k ∷ matchFrom f hash cells (k + 1)
+  pub match-yes : k < n → same (cellHash f (g k)) hash ≡ true → matchFrom f hash cells k ≡ k ∷ matchFrom f hash cells (k + 1)
   unfolding matchFrom matching
   match-yes h e = rw (l .turn k h, e)
 
-  pub match-no : k < n → same (hashOf f (g k)) hash ≡ false → matchFrom f hash cells k ≡ matchFrom f hash cells (k + 1)
+  pub match-no : k < n → same (cellHash f (g k)) hash ≡ false → matchFrom f hash cells k ≡ matchFrom f hash cells (k + 1)
   unfolding matchFrom matching
   match-no h e = rw (l .turn k h, e)
 

@@ -17,15 +17,15 @@ cellsOf source.Input s = map (λ (i : Input). i .cell) (s .inputs)
 cellsOf source.Output s = s .outputs
 cellsOf source.CellDep s = s .deps
 
-unfoldable pub hashOf : CellField → Cell → List ℕ
-hashOf field.TypeHash c = c .typeHash
-hashOf field.DataHash c = c .dataHash
+unfoldable pub cellHash : CellField → Cell → List ℕ
+cellHash field.TypeHash c = c .typeHash
+cellHash field.DataHash c = c .dataHash
 
 -- the places, counted from k, of the cells whose hash this is; a hash has 32 bytes, so a cell without a type script has no
 -- place by its type hash
 unfoldable pub matching : CellField → List ℕ → ℕ → List Cell → List ℕ
 matching f hash k [] = []
-matching f hash k (c ∷ cs) = cond (same (hashOf f c) hash) (k ∷ matching f hash (k + 1) cs) (matching f hash (k + 1) cs)
+matching f hash k (c ∷ cs) = cond (same (cellHash f c) hash) (k ∷ matching f hash (k + 1) cs) (matching f hash (k + 1) cs)
 
 unfoldable pub matches : CellField → List ℕ → List Cell → List ℕ
 matches f hash cells = matching f hash 0 cells
@@ -55,10 +55,10 @@ isSeveral (One k) = false
 isSeveral Several = true
 
 -- the place of the one cell, 0 where there is none or several
-abbrev pub placeOf : Search → ℕ
-placeOf Missing = 0
-placeOf (One k) = k
-placeOf Several = 0
+abbrev pub indexOf : Search → ℕ
+indexOf Missing = 0
+indexOf (One k) = k
+indexOf Several = 0
 
 -- the cell at a place
 unfoldable pub noCell : Cell

@@ -9,10 +9,10 @@ use scene_table::input_count;
 use scene_table::output_cell;
 use scene_table::output_count;
 ghost use mathlib.Core.Path.{_≡_};
-ghost use Rattle.scene_table.specs.Lent.{lentScene};
+ghost use Rattle.scene_table.specs.Lent.{sceneIn};
 ghost use Rattle.scene_table.specs.Places as places;
-ghost use Rattle.cell_search.specs.Search.{cellsOf, cellAt, hashOf};
-ghost use Rattle.cell_search.specs.Cells.{cellCount, cellPlaces, placesWithin};
+ghost use Rattle.cell_search.specs.Search.{cellsOf, cellAt, cellHash};
+ghost use Rattle.cell_search.specs.Cells.{cellCount, sourcePlaces, placesWithin};
 
 // Which list of the transaction.
 pub enum Source {
@@ -38,7 +38,7 @@ pub(crate) fn cell_count(table: &[u32], source: Source) -> u32
 }
 
 fn cell_places(table: &[u32], source: Source, i: u32) -> CellPlaces
-    ensures { λ r. ⌜ r ≡ cellPlaces source (now (table .entry)) i ⌝ }
+    ensures { λ r. ⌜ r ≡ sourcePlaces source (now (table .entry)) i ⌝ }
 {
     match source {
         Source::Input => input_cell(table, i),
@@ -47,7 +47,7 @@ fn cell_places(table: &[u32], source: Source, i: u32) -> CellPlaces
     }
 }
 
-// A hash of the cell whose row is there.
+// A hash of the cell whose record is there.
 pub(crate) fn cell_hash<'a>(
     table: &[u32],
     store: &'a [u8],
@@ -55,7 +55,7 @@ pub(crate) fn cell_hash<'a>(
     field: CellField,
     i: u32,
 ) -> &'a [u8]
-    ensures { λ r. ⌜ now r ≡ hashOf field (places.cellAt (now (store .entry)) (cellPlaces source (now (table .entry)) i)) ⌝ }
+    ensures { λ r. ⌜ now r ≡ cellHash field (places.cellIn (now (store .entry)) (sourcePlaces source (now (table .entry)) i)) ⌝ }
 {
     let places = cell_places(table, source, i);
     match field {
@@ -82,7 +82,7 @@ fn places_within(table: &[u32], source: Source, i: u32) -> CellPlaces
 
 // The data of a cell, nothing where the list has no such cell.
 pub fn cell_content<'a>(table: &[u32], store: &'a [u8], source: Source, i: u32) -> &'a [u8]
-    ensures { λ r. ⌜ now r ≡ cellAt (cellsOf source (lentScene (now (table .entry)) (now (store .entry)))) i .content ⌝ }
+    ensures { λ r. ⌜ now r ≡ cellAt (cellsOf source (sceneIn (now (table .entry)) (now (store .entry)))) i .content ⌝ }
 {
     let places = places_within(table, source, i);
     part(store, places.content.start, places.content.len)
@@ -90,7 +90,7 @@ pub fn cell_content<'a>(table: &[u32], store: &'a [u8], source: Source, i: u32) 
 
 // The type script of a cell, nothing where it has none or the list has no such cell.
 pub fn cell_type_script<'a>(table: &[u32], store: &'a [u8], source: Source, i: u32) -> &'a [u8]
-    ensures { λ r. ⌜ now r ≡ cellAt (cellsOf source (lentScene (now (table .entry)) (now (store .entry)))) i .typeScript ⌝ }
+    ensures { λ r. ⌜ now r ≡ cellAt (cellsOf source (sceneIn (now (table .entry)) (now (store .entry)))) i .typeScript ⌝ }
 {
     let places = places_within(table, source, i);
     part(store, places.type_script.start, places.type_script.len)

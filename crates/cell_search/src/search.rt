@@ -5,10 +5,10 @@ use crate::cells::cell_count;
 use crate::cells::cell_hash;
 use octets::same_bytes;
 ghost use mathlib.Core.Path.{_≡_};
-ghost use Rattle.scene_table.specs.Lent.{lentScene};
-ghost use Rattle.cell_search.specs.Search.{cellsOf, cellSearch, isMissing, isOne, isSeveral, placeOf};
+ghost use Rattle.scene_table.specs.Lent.{sceneIn};
+ghost use Rattle.cell_search.specs.Search.{cellsOf, cellSearch, isMissing, isOne, isSeveral, indexOf};
 
-// None, the place of the one, or several.
+// None, the index of the one, or several.
 pub enum Search {
     Missing,
     One(u32),
@@ -23,7 +23,7 @@ pub fn search_cells(
     field: CellField,
     hash: &[u8],
 ) -> Search
-    ensures { λ r. ⌜ r ≡ cellSearch field (now (hash .entry)) (cellsOf source (lentScene (now (table .entry)) (now (store .entry)))) ⌝ }
+    ensures { λ r. ⌜ r ≡ cellSearch field (now (hash .entry)) (cellsOf source (sceneIn (now (table .entry)) (now (store .entry)))) ⌝ }
 {
     let count = cell_count(table, source);
     let mut found = Search::Missing;
@@ -74,13 +74,13 @@ impl Search {
         }
     }
 
-    // The place of the one, 0 where there is none or several.
-    pub fn place(self) -> u32
-        ensures { λ r. ⌜ r ≡ placeOf self ⌝ }
+    // The index of the one, 0 where there is none or several.
+    pub fn index(self) -> u32
+        ensures { λ r. ⌜ r ≡ indexOf self ⌝ }
     {
         match self {
             Search::Missing => 0,
-            Search::One(place) => place,
+            Search::One(index) => index,
             Search::Several => 0,
         }
     }

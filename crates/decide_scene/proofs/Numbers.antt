@@ -17,7 +17,7 @@ use Rattle.protocol.specs.declared.check.Check.{Check}
 use Rattle.protocol.specs.declared.check.Check.the-variants.{Passed, Failed}
 use Rattle.protocol.proofs.Each.{Each, Refuses, each-append, each-refuses}
 use Rattle.scene_text.specs.Text.{pieces}
-use Rattle.scene_reader.specs.Reader.{Held, Outcome, refused, held, heldAfter, lineRows, rowsOf, linePut, endRows, linesRows, linesPut, start, limitRows, sceneRows, readOf, answerOf}
+use Rattle.scene_reader.specs.Reader.{ReaderState, ReaderOutcome, refused, held, outcomeAfter, lineRows, rowsOfLine, linePut, sceneEndRows, linesRows, linesPut, start, sceneLimitRows, sceneRows, readOf, readerCheck}
 use Rattle.scene_table.specs.Valid.{validTable}
 use Rattle.scene_reading.proofs.Accessors.{left-store-length, reader-leaves-valid}
 use Rattle.account_lock.specs.Lock as lock
@@ -37,28 +37,28 @@ abbrev ReaderError : ProtocolError → Type 0
 ReaderError e = ReaderNumber (errorNumber e)
 
 -- the rows of one line
-line-errors : (h : Held) (line : List ℕ) → Each ReaderError (rowsOf h line)
-unfolding rowsOf lineRows
+line-errors : (h : ReaderState) (line : List ℕ) → Each ReaderError (rowsOfLine h line)
+unfolding rowsOfLine lineRows
 line-errors h line = (inl (omega arith), (inl (omega arith), (inl (omega arith), (inr refl, tt))))
 
 -- of all lines
-lines-errors : (h : Held) (ls : List (List ℕ)) → Each ReaderError (linesRows h ls)
-unfolding linesRows endRows
+lines-errors : (h : ReaderState) (ls : List (List ℕ)) → Each ReaderError (linesRows h ls)
+unfolding linesRows sceneEndRows
 lines-errors h [] = (inl (omega arith), (inl (omega arith), tt))
 lines-errors h (l ∷ []) = (inl (omega arith), (inl (omega arith), tt))
-lines-errors h (l ∷ m ∷ ls) = each-append ReaderError (rowsOf h l) _ (line-errors h l) (lines-errors (linePut h l) (m ∷ ls))
+lines-errors h (l ∷ m ∷ ls) = each-append ReaderError (rowsOfLine h l) _ (line-errors h l) (lines-errors (linePut h l) (m ∷ ls))
 
 -- of a scene
 scene-errors : (scene : List ℕ) (n m : ℕ) → Each ReaderError (sceneRows scene n m)
-unfolding sceneRows limitRows
+unfolding sceneRows sceneLimitRows
 scene-errors scene n m = (inl (omega arith), (inr refl, lines-errors (start n m) (pieces 10 scene)))
 
 -- every number that the reader gives is 0 to 4, or 6
-pub reader-numbers : (scene : List ℕ) (n m : ℕ) → ReaderNumber (checkNumber (answerOf (readOf scene n m)))
+pub reader-numbers : (scene : List ℕ) (n m : ℕ) → ReaderNumber (checkNumber (readerCheck (readOf scene n m)))
 unfolding readOf
 reader-numbers scene n m = go (decide Passed (sceneRows scene n m)) (each-refuses ReaderError (sceneRows scene n m) (scene-errors scene n m))
   where
-    go : (c : Check) → Refuses ReaderError c → ReaderNumber (checkNumber (answerOf (heldAfter c (linesPut (start n m) (pieces 10 scene)))))
+    go : (c : Check) → Refuses ReaderError c → ReaderNumber (checkNumber (readerCheck (outcomeAfter c (linesPut (start n m) (pieces 10 scene)))))
     go Passed f = inl (omega arith)
     go (Failed e) f = f
 
@@ -74,8 +74,8 @@ not-seven n (inr h) q = absurd (omega arith)
 -- ---- a scene read and decided
 
 -- a number that neither the reader gives nor the lock over what the reader holds is not decided
-decided-never : (k room : ℕ) (o : Outcome) → checkNumber (answerOf o) ≢ k
-    → ((h : Held) → o ≡ held h → checkNumber (lock.lockOf (h .table) (h .store) room .found) ≢ k) → checkNumber (decidedBy o room .found) ≢ k
+decided-never : (k room : ℕ) (o : ReaderOutcome) → checkNumber (readerCheck o) ≢ k
+    → ((h : ReaderState) → o ≡ held h → checkNumber (lock.lockOf (h .table) (h .store) room .found) ≢ k) → checkNumber (decidedBy o room .found) ≢ k
 unfolding decidedBy lock.refused
 decided-never k room (refused e) reader locks = reader
 decided-never k room (held h) reader locks = locks h refl
@@ -85,7 +85,7 @@ module _ (scene : List ℕ) (n m room : ℕ) where
   pub decided-never-five : 148992 ≤ room → checkNumber (decided scene n m room .found) ≢ 5
   unfolding decided
   decided-never-five long =
-      decided-never 5 room (readOf scene n m) (not-five (checkNumber (answerOf (readOf scene n m))) (reader-numbers scene n m))
+      decided-never 5 room (readOf scene n m) (not-five (checkNumber (readerCheck (readOf scene n m))) (reader-numbers scene n m))
       (λ h e. lock-never-five (h .table) (h .store) room long)
 
   -- 6 is not given with a store as long as the scene and a table of 2,048 entries
@@ -95,9 +95,9 @@ module _ (scene : List ℕ) (n m room : ℕ) where
       decided-never 6 room (readOf scene n m) (reader-never-six scene n m hn hm) (λ h e. lock-never-six (h .table) (h .store) room)
 
   -- the table of an accepted scene passes the lock's row for 7
-  held-valid : (h : Held) → readOf scene n m ≡ held h → validTable (h .table) (length (h .store)) ≡ true
+  held-valid : (h : ReaderState) → readOf scene n m ≡ held h → validTable (h .table) (length (h .store)) ≡ true
   held-valid h e =
-      let p : answerOf (readOf scene n m) ≡ Passed = ap answerOf e in
+      let p : readerCheck (readOf scene n m) ≡ Passed = ap readerCheck e in
       let long : length (h .store) ≡ n = rw e at (left-store-length scene n m p) in
       rw long (rw e at (reader-leaves-valid scene n m p))
 
@@ -105,7 +105,7 @@ module _ (scene : List ℕ) (n m room : ℕ) where
   pub decided-never-seven : checkNumber (decided scene n m room .found) ≢ 7
   unfolding decided
   decided-never-seven =
-      decided-never 7 room (readOf scene n m) (not-seven (checkNumber (answerOf (readOf scene n m))) (reader-numbers scene n m))
+      decided-never 7 room (readOf scene n m) (not-seven (checkNumber (readerCheck (readOf scene n m))) (reader-numbers scene n m))
       (λ h e q. true-false (held-valid h e) (lock-seven (h .table) (h .store) room .0 q))
     where
       true-false : {b : Bool} → b ≡ true → b ≡ false → ⊥

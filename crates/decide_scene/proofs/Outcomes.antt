@@ -9,28 +9,28 @@ use Rattle.protocol.specs.declared.error.ProtocolError.{ProtocolError}
 use Rattle.protocol.specs.declared.error.ProtocolError.the-variants.{SceneTooLong}
 use Rattle.protocol.specs.declared.check.Check.the-variants.{Passed, Failed}
 use Rattle.protocol.specs.Rows.{checkNumber}
-use Rattle.protocol.proofs.Hold.{failed-passed}
-use Rattle.scene_reader.specs.Reader.{Outcome, refused, held, readOf, answerOf, storeOf, tableOf}
+use Rattle.protocol.proofs.AllPass.{failed-passed}
+use Rattle.scene_reader.specs.Reader.{ReaderOutcome, refused, held, readOf, readerCheck, readerStore, readerTable}
 use Rattle.account_lock.specs.declared.answer.LockAnswer.{LockAnswer}
 use Rattle.account_lock.specs.Lock as lock
 use Rattle.answer_line.specs.Line.{lineOf}
 use Rattle.decide_scene.specs.Decided.{decidedBy, decided, programDecides, resultLine}
 
 -- the reader refuses
-pub refused-decides : (o : Outcome) (e : ProtocolError) (room : ℕ) → answerOf o ≡ Failed e → decidedBy o room ≡ lock.refused (Failed e)
+pub refused-decides : (o : ReaderOutcome) (e : ProtocolError) (room : ℕ) → readerCheck o ≡ Failed e → decidedBy o room ≡ lock.refused (Failed e)
 unfolding decidedBy
 refused-decides (refused d) e room h = ap lock.refused h
 refused-decides (held x) e room h = failed-passed e (sym h)
 
 -- the reader accepts
-pub held-decides : (o : Outcome) (n m room : ℕ) → answerOf o ≡ Passed → decidedBy o room ≡ lock.lockOf (tableOf m o) (storeOf n o) room
+pub held-decides : (o : ReaderOutcome) (n m room : ℕ) → readerCheck o ≡ Passed → decidedBy o room ≡ lock.lockOf (readerTable m o) (readerStore n o) room
 unfolding decidedBy
 held-decides (refused d) n m room h = failed-passed d h
 held-decides (held x) n m room h = refl
 
 -- the line of an answer
-pub told-line : (a : LockAnswer) (r : lock.Result) → a ≡ lock.told r → lineOf (checkNumber (a .found)) (a .count) (a .length) (a .reached) (a .digest) ≡ resultLine r
-unfolding resultLine lock.told
+pub told-line : (a : LockAnswer) (r : lock.Result) → a ≡ lock.answerOf r → lineOf (checkNumber (a .found)) (a .count) (a .length) (a .reached) (a .digest) ≡ resultLine r
+unfolding resultLine lock.answerOf
 told-line a r e = rw e
 
 -- a scene that is too long for the program
@@ -39,8 +39,8 @@ unfolding programDecides
 long-decides scene h = rw (lt-ltb 65536 (length scene) h)
 
 -- a scene that is not, decided with buffers as long as the program's
-pub short-answers : (scene : List ℕ) (n m room : ℕ) {a : LockAnswer} → a ≡ lock.told (decided scene n m room) → length scene ≤ 65536
-    → n ≡ 65536 → m ≡ 2048 → room ≡ 148992 → a ≡ lock.told (programDecides scene)
+pub short-answers : (scene : List ℕ) (n m room : ℕ) {a : LockAnswer} → a ≡ lock.answerOf (decided scene n m room) → length scene ≤ 65536
+    → n ≡ 65536 → m ≡ 2048 → room ≡ 148992 → a ≡ lock.answerOf (programDecides scene)
 unfolding programDecides
 short-answers scene n m room e h store table answer =
     rw (le-ltb 65536 (length scene) h, ← store, ← table, ← answer) e

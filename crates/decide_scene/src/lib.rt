@@ -13,9 +13,9 @@ ghost use lib.ListN.{length};
 ghost use lib.Seq.{sets};
 ghost use Rattle.octets.specs.Lists.{arrayOf};
 ghost use Rattle.protocol.specs.Rows.{checkNumber};
-ghost use Rattle.scene_reader.specs.Reader.{readOf, storeOf, tableOf};
+ghost use Rattle.scene_reader.specs.Reader.{readOf, readerStore, readerTable};
 ghost use Rattle.decision.specs.Walk.{answered};
-ghost use Rattle.account_lock.specs.Lock.{told};
+ghost use Rattle.account_lock.specs.Lock.{answerOf};
 ghost use Rattle.answer_line.specs.Line.{lineOf};
 ghost use Rattle.decide_scene.specs.Decided.{decided, programDecides, programLine};
 
@@ -35,9 +35,9 @@ pub fn decide_scene(
     table: &mut [u32],
     answer: &mut [u8],
 ) -> LockAnswer
-    ensures { λ r. ⌜ r ≡ told (decided (now (scene .entry)) (length (now (store .entry))) (length (now (table .entry))) (length (now (answer .entry)))) ⌝ }
-    ensures { λ _. ⌜ now (store .exit) ≡ storeOf (length (now (store .entry))) (readOf (now (scene .entry)) (length (now (store .entry))) (length (now (table .entry)))) ⌝ }
-    ensures { λ _. ⌜ now (table .exit) ≡ tableOf (length (now (table .entry))) (readOf (now (scene .entry)) (length (now (store .entry))) (length (now (table .entry)))) ⌝ }
+    ensures { λ r. ⌜ r ≡ answerOf (decided (now (scene .entry)) (length (now (store .entry))) (length (now (table .entry))) (length (now (answer .entry)))) ⌝ }
+    ensures { λ _. ⌜ now (store .exit) ≡ readerStore (length (now (store .entry))) (readOf (now (scene .entry)) (length (now (store .entry))) (length (now (table .entry)))) ⌝ }
+    ensures { λ _. ⌜ now (table .exit) ≡ readerTable (length (now (table .entry))) (readOf (now (scene .entry)) (length (now (store .entry))) (length (now (table .entry)))) ⌝ }
     ensures { λ _. ⌜ now (answer .exit) ≡ answered (now (answer .entry)) (decided (now (scene .entry)) (length (now (store .entry))) (length (now (table .entry))) (length (now (answer .entry))) .made) ⌝ }
 {
     match read_scene(scene, store, table) {
@@ -65,7 +65,7 @@ fn put_answer(found: LockAnswer, line: &mut [u8]) -> usize
 
 // What the program decides of a scene, with a store, a table and an answer buffer of its own.
 fn program_answer(scene: &[u8]) -> LockAnswer
-    ensures { λ r. ⌜ r ≡ told (programDecides (now (scene .entry))) ⌝ }
+    ensures { λ r. ⌜ r ≡ answerOf (programDecides (now (scene .entry))) ⌝ }
 {
     if PROGRAM_MAX_LEN < scene.len() {
         return refused(ProtocolError::SceneTooLong);

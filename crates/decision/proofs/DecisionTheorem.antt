@@ -8,28 +8,28 @@ use mathlib.Core.List.{List, []}
 use Prim.Native.Nat.{ℕ}
 use lib.ListN.{length, take}
 use Rattle.octets.specs.Le.{numberAt}
-use Rattle.protocol.specs.Rows.{Hold, checkNumber}
+use Rattle.protocol.specs.Rows.{AllPass, checkNumber}
 use Rattle.protocol.specs.declared.check.Check.the-variants.{Passed}
-use Rattle.account_witness.specs.Walk.{proofsRows}
-use Rattle.decision.specs.Proofs.{Setting, requestsOf}
-use Rattle.decision.specs.Walk.{listed, walk, walkList, walkLock}
+use Rattle.account_witness.specs.Walk.{proofsLayoutRows}
+use Rattle.decision.specs.Proofs.{Context, requestsOf}
+use Rattle.decision.specs.Walk.{proofListOf, walk, walkList, walkLock}
 use Rattle.decision.specs.Decision.{EachPasses, proofsOf, ProofsPass, Quorum}
 use Rattle.decision.proofs.Quorum.{ZeroOr28, zero-or-28, decision, answers, answers-always}
 use Rattle.decision.proofs.Listed.{listed-clean, listed-proofs, listed-rising}
 
 -- where no layout is faulty these are the lock's
-pub listed-of : (lock : List ℕ) → Hold (proofsRows lock (numberAt lock 6 1) 16 0) → listed lock .proofs ≡ proofsOf lock
+pub listed-of : (lock : List ℕ) → AllPass (proofsLayoutRows lock (numberAt lock 6 1) 16 0) → proofListOf lock .proofs ≡ proofsOf lock
 unfolding proofsOf
 listed-of lock h = listed-proofs lock (numberAt lock 6 1) 16 0 h
 
-pub lock-decides : (c : Setting) (lock : List ℕ)
+pub lock-decides : (c : Context) (lock : List ℕ)
     → (walkLock c lock .found ≡ Passed) ↔ (ProofsPass c lock × Quorum c (proofsOf lock))
 unfolding walkLock walkList
 lock-decides c lock = (there, back)
   where
-    decides : (walk c (listed lock .clean) 0 0 [] (listed lock .proofs) .found ≡ Passed)
-        ↔ ((listed lock .clean ≡ true) × EachPasses c 0 0 (listed lock .proofs) × Quorum c (listed lock .proofs))
-    decides = decision c (listed lock .clean) (listed lock .proofs) (listed-rising lock (numberAt lock 6 1) 16 0)
+    decides : (walk c (proofListOf lock .clean) 0 0 [] (proofListOf lock .proofs) .found ≡ Passed)
+        ↔ ((proofListOf lock .clean ≡ true) × EachPasses c 0 0 (proofListOf lock .proofs) × Quorum c (proofListOf lock .proofs))
+    decides = decision c (proofListOf lock .clean) (proofListOf lock .proofs) (listed-rising lock (numberAt lock 6 1) 16 0)
 
     back : ProofsPass c lock × Quorum c (proofsOf lock) → walkLock c lock .found ≡ Passed
     back h =
@@ -45,13 +45,13 @@ lock-decides c lock = (there, back)
         (record { layout = l; each = rw e at (z .1) }, rw e at (z .2))
 
 -- its number is 0 or 28 exactly where every row before the one for 28 passes
-pub lock-zero-or-28 : (c : Setting) (lock : List ℕ) → ZeroOr28 (checkNumber (walkLock c lock .found)) ↔ ProofsPass c lock
+pub lock-zero-or-28 : (c : Context) (lock : List ℕ) → ZeroOr28 (checkNumber (walkLock c lock .found)) ↔ ProofsPass c lock
 unfolding walkLock walkList
 lock-zero-or-28 c lock = (there, back)
   where
-    number : ZeroOr28 (checkNumber (walk c (listed lock .clean) 0 0 [] (listed lock .proofs) .found))
-        ↔ ((listed lock .clean ≡ true) × EachPasses c 0 0 (listed lock .proofs))
-    number = zero-or-28 c (listed lock .clean) (listed lock .proofs)
+    number : ZeroOr28 (checkNumber (walk c (proofListOf lock .clean) 0 0 [] (proofListOf lock .proofs) .found))
+        ↔ ((proofListOf lock .clean ≡ true) × EachPasses c 0 0 (proofListOf lock .proofs))
+    number = zero-or-28 c (proofListOf lock .clean) (proofListOf lock .proofs)
 
     there : ZeroOr28 (checkNumber (walkLock c lock .found)) → ProofsPass c lock
     there h =
@@ -63,15 +63,15 @@ lock-zero-or-28 c lock = (there, back)
     back h = number .1 (listed-clean lock (numberAt lock 6 1) 16 0 .1 (h .layout), rw (listed-of lock (h .layout)) (h .each))
 
 -- where every row before the one for 28 passes: one request for each proof, in order
-pub lock-answers : (c : Setting) (lock : List ℕ) → ProofsPass c lock
+pub lock-answers : (c : Context) (lock : List ℕ) → ProofsPass c lock
     → (walkLock c lock .count ≡ length (proofsOf lock)) × (walkLock c lock .made ≡ requestsOf c (proofsOf lock))
 unfolding walkLock walkList
 lock-answers c lock h =
     let e = listed-of lock (h .layout) in
-    rw (← e) (answers c (listed lock .clean) (listed lock .proofs) (rw e (h .each)))
+    rw (← e) (answers c (proofListOf lock .clean) (proofListOf lock .proofs) (rw e (h .each)))
 
 -- and always: the requests of as many proofs as were counted, a failed verdict's too
-pub lock-answers-always : (c : Setting) (lock : List ℕ)
-    → walkLock c lock .made ≡ requestsOf c (take (walkLock c lock .count) (listed lock .proofs))
+pub lock-answers-always : (c : Context) (lock : List ℕ)
+    → walkLock c lock .made ≡ requestsOf c (take (walkLock c lock .count) (proofListOf lock .proofs))
 unfolding walkLock walkList
-lock-answers-always c lock = answers-always c (listed lock .clean) (listed lock .proofs)
+lock-answers-always c lock = answers-always c (proofListOf lock .clean) (proofListOf lock .proofs)

@@ -20,30 +20,30 @@ use Rattle.protocol.specs.declared.error.ProtocolError.the-variants.{BufferTooS
 use Rattle.protocol.specs.declared.check.Check.{Check}
 use Rattle.protocol.specs.declared.check.Check.the-variants.{Passed, Failed}
 use Rattle.protocol.proofs.ErrorNumbers.{not-0}
-use Rattle.protocol.proofs.Hold.{passed-hold, hold-passed}
+use Rattle.protocol.proofs.AllPass.{passed-all-pass, all-pass-passed}
 use Rattle.protocol.proofs.Each.{Each, Refuses, each-refuses}
 use Rattle.account_witness.specs.Reading.{ProofReading}
-use Rattle.decision.specs.Proofs.{Setting, known, entryFor, capable, limitRows, entryRows, proofRows, requestOf, requestsOf}
-use Rattle.decision.specs.Walk.{Outcome, outcome, verdict, earned, lastRows, orElse, walk}
-use Rattle.decision.specs.Decision.{slots, EachPasses, Approved, weightOf, Quorum}
+use Rattle.decision.specs.Proofs.{Context, known, entryFor, capable, requestLimitRows, authenticatorRows, proofRows, requestOf, requestsOf}
+use Rattle.decision.specs.Walk.{WalkOutcome, walkOutcome, verdict, approvedWeight, lastRows, orElse, walk}
+use Rattle.decision.specs.Decision.{slots, EachPasses, Approved, slotsWeight, Quorum}
 
 -- The three ways on from a proof.
-module _ (c : Setting) (clean : Bool) (i weight : ℕ) (made : List ℕ) (p : ProofReading) (ps : List ProofReading) where
+module _ (c : Context) (clean : Bool) (i weight : ℕ) (made : List ℕ) (p : ProofReading) (ps : List ProofReading) where
   -- a row refuses it,
   pub walk-stops : (e : ProtocolError) → decide Passed (proofRows c (length made) p) ≡ Failed e
-      → walk c clean i weight made (p ∷ ps) ≡ outcome (Failed e) i made
+      → walk c clean i weight made (p ∷ ps) ≡ walkOutcome (Failed e) i made
   unfolding walk orElse
   walk-stops e h = rw h
 
   -- its request was made and its verdict is 2,
   pub walk-fails : decide Passed (proofRows c (length made) p) ≡ Passed → verdict c i ≡ 2
-      → walk c clean i weight made (p ∷ ps) ≡ outcome (Failed VerifierFailure) (i + 1) (made ++ requestOf c p)
+      → walk c clean i weight made (p ∷ ps) ≡ walkOutcome (Failed VerifierFailure) (i + 1) (made ++ requestOf c p)
   unfolding walk orElse
   walk-fails h v = rw (h, eq-eqb (verdict c i) 2 v)
 
   -- or the next proof comes
   pub walk-goes : decide Passed (proofRows c (length made) p) ≡ Passed → verdict c i ≢ 2
-      → walk c clean i weight made (p ∷ ps) ≡ walk c clean (i + 1) (weight + earned c i p) (made ++ requestOf c p) ps
+      → walk c clean i weight made (p ∷ ps) ≡ walk c clean (i + 1) (weight + approvedWeight c i p) (made ++ requestOf c p) ps
   unfolding walk orElse
   walk-goes h v = rw (h, ne-eqb (verdict c i) 2 v)
 
@@ -62,8 +62,8 @@ earlier e n (inl z) = not-0 e z
 earlier e n (inr z) = n z
 
 -- every row of a proof is before them
-proof-earlier : (c : Setting) (used : ℕ) (p : ProofReading) → Each Earlier (proofRows c used p)
-unfolding proofRows entryRows limitRows
+proof-earlier : (c : Context) (used : ℕ) (p : ProofReading) → Each Earlier (proofRows c used p)
+unfolding proofRows authenticatorRows requestLimitRows
 proof-earlier c used p =
     let witness = earlier InvalidWitness (λ z. omega arith) in
     let capability = earlier InvalidCapability (λ z. omega arith) in
@@ -74,14 +74,14 @@ proof-earlier c used p =
     search depth 12
 
 -- A walk that came behind its last proof: each turn's rows passed and its verdict was not 2.
-turn-last : (k : Check) (v : ℕ) (onward : Outcome) (i j : ℕ) (m l : List ℕ) → Refuses Earlier k
-    → ZeroOr28 (checkNumber (orElse k i m (cond (eqb v 2) (outcome (Failed VerifierFailure) j l) onward) .found))
+turn-last : (k : Check) (v : ℕ) (onward : WalkOutcome) (i j : ℕ) (m l : List ℕ) → Refuses Earlier k
+    → ZeroOr28 (checkNumber (orElse k i m (cond (eqb v 2) (walkOutcome (Failed VerifierFailure) j l) onward) .found))
     → (k ≡ Passed) × (v ≢ 2) × ZeroOr28 (checkNumber (onward .found))
 unfolding orElse
 turn-last (Failed e) v onward i j m l r h = absurd (r h)
 turn-last Passed v onward i j m l r h = go (eqb v 2) refl h
   where
-    go : (b : Bool) → eqb v 2 ≡ b → ZeroOr28 (checkNumber (cond b (outcome (Failed VerifierFailure) j l) onward .found))
+    go : (b : Bool) → eqb v 2 ≡ b → ZeroOr28 (checkNumber (cond b (walkOutcome (Failed VerifierFailure) j l) onward .found))
         → (_≡_ {A = Check} Passed Passed) × (v ≢ 2) × ZeroOr28 (checkNumber (onward .found))
     go true q h = absurd (earlier VerifierFailure (λ z. omega arith) h)
     go false q h = (refl, eqb-false v 2 q, h)
@@ -91,7 +91,7 @@ unfolding lastRows decide _▷_
 end-last true weight threshold h = refl
 end-last false weight threshold h = absurd (earlier InvalidWitness (λ z. omega arith) h)
 
-module _ (c : Setting) (clean : Bool) where
+module _ (c : Context) (clean : Bool) where
   last-each : (i weight : ℕ) (made : List ℕ) (ps : List ProofReading) → ZeroOr28 (checkNumber (walk c clean i weight made ps .found))
       → (clean ≡ true) × EachPasses c i (length made) ps
   unfolding walk
@@ -99,8 +99,8 @@ module _ (c : Setting) (clean : Bool) where
   last-each i weight made (p ∷ ps) h =
       let k = each-refuses Earlier _ (proof-earlier c (length made) p) in
       let z = turn-last (decide Passed (proofRows c (length made) p)) (verdict c i) _ _ _ _ _ k h in
-      let r = last-each (i + 1) (weight + earned c i p) (made ++ requestOf c p) ps (z .2) in
-      (r .0, (passed-hold (proofRows c (length made) p) (z .0), z .1, rw length-append at (r .1)))
+      let r = last-each (i + 1) (weight + approvedWeight c i p) (made ++ requestOf c p) ps (z .2) in
+      (r .0, (passed-all-pass (proofRows c (length made) p) (z .0), z .1, rw length-append at (r .1)))
 
 -- Behind the last proof, with nothing that follows it, only 28 refuses,
 end-number : (weight threshold : ℕ) → ZeroOr28 (checkNumber (decide Passed (lastRows true weight threshold)))
@@ -121,11 +121,11 @@ end-passes clean weight threshold = (there, back)
   where
     there : decide Passed (lastRows clean weight threshold) ≡ Passed → (clean ≡ true) × (0 < threshold) × (threshold ≤ weight)
     there h =
-        let z = passed-hold (lastRows clean weight threshold) h in
+        let z = passed-all-pass (lastRows clean weight threshold) h in
         (z .0, omega (arith, ltb-true, z .1 .0), omega (arith, leb-true, z .1 .1 .0))
 
     back : (clean ≡ true) × (0 < threshold) × (threshold ≤ weight) → decide Passed (lastRows clean weight threshold) ≡ Passed
-    back h = hold-passed (lastRows clean weight threshold) (h .0, (lt-ltb _ _ (h .1), (le-leb _ _ (h .2), tt)))
+    back h = all-pass-passed (lastRows clean weight threshold) (h .0, (lt-ltb _ _ (h .1), (le-leb _ _ (h .2), tt)))
 
 -- The sum over a rising list is at most that over a rising list with the same members and more.
 after : {least s : ℕ} (xs : List ℕ) → Rising least xs → List·Memᴰ s xs → least ≤ s
@@ -137,9 +137,9 @@ rising-less : {k l : ℕ} (xs : List ℕ) → k ≤ l → Rising l xs → Rising
 rising-less [] h r = tt
 rising-less (x ∷ xs) h r = (omega (arith, r .0), r .1)
 
-module _ (c : Setting) where
+module _ (c : Context) where
   weightOf-le : (ss bs : List ℕ) (k l : ℕ) → Rising k ss → Rising l bs → ((s : ℕ) → List·Memᴰ s ss → List·Memᴰ s bs)
-      → weightOf c ss ≤ weightOf c bs
+      → slotsWeight c ss ≤ slotsWeight c bs
   weightOf-le [] bs k l rs ra sub = zero-le
   weightOf-le (s ∷ ss) [] k l rs ra sub = absurd (List·Memᴰ·not-nil (sub s (List·Memᴰ·head refl)))
   weightOf-le (s ∷ ss) (b ∷ bs) k l rs ra sub = go (ℕ-discrete s b)
@@ -151,15 +151,15 @@ module _ (c : Setting) where
       past t ne m = ⊎-elim (λ e. absurd (ne e)) (λ h. h) (List·Memᴰ·cases-cons (sub t m))
 
       go : Dec (s ≡ b)
-          → (((t : ℕ) → List·Memᴰ t ss → List·Memᴰ t bs) → weightOf c ss ≤ weightOf c bs)
-          → (((t : ℕ) → List·Memᴰ t (s ∷ ss) → List·Memᴰ t bs) → weightOf c (s ∷ ss) ≤ weightOf c bs)
-          → weightOf c (s ∷ ss) ≤ weightOf c (b ∷ bs)
+          → (((t : ℕ) → List·Memᴰ t ss → List·Memᴰ t bs) → slotsWeight c ss ≤ slotsWeight c bs)
+          → (((t : ℕ) → List·Memᴰ t (s ∷ ss) → List·Memᴰ t bs) → slotsWeight c (s ∷ ss) ≤ slotsWeight c bs)
+          → slotsWeight c (s ∷ ss) ≤ slotsWeight c (b ∷ bs)
       go (yes e) both right =
-          let w : weightOf c ss ≤ weightOf c bs = both (λ t m. past t (λ q. let h : s + 1 ≤ t = after ss (rs .1) m in omega arith) (List·Memᴰ·tail m)) in
+          let w : slotsWeight c ss ≤ slotsWeight c bs = both (λ t m. past t (λ q. let h : s + 1 ≤ t = after ss (rs .1) m in omega arith) (List·Memᴰ·tail m)) in
           rw e (omega arith)
       go (no n) both right =
           let low : b + 1 ≤ s = after bs (ra .1) (past s n (List·Memᴰ·head refl)) in
-          let w : weightOf c (s ∷ ss) ≤ weightOf c bs =
+          let w : slotsWeight c (s ∷ ss) ≤ slotsWeight c bs =
           right (λ t m. past t (λ q. let h : s ≤ t = after (s ∷ ss) (le-refl s, rs .1) m in omega arith) m) in
           omega arith
 
@@ -169,12 +169,12 @@ module _ (c : Setting) where
   approved i (p ∷ ps) = cond (eqb (verdict c i) 0) (p .slot ∷ approved (i + 1) ps) (approved (i + 1) ps)
 
   approved-weight : (i : ℕ) (p : ProofReading) (ps : List ProofReading)
-      → earned c i p + weightOf c (approved (i + 1) ps) ≡ weightOf c (approved i (p ∷ ps))
-  unfolding earned
+      → approvedWeight c i p + slotsWeight c (approved (i + 1) ps) ≡ slotsWeight c (approved i (p ∷ ps))
+  unfolding approvedWeight
   approved-weight i p ps = go (eqb (verdict c i) 0)
     where
-      go : (b : Bool) → cond b (entryFor (p .slot) (c .entries) .weight) 0 + weightOf c (approved (i + 1) ps)
-          ≡ weightOf c (cond b (p .slot ∷ approved (i + 1) ps) (approved (i + 1) ps))
+      go : (b : Bool) → cond b (entryFor (p .slot) (c .entries) .weight) 0 + slotsWeight c (approved (i + 1) ps)
+          ≡ slotsWeight c (cond b (p .slot ∷ approved (i + 1) ps) (approved (i + 1) ps))
       go true = refl
       go false = omega arith
 
@@ -206,7 +206,7 @@ module _ (c : Setting) where
       × (k : ℕ) × (k < length ps) × (getD (slots ps) k 0 ≡ s) × (verdict c (i + k) ≡ 0)
 
   approved-from : (i used : ℕ) (ps : List ProofReading) → EachPasses c i used ps → (s : ℕ) → List·Memᴰ s (approved i ps) → From i ps s
-  unfolding proofRows entryRows
+  unfolding proofRows authenticatorRows
   approved-from i used [] pass s m = absurd (List·Memᴰ·not-nil m)
   approved-from i used (p ∷ ps) pass s m =
       go (eqb (verdict c i) 0) refl (approved-from (i + 1) (used + length (requestOf c p)) ps (pass .2) s) m
@@ -229,7 +229,7 @@ module _ (c : Setting) where
   -- where every proof's rows pass, the walk makes every request and weighs the approved
   walk-each : (clean : Bool) (i weight : ℕ) (made : List ℕ) (ps : List ProofReading) → EachPasses c i (length made) ps
       → walk c clean i weight made ps
-      ≡ outcome (decide Passed (lastRows clean (weight + weightOf c (approved i ps)) (c .threshold))) (i + length ps) (made ++ requestsOf c ps)
+      ≡ walkOutcome (decide Passed (lastRows clean (weight + slotsWeight c (approved i ps)) (c .threshold))) (i + length ps) (made ++ requestsOf c ps)
   unfolding walk requestsOf
   walk-each clean i weight made [] pass =
       let a : weight + 0 ≡ weight = omega arith in
@@ -238,13 +238,13 @@ module _ (c : Setting) where
   walk-each clean i weight made (p ∷ ps) pass =
       let req = requestOf c p in
       let fits : EachPasses c (i + 1) (length (made ++ req)) ps = rw length-append (pass .2) in
-      let a : weight + earned c i p + weightOf c (approved (i + 1) ps) ≡ weight + weightOf c (approved i (p ∷ ps)) = omega (arith, approved-weight i p ps) in
+      let a : weight + approvedWeight c i p + slotsWeight c (approved (i + 1) ps) ≡ weight + slotsWeight c (approved i (p ∷ ps)) = omega (arith, approved-weight i p ps) in
       let b : i + 1 + length ps ≡ i + suc (length ps) = omega arith in
-      walk-goes c clean i weight made p ps (hold-passed (proofRows c (length made) p) (pass .0)) (pass .1)
-      ∙ (walk-each clean (i + 1) (weight + earned c i p) (made ++ req) ps fits ∙ rw (a, b, append-assoc))
+      walk-goes c clean i weight made p ps (all-pass-passed (proofRows c (length made) p) (pass .0)) (pass .1)
+      ∙ (walk-each clean (i + 1) (weight + approvedWeight c i p) (made ++ req) ps fits ∙ rw (a, b, append-assoc))
 
   -- what a walk has written is the requests of the proofs that it counts, in order, whatever it ends with
-  abbrev Written : ℕ → List ℕ → List ProofReading → Outcome → Type 0
+  abbrev Written : ℕ → List ℕ → List ProofReading → WalkOutcome → Type 0
   Written i made ps o = (k : ℕ) × (k ≤ length ps) × (o .count ≡ i + k) × (o .made ≡ made ++ requestsOf c (take k ps))
 
   written : (clean : Bool) (i weight : ℕ) (made : List ℕ) (ps : List ProofReading) → Written i made ps (walk c clean i weight made ps)
@@ -252,31 +252,31 @@ module _ (c : Setting) where
   written clean i weight made [] = (zero, zero-le, omega arith, sym (append-nil made))
   written clean i weight made (p ∷ ps) =
       go (decide Passed (proofRows c (length made) p)) (eqb (verdict c i) 2) _
-      (written clean (i + 1) (weight + earned c i p) (made ++ requestOf c p) ps)
+      (written clean (i + 1) (weight + approvedWeight c i p) (made ++ requestOf c p) ps)
     where
-      go : (k : Check) (b : Bool) (o : Outcome) → Written (i + 1) (made ++ requestOf c p) ps o
-          → Written i made (p ∷ ps) (orElse k i made (cond b (outcome (Failed VerifierFailure) (i + 1) (made ++ requestOf c p)) o))
+      go : (k : Check) (b : Bool) (o : WalkOutcome) → Written (i + 1) (made ++ requestOf c p) ps o
+          → Written i made (p ∷ ps) (orElse k i made (cond b (walkOutcome (Failed VerifierFailure) (i + 1) (made ++ requestOf c p)) o))
       go Passed true o h = (1, omega arith, refl, rw append-nil)
       go Passed false o h = (suc (h .0), suc-le-suc (h .1), omega (arith, h .2), h .3 ∙ append-assoc made (requestOf c p) (requestsOf c (take (h .0) ps)))
       go (Failed e) b o h = (zero, zero-le, omega arith, sym (append-nil made))
 
 -- where every proof's rows pass, the walk finds what the approved weight makes of the rows behind the last proof
-each-found : (c : Setting) (clean : Bool) (ps : List ProofReading) → EachPasses c 0 0 ps
-    → walk c clean 0 0 [] ps .found ≡ decide Passed (lastRows clean (weightOf c (approved c 0 ps)) (c .threshold))
+each-found : (c : Context) (clean : Bool) (ps : List ProofReading) → EachPasses c 0 0 ps
+    → walk c clean 0 0 [] ps .found ≡ decide Passed (lastRows clean (slotsWeight c (approved c 0 ps)) (c .threshold))
 each-found c clean ps pass =
-    let z : 0 + weightOf c (approved c 0 ps) ≡ weightOf c (approved c 0 ps) = omega arith in
-    ap (λ (o : Outcome). o .found) (walk-each c clean 0 0 [] ps pass) ∙ rw z
+    let z : 0 + slotsWeight c (approved c 0 ps) ≡ slotsWeight c (approved c 0 ps) = omega arith in
+    ap (λ (o : WalkOutcome). o .found) (walk-each c clean 0 0 [] ps pass) ∙ rw z
 
 -- Its number is 0 or 28 exactly where nothing follows the proofs and each proof's rows pass.
-pub zero-or-28 : (c : Setting) (clean : Bool) (ps : List ProofReading)
+pub zero-or-28 : (c : Context) (clean : Bool) (ps : List ProofReading)
     → ZeroOr28 (checkNumber (walk c clean 0 0 [] ps .found)) ↔ ((clean ≡ true) × EachPasses c 0 0 ps)
 zero-or-28 c clean ps = (last-each c clean 0 0 [] ps, back)
   where
     back : (clean ≡ true) × EachPasses c 0 0 ps → ZeroOr28 (checkNumber (walk c clean 0 0 [] ps .found))
-    back h = rw (each-found c clean ps (h .1), h .0) (end-number (weightOf c (approved c 0 ps)) (c .threshold))
+    back h = rw (each-found c clean ps (h .1), h .0) (end-number (slotsWeight c (approved c 0 ps)) (c .threshold))
 
 -- Passed exactly where nothing follows the proofs, each proof's rows pass, and there is a quorum.
-pub decision : (c : Setting) (clean : Bool) (ps : List ProofReading) → Rising 0 (slots ps)
+pub decision : (c : Context) (clean : Bool) (ps : List ProofReading) → Rising 0 (slots ps)
     → (walk c clean 0 0 [] ps .found ≡ Passed) ↔ ((clean ≡ true) × EachPasses c 0 0 ps × Quorum c ps)
 decision c clean ps rises = (there, back)
   where
@@ -289,7 +289,7 @@ decision c clean ps rises = (there, back)
     there : walk c clean 0 0 [] ps .found ≡ Passed → (clean ≡ true) × EachPasses c 0 0 ps × Quorum c ps
     there h =
         let z = zero-or-28 c clean ps .0 (inl (ap checkNumber h)) in
-        let e = end-passes clean (weightOf c (approved c 0 ps)) (c .threshold) .0 (sym (each-found c clean ps (z .1)) ∙ h) in
+        let e = end-passes clean (slotsWeight c (approved c 0 ps)) (c .threshold) .0 (sym (each-found c clean ps (z .1)) ∙ h) in
         let quorum : Quorum c ps = record {
           set = approved c 0 ps;
           isSet = approved-rising c 0 0 ps rises;
@@ -310,18 +310,18 @@ decision c clean ps rises = (there, back)
         let q = h .2 in
         let le = weightOf-le c (q .set) (approved c 0 ps) 0 0 (q .isSet) (approved-rising c 0 0 ps rises) (member q) in
         each-found c clean ps (h .1)
-        ∙ end-passes clean (weightOf c (approved c 0 ps)) (c .threshold) .1 (h .0, q .above, omega (arith, q .enough))
+        ∙ end-passes clean (slotsWeight c (approved c 0 ps)) (c .threshold) .1 (h .0, q .above, omega (arith, q .enough))
 
 -- Where each proof's rows pass: one request for each proof, in order.
-pub answers : (c : Setting) (clean : Bool) (ps : List ProofReading) → EachPasses c 0 0 ps
+pub answers : (c : Context) (clean : Bool) (ps : List ProofReading) → EachPasses c 0 0 ps
     → (walk c clean 0 0 [] ps .count ≡ length ps) × (walk c clean 0 0 [] ps .made ≡ requestsOf c ps)
 answers c clean ps pass =
     let e = walk-each c clean 0 0 [] ps pass in
     let z : 0 + length ps ≡ length ps = omega arith in
-    (ap (λ (o : Outcome). o .count) e ∙ z, ap (λ (o : Outcome). o .made) e)
+    (ap (λ (o : WalkOutcome). o .count) e ∙ z, ap (λ (o : WalkOutcome). o .made) e)
 
 -- And always, the requests of as many proofs as were counted.
-pub answers-always : (c : Setting) (clean : Bool) (ps : List ProofReading)
+pub answers-always : (c : Context) (clean : Bool) (ps : List ProofReading)
     → walk c clean 0 0 [] ps .made ≡ requestsOf c (take (walk c clean 0 0 [] ps .count) ps)
 answers-always c clean ps =
     let w = written c clean 0 0 [] ps in

@@ -13,8 +13,8 @@ use Rattle.octets.specs.Lists.{arrayOf}
 use Rattle.octets.proofs.Arrays.{array-whole}
 use Rattle.octets.proofs.LeLaws.{bytes-drop, bytes-take}
 use Rattle.protocol.specs.Policy.{isOperation, capabilityFor}
-use Rattle.protocol.specs.Rows.{Hold}
-use Rattle.account_state.specs.Reading.{EntryReading, entryOf, entriesOf, lengthOf, keyLengthOf, auxLengthOf, stateReading, EntriesTyped}
+use Rattle.protocol.specs.Rows.{AllPass}
+use Rattle.account_state.specs.Reading.{EntryReading, entryOf, entriesOf, entryLengthOf, keyLengthOf, auxLengthOf, stateReading, EntriesTyped}
 use Rattle.account_state.specs.State.{stateRows}
 use Rattle.account_state.proofs.Inverse.{Keys, state-typed, state-keys}
 use Rattle.account_witness.specs.Reading.{ProofReading}
@@ -22,8 +22,8 @@ use Rattle.verifier_request.specs.Reading.{RequestTyped}
 use Rattle.verifier_request.specs.Writer as writer
 use Rattle.verifier_request.proofs.RequestTheorem.{request-accepted}
 use Rattle.scene_table.specs.Scene.{Cell}
-use Rattle.decision.specs.Proofs.{Setting, settingFor, known, entryFor, capable, hasBit, limitRows, entryRows, proofRows, requestReading, requestOf}
-use Rattle.decision.specs.Requests.{EntryFits, EntriesFit, SettingFits, RequestRead, RequestsRead}
+use Rattle.decision.specs.Proofs.{Context, contextFor, known, entryFor, capable, hasBit, requestLimitRows, authenticatorRows, proofRows, requestContent, requestOf}
+use Rattle.decision.specs.Requests.{EntryFits, EntriesFit, ContextFits, RequestRead, RequestsRead}
 use Rattle.decision.specs.Decision.{EachPasses, proofsOf, ProofsPass}
 
 -- the entries of an accepted state fit
@@ -32,12 +32,12 @@ unfolding entriesOf entryOf
 entries-fit zero e b t k = tt
 entries-fit (suc n) e b t k =
     let a = bytes-take (auxLengthOf e) (drop (48 + keyLengthOf e) e) (bytes-drop (48 + keyLengthOf e) e b) in
-    (record { typed = t .0; key = k .0; aux = a }, entries-fit n (drop (lengthOf e) e) (bytes-drop (lengthOf e) e b) (t .1) (k .1))
+    (record { typed = t .0; key = k .0; aux = a }, entries-fit n (drop (entryLengthOf e) e) (bytes-drop (entryLengthOf e) e b) (t .1) (k .1))
 
 -- an accepted state and a digest of 32 bytes settle so
 pub state-fits : (state : List ℕ) (deps : List Cell) (digits : List ℕ) (operation : ℕ) (digest : List ℕ) (room : ℕ) → Bytes state
-    → Hold (stateRows state) → length digest ≡ 32 → SettingFits (settingFor state deps digits operation digest room)
-unfolding settingFor stateReading
+    → AllPass (stateRows state) → length digest ≡ 32 → ContextFits (contextFor state deps digits operation digest room)
+unfolding contextFor stateReading
 state-fits state deps digits operation digest room b h l =
     record {
       entries = entries-fit (numberAt state 22 1) (drop 32 state) (bytes-drop 32 state b) (state-typed state b h .entries) (state-keys state b h);
@@ -70,17 +70,17 @@ capable-operation o capabilities h = go (eqb o 1) (eqb o 2) (eqb o 3) refl refl 
 
 -- the request of an entry whose rows pass is within the limits of the request writer
 pub request-limits : (operation : ℕ) (digest : List ℕ) (deps : List Cell) (e : EntryReading) (p : ProofReading) (left : ℕ)
-    → Hold (entryRows operation deps e (length (p .bytes)) left) → Hold (writer.writerRows (requestReading operation digest e p))
-unfolding entryRows limitRows requestReading writer.writerRows writer.limitRows
+    → AllPass (authenticatorRows operation deps e (length (p .bytes)) left) → AllPass (writer.requestWriterRows (requestContent operation digest e p))
+unfolding authenticatorRows requestLimitRows requestContent writer.requestWriterRows writer.writerLimitRows
 request-limits operation digest deps e p left h =
     (capable-operation operation (e .capabilities) (h .0) .0, (h .1 .1 .1 .1 .0, (h .1 .1 .0, tt)))
 
 -- a proof whose rows pass has a request that is read so
-pub request-read : (c : Setting) (used : ℕ) (p : ProofReading) → SettingFits c → Hold (proofRows c used p) → RequestRead c p
-unfolding proofRows entryRows requestOf requestReading
+pub request-read : (c : Context) (used : ℕ) (p : ProofReading) → ContextFits c → AllPass (proofRows c used p) → RequestRead c p
+unfolding proofRows authenticatorRows requestOf requestContent
 request-read c used p f h =
     let e = entryFor (p .slot) (c .entries) in
-    let r = requestReading (c .operation) (c .digest) e p in
+    let r = requestContent (c .operation) (c .digest) e p in
     let z = known-fits (p .slot) (c .entries) (f .entries) (h .0) in
     let o = capable-operation (c .operation) (e .capabilities) (h .1 .0) in
     let slot : p .slot < 2 ^ 16 = rw (z .1) at (z .0 .typed .slot) in
@@ -96,10 +96,10 @@ request-read c used p f h =
     record { accepted = y .0; reading = y .1; key = array-whole 32 (e .key) (z .0 .key) }
 
 -- where each proof's rows pass, each one's request is
-pub requests-read : (c : Setting) (i used : ℕ) (ps : List ProofReading) → SettingFits c → EachPasses c i used ps → RequestsRead c ps
+pub requests-read : (c : Context) (i used : ℕ) (ps : List ProofReading) → ContextFits c → EachPasses c i used ps → RequestsRead c ps
 requests-read c i used [] f pass = tt
 requests-read c i used (p ∷ ps) f pass = (request-read c used p f (pass .0), requests-read c (i + 1) (used + length (requestOf c p)) ps f (pass .2))
 
 -- so all requests of a witness lock whose proofs pass
-pub lock-requests-read : (c : Setting) (lock : List ℕ) → SettingFits c → ProofsPass c lock → RequestsRead c (proofsOf lock)
+pub lock-requests-read : (c : Context) (lock : List ℕ) → ContextFits c → ProofsPass c lock → RequestsRead c (proofsOf lock)
 lock-requests-read c lock f h = requests-read c 0 0 (proofsOf lock) f (h .each)

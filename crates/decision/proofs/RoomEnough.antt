@@ -15,21 +15,21 @@ use Rattle.octets.specs.Le.{numberAt}
 use Rattle.octets.specs.Lists.{Rising}
 use Rattle.octets.proofs.Arrays.{length-array}
 use Rattle.protocol.specs.Errors.{errorNumber}
-use Rattle.protocol.specs.Rows.{Row, decide, Hold, First, checkNumber}
+use Rattle.protocol.specs.Rows.{Row, decide, AllPass, FirstFailed, checkNumber}
 use Rattle.protocol.specs.declared.error.ProtocolError.{ProtocolError}
 use Rattle.protocol.specs.declared.error.ProtocolError.the-variants.{BufferTooShort, VerifierFailure}
 use Rattle.protocol.specs.declared.check.Check.{Check}
 use Rattle.protocol.specs.declared.check.Check.the-variants.{Passed, Failed}
-use Rattle.protocol.proofs.Hold.{passed-hold, hold-split, failed-first}
-use Rattle.account_state.specs.Reading.{EntryReading, entryOf, entriesOf, lengthOf, keyLengthOf, auxLengthOf}
+use Rattle.protocol.proofs.AllPass.{passed-all-pass, all-pass-split, failed-first}
+use Rattle.account_state.specs.Reading.{EntryReading, entryOf, entriesOf, entryLengthOf, keyLengthOf, auxLengthOf}
 use Rattle.account_state.specs.State as state
 use Rattle.account_witness.specs.Reading.{ProofReading, proofReading}
 use Rattle.account_witness.specs.Walk as witness
 use Rattle.account_witness.proofs.WalkLaws.{proof-holds}
 use Rattle.verifier_request.specs.Writer.{requestTotal}
 use Rattle.verifier_request.proofs.Form.{length-request}
-use Rattle.decision.specs.Proofs.{Setting, noEntry, entryFor, requestSize, limitRows, entryRows, proofRows, requestReading, requestOf, requestsOf}
-use Rattle.decision.specs.Walk.{Outcome, outcome, verdict, earned, lastRows, orElse, walk, proofsFrom, walkList, walkLock}
+use Rattle.decision.specs.Proofs.{Context, noEntry, entryFor, requestSize, requestLimitRows, authenticatorRows, proofRows, requestContent, requestOf, requestsOf}
+use Rattle.decision.specs.Walk.{WalkOutcome, walkOutcome, verdict, approvedWeight, lastRows, orElse, walk, proofsUntilFault, walkList, walkLock}
 use Rattle.decision.specs.Decision.{slots}
 use Rattle.decision.proofs.Listed.{listed-stops, listed-goes, listed-rising, Behind}
 
@@ -79,12 +79,12 @@ aux-named s (e ∷ es) = go (eqb (e .slot) s) refl (aux-named s es)
         let a = counted-less s (s + 1) (e .slot) (length (e .aux)) (omega arith) in
         omega arith
 
-module _ (c : Setting) (d : length (c .digest) ≡ 32) where
+module _ (c : Context) (d : length (c .digest) ≡ 32) where
   -- a request is 96 bytes, then aux and proof
   request-length : (p : ProofReading) → length (requestOf c p) ≡ requestSize (length (entryFor (p .slot) (c .entries) .aux)) (length (p .bytes))
-  unfolding requestOf requestReading requestTotal requestSize
+  unfolding requestOf requestContent requestTotal requestSize
   request-length p =
-      length-request (requestReading (c .operation) (c .digest) (entryFor (p .slot) (c .entries)) p)
+      length-request (requestContent (c .operation) (c .digest) (entryFor (p .slot) (c .entries)) p)
       (record { digest = d; key = length-array 32 (entryFor (p .slot) (c .entries) .key) })
 
   -- the requests of proofs whose slots rise: 96 bytes each, their proofs, and the aux of distinct entries
@@ -108,7 +108,7 @@ Without n [] = Unit {0}
 Without n (r ∷ rs) = (r .test ≡ false → errorNumber (r .error) ≢ n) × Without n rs
 
 -- nor has the first that fails,
-without-first : (n : ℕ) (rs : List Row) (e : ProtocolError) → Without n rs → First rs e → errorNumber e ≢ n
+without-first : (n : ℕ) (rs : List Row) (e : ProtocolError) → Without n rs → FirstFailed rs e → errorNumber e ≢ n
 without-first n [] e w f = absurd f
 without-first n (r ∷ rs) e w (inl f) = rw (f .1) at (w .0 (f .0))
 without-first n (r ∷ rs) e w (inr f) = without-first n rs e (w .1) (f .1)
@@ -126,17 +126,17 @@ room-kept : (size left : ℕ) → size ≤ left → leb size left ≡ false → 
 room-kept size left h q = absurd (let z = leb-false size left q in omega arith)
 
 -- so its proof's rows find another number, or nothing
-rows-room : (c : Setting) (used : ℕ) (p : ProofReading)
+rows-room : (c : Context) (used : ℕ) (p : ProofReading)
     → requestSize (length (entryFor (p .slot) (c .entries) .aux)) (length (p .bytes)) ≤ c .room - used
     → checkNumber (decide Passed (proofRows c used p)) ≢ 5
-unfolding proofRows entryRows limitRows
+unfolding proofRows authenticatorRows requestLimitRows
 rows-room c used p h =
     let size = requestSize (length (entryFor (p .slot) (c .entries) .aux)) (length (p .bytes)) in
     without-found 5 (proofRows c used p) (λ z. omega arith)
     (λ _ z. omega arith, (λ _ z. omega arith, (λ _ z. omega arith, (λ _ z. omega arith, (λ _ z. omega arith, (λ _ z. omega arith, (room-kept size (c .room - used) h, tt)))))))
 
 -- nor does a turn, where neither its rows nor what comes after them do
-turn-room : (k : Check) (i : ℕ) (made : List ℕ) (onward : Outcome) → checkNumber k ≢ 5 → checkNumber (onward .found) ≢ 5
+turn-room : (k : Check) (i : ℕ) (made : List ℕ) (onward : WalkOutcome) → checkNumber k ≢ 5 → checkNumber (onward .found) ≢ 5
     → checkNumber (orElse k i made onward .found) ≢ 5
 unfolding orElse
 turn-room Passed i made onward k o = o
@@ -149,7 +149,7 @@ end-room clean weight threshold =
     without-found 5 (lastRows clean weight threshold) (λ z. omega arith) (λ _ z. omega arith, (λ _ z. omega arith, (λ _ z. omega arith, tt)))
 
 -- a walk whose buffer has room for the requests of all proofs that are left never gives 5
-pub walk-room : (c : Setting) → length (c .digest) ≡ 32 → (clean : Bool) (i weight : ℕ) (made : List ℕ) (ps : List ProofReading)
+pub walk-room : (c : Context) → length (c .digest) ≡ 32 → (clean : Bool) (i weight : ℕ) (made : List ℕ) (ps : List ProofReading)
     → length made + length (requestsOf c ps) ≤ c .room → checkNumber (walk c clean i weight made ps .found) ≢ 5
 unfolding walk requestsOf
 walk-room c d clean i weight made [] h = end-room clean weight (c .threshold)
@@ -159,10 +159,10 @@ walk-room c d clean i weight made (p ∷ ps) h =
     let k = request-length c d p in
     turn-room (decide Passed (proofRows c (length made) p)) i made _
     (rows-room c (length made) p (omega arith))
-    (go (eqb (verdict c i) 2) _ (walk-room c d clean (i + 1) (weight + earned c i p) (made ++ requestOf c p) ps (omega arith)))
+    (go (eqb (verdict c i) 2) _ (walk-room c d clean (i + 1) (weight + approvedWeight c i p) (made ++ requestOf c p) ps (omega arith)))
   where
-    go : (b : Bool) (o : Outcome) → checkNumber (o .found) ≢ 5
-        → checkNumber (cond b (outcome (Failed VerifierFailure) (i + 1) (made ++ requestOf c p)) o .found) ≢ 5
+    go : (b : Bool) (o : WalkOutcome) → checkNumber (o .found) ≢ 5
+        → checkNumber (cond b (walkOutcome (Failed VerifierFailure) (i + 1) (made ++ requestOf c p)) o .found) ≢ 5
     go true o h = λ z. omega arith
     go false o h = h
 
@@ -170,54 +170,54 @@ walk-room c d clean i weight made (p ∷ ps) h =
 
 module _ (lock : List ℕ) where
   -- no more proofs are listed than the lock counts
-  pub listed-few : (n at least : ℕ) → length (proofsFrom lock n at least .proofs) ≤ n
-  unfolding proofsFrom
+  pub listed-few : (n at least : ℕ) → length (proofsUntilFault lock n at least .proofs) ≤ n
+  unfolding proofsUntilFault
   listed-few zero at least = omega arith
-  listed-few (suc n) at least = go (decide Passed (witness.proofRows lock at least)) refl (listed-few n _ _)
+  listed-few (suc n) at least = go (decide Passed (witness.proofLayoutRows lock at least)) refl (listed-few n _ _)
     where
-      go : (k : Check) → decide Passed (witness.proofRows lock at least) ≡ k → length (Behind lock n at least .proofs) ≤ n
-          → length (proofsFrom lock (suc n) at least .proofs) ≤ suc n
+      go : (k : Check) → decide Passed (witness.proofLayoutRows lock at least) ≡ k → length (Behind lock n at least .proofs) ≤ n
+          → length (proofsUntilFault lock (suc n) at least .proofs) ≤ suc n
       go Passed h rest = rw (listed-goes lock n at least h) (omega arith)
       go (Failed e) h rest = rw (listed-stops lock n at least e h) (omega arith)
 
   -- their bytes stand in the lock behind the place where they begin
-  pub listed-length : (n at least : ℕ) → proofsLength (proofsFrom lock n at least .proofs) ≤ length lock - at
-  unfolding proofsFrom proofReading witness.proofAt
+  pub listed-length : (n at least : ℕ) → proofsLength (proofsUntilFault lock n at least .proofs) ≤ length lock - at
+  unfolding proofsUntilFault proofReading witness.proofAt
   listed-length zero at least = omega arith
-  listed-length (suc n) at least = go (decide Passed (witness.proofRows lock at least)) refl (listed-length n _ _)
+  listed-length (suc n) at least = go (decide Passed (witness.proofLayoutRows lock at least)) refl (listed-length n _ _)
     where
-      go : (k : Check) → decide Passed (witness.proofRows lock at least) ≡ k
+      go : (k : Check) → decide Passed (witness.proofLayoutRows lock at least) ≡ k
           → proofsLength (Behind lock n at least .proofs) ≤ length lock - (at + 8 + numberAt lock (at + 4) 4)
-          → proofsLength (proofsFrom lock (suc n) at least .proofs) ≤ length lock - at
+          → proofsLength (proofsUntilFault lock (suc n) at least .proofs) ≤ length lock - at
       go Passed h rest =
-          let z = proof-holds lock at least (passed-hold (witness.proofRows lock at least) h) .inside in
+          let z = proof-holds lock at least (passed-all-pass (witness.proofLayoutRows lock at least) h) .inside in
           let t = length-take (numberAt lock (at + 4) 4) (drop (at + 8) lock) in
           rw (listed-goes lock n at least h) (omega arith)
       go (Failed e) h rest = rw (listed-stops lock n at least e h) (omega arith)
 
 -- the aux of entries whose rows pass stands in their bytes
-entries-aux : (n : ℕ) (e : List ℕ) (least : ℕ) → Hold (state.entriesRows n e least) → auxFrom 0 (entriesOf n e) ≤ length e
-unfolding entriesOf entryOf state.entriesRows state.entryRows state.layoutRows
+entries-aux : (n : ℕ) (e : List ℕ) (least : ℕ) → AllPass (state.entriesRows n e least) → auxFrom 0 (entriesOf n e) ≤ length e
+unfolding entriesOf entryOf state.entriesRows state.entryRows state.entryLayoutRows
 entries-aux zero e least h = omega arith
 entries-aux (suc n) e least h =
-    let z = hold-split (state.entryRows e least) _ h in
-    let sum = eqb-true (lengthOf e) _ (z .0 .1 .0) in
-    let inside = leb-true (lengthOf e) (length e) (z .0 .1 .1 .0) in
-    let rest = entries-aux n (drop (lengthOf e) e) _ (z .1) in
-    let d = length-drop (lengthOf e) e in
+    let z = all-pass-split (state.entryRows e least) _ h in
+    let sum = eqb-true (entryLengthOf e) _ (z .0 .1 .0) in
+    let inside = leb-true (entryLengthOf e) (length e) (z .0 .1 .1 .0) in
+    let rest = entries-aux n (drop (entryLengthOf e) e) _ (z .1) in
+    let d = length-drop (entryLengthOf e) e in
     let t = length-take (auxLengthOf e) (drop (48 + keyLengthOf e) e) in
     rw (le-leb 0 (numberAt e 2 2) (omega arith)) (omega arith)
 
 -- the rows of a state: its header's, and those of its entries
-state-rows : (s : List ℕ) → Hold (state.stateRows s) → Hold (state.headRows s) × Hold (state.entriesRows (numberAt s 22 1) (drop 32 s) 0)
+state-rows : (s : List ℕ) → AllPass (state.stateRows s) → AllPass (state.stateHeaderRows s) × AllPass (state.entriesRows (numberAt s 22 1) (drop 32 s) 0)
 unfolding state.stateRows
 state-rows s h =
-    let z = hold-split (state.headRows s) _ h in
-    (z .0, hold-split (state.entriesRows (numberAt s 22 1) (drop 32 s) 0) _ (z .1) .0)
+    let z = all-pass-split (state.stateHeaderRows s) _ h in
+    (z .0, all-pass-split (state.entriesRows (numberAt s 22 1) (drop 32 s) 0) _ (z .1) .0)
 
 -- a state whose rows pass has at most 16,384 bytes, and so has the aux of its entries
-pub state-aux : (s : List ℕ) → Hold (state.stateRows s) → auxFrom 0 (entriesOf (numberAt s 22 1) (drop 32 s)) ≤ 16384
-unfolding state.headRows
+pub state-aux : (s : List ℕ) → AllPass (state.stateRows s) → auxFrom 0 (entriesOf (numberAt s 22 1) (drop 32 s)) ≤ 16384
+unfolding state.stateHeaderRows
 state-aux s h =
     let z = state-rows s h in
     let short = leb-true (length s) 16384 (z .0 .1 .0) in
@@ -226,12 +226,12 @@ state-aux s h =
     omega arith
 
 -- 96 · 16 + 16,384 + 131,072 = 148,992
-pub lock-room : (c : Setting) (lock : List ℕ) → length (c .digest) ≡ 32 → auxFrom 0 (c .entries) ≤ 16384
+pub lock-room : (c : Context) (lock : List ℕ) → length (c .digest) ≡ 32 → auxFrom 0 (c .entries) ≤ 16384
     → length lock ≤ 131072 → numberAt lock 6 1 ≤ 16 → 148992 ≤ c .room → checkNumber (walkLock c lock .found) ≢ 5
 unfolding walkLock walkList
 lock-room c lock d a l n r =
-    let ps = proofsFrom lock (numberAt lock 6 1) 16 0 .proofs in
+    let ps = proofsUntilFault lock (numberAt lock 6 1) 16 0 .proofs in
     let requests = requests-length c d ps 0 (listed-rising lock (numberAt lock 6 1) 16 0) in
     let few = listed-few lock (numberAt lock 6 1) 16 0 in
     let bytes = listed-length lock (numberAt lock 6 1) 16 0 in
-    walk-room c d (proofsFrom lock (numberAt lock 6 1) 16 0 .clean) 0 0 [] ps (omega arith)
+    walk-room c d (proofsUntilFault lock (numberAt lock 6 1) 16 0 .clean) 0 0 [] ps (omega arith)

@@ -8,10 +8,10 @@ use mathlib.Core.List.{List, [], _∷_, List·Memᴰ}
 use lib.ListN.{length, getD}
 use Rattle.octets.specs.Le.{numberAt}
 use Rattle.octets.specs.Lists.{Rising}
-use Rattle.protocol.specs.Rows.{Hold}
+use Rattle.protocol.specs.Rows.{AllPass}
 use Rattle.account_witness.specs.Reading.{ProofReading, proofReadings}
-use Rattle.account_witness.specs.Walk.{proofsRows}
-use Rattle.decision.specs.Proofs.{Setting, known, entryFor, capable, proofRows, requestOf}
+use Rattle.account_witness.specs.Walk.{proofsLayoutRows}
+use Rattle.decision.specs.Proofs.{Context, known, entryFor, capable, proofRows, requestOf}
 use Rattle.decision.specs.Walk.{verdict}
 
 abbrev pub slots : List ProofReading → List ℕ
@@ -19,23 +19,23 @@ slots [] = []
 slots (p ∷ ps) = p .slot ∷ slots ps
 
 -- each proof's rows pass, from proof i on with `used` bytes of the answer written, and its verdict is not 2
-abbrev pub EachPasses : Setting → ℕ → ℕ → List ProofReading → Type 0
+abbrev pub EachPasses : Context → ℕ → ℕ → List ProofReading → Type 0
 EachPasses c i used [] = Unit {0}
 EachPasses c i used (p ∷ ps) =
-    Hold (proofRows c used p) × (verdict c i ≢ 2) × EachPasses c (i + 1) (used + length (requestOf c p)) ps
+    AllPass (proofRows c used p) × (verdict c i ≢ 2) × EachPasses c (i + 1) (used + length (requestOf c p)) ps
 
 -- the proofs of a witness lock, as its one reading has them
 unfoldable pub proofsOf : List ℕ → List ProofReading
 proofsOf lock = proofReadings lock (numberAt lock 6 1) 16
 
 -- the rows of the proofs, all before the one for 28: each one's layout, "bytes after the last proof", and each one's own
-pub record ProofsPass (c : Setting) (lock : List ℕ) : Type 0 where
-  pub layout : Hold (proofsRows lock (numberAt lock 6 1) 16 0)
+pub record ProofsPass (c : Context) (lock : List ℕ) : Type 0 where
+  pub layout : AllPass (proofsLayoutRows lock (numberAt lock 6 1) 16 0)
   pub each : EachPasses c 0 0 (proofsOf lock)
 
 -- 01: "A request is approved where DIGITS has 0 at its proof's place in the witness lock": the slot is one of the current state's,
 -- has the operation's capability, and has such a proof
-pub record Approved (c : Setting) (ps : List ProofReading) (s : ℕ) : Type 0 where
+pub record Approved (c : Context) (ps : List ProofReading) (s : ℕ) : Type 0 where
   pub inState : known s (c .entries) ≡ true
   pub hasCapability : capable (c .operation) (entryFor s (c .entries) .capabilities) ≡ true
   pub place : ℕ
@@ -43,14 +43,14 @@ pub record Approved (c : Setting) (ps : List ProofReading) (s : ℕ) : Type 0 wh
   pub itsSlot : getD (slots ps) place 0 ≡ s
   pub isApproved : verdict c place ≡ 0
 
-abbrev pub weightOf : Setting → List ℕ → ℕ
-weightOf c [] = 0
-weightOf c (s ∷ ss) = entryFor s (c .entries) .weight + weightOf c ss
+abbrev pub slotsWeight : Context → List ℕ → ℕ
+slotsWeight c [] = 0
+slotsWeight c (s ∷ ss) = entryFor s (c .entries) .weight + slotsWeight c ss
 
 -- a set of such slots, strictly rising, that together weigh at least the threshold, which is above zero
-pub record Quorum (c : Setting) (ps : List ProofReading) : Type 0 where
+pub record Quorum (c : Context) (ps : List ProofReading) : Type 0 where
   pub set : List ℕ
   pub isSet : Rising 0 set
   pub each : (s : ℕ) → List·Memᴰ s set → Approved c ps s
-  pub enough : c .threshold ≤ weightOf c set
+  pub enough : c .threshold ≤ slotsWeight c set
   pub above : 0 < c .threshold

@@ -13,7 +13,7 @@ use Rattle.protocol.specs.declared.policy.OperationCapability.{OperationCapabil
 use Rattle.protocol.specs.declared.policy.OperationCapability.the-variants.{Capability, Refused}
 use Rattle.account_state.specs.Reading.{EntryReading, entriesOf}
 use Rattle.account_witness.specs.Reading.{ProofReading}
-use Rattle.verifier_request.specs.Reading.{RequestReading, reading, requestBytes}
+use Rattle.verifier_request.specs.Reading.{RequestReading, requestWith, requestBytes}
 use Rattle.scene_table.specs.Scene.{Cell}
 use Rattle.cell_search.specs.declared.cells.CellField.{CellField}
 use Rattle.cell_search.specs.declared.cells.CellField.the-variants.{TypeHash, DataHash}
@@ -21,7 +21,7 @@ use Rattle.cell_search.specs.Search.{matches}
 
 -- what is settled before the first proof: the current state's entries, the deps, the verdicts' digits, the operation and its
 -- threshold, the digest, and the length of the answer buffer
-pub record Setting : Type 0 where
+pub record Context : Type 0 where
   pub entries : List EntryReading
   pub deps : List Cell
   pub digits : List ℕ
@@ -36,8 +36,8 @@ thresholdOf operation state =
     cond (eqb operation 1) (numberAt state 16 2) (cond (eqb operation 2) (numberAt state 18 2) (numberAt state 20 2))
 
 -- what the bytes of the current state settle, beside the scene's deps and digits
-unfoldable pub settingFor : List ℕ → List Cell → List ℕ → ℕ → List ℕ → ℕ → Setting
-settingFor state deps digits operation digest room =
+unfoldable pub contextFor : List ℕ → List Cell → List ℕ → ℕ → List ℕ → ℕ → Context
+contextFor state deps digits operation digest room =
     record {
       entries = entriesOf (numberAt state 22 1) (drop 32 state);
       deps = deps;
@@ -82,8 +82,8 @@ requestSize aux proof = 96 + aux + proof
 
 -- 01, main.rs: "In the lock a request of above 69,728 bytes is 39, tested before aux above 4,096 (35); a proof above 65,536 is 35
 -- before either."; "answer buffer too short for this request", 5, where `left` bytes of it are left
-unfoldable pub limitRows : ℕ → ℕ → ℕ → List Row
-limitRows aux proof left =
+unfoldable pub requestLimitRows : ℕ → ℕ → ℕ → List Row
+requestLimitRows aux proof left =
     row (leb proof 65536) InvalidRequest
     ∷ row (leb (requestSize aux proof) 69728) LengthOverflow
     ∷ row (leb aux 4096) InvalidRequest
@@ -92,26 +92,26 @@ limitRows aux proof left =
 
 -- 01, "Where each refusal is raised": "each proof: .. slot unknown", 22; "capability", 29; "verifier none or several", 30; "request",
 -- 35, 39; "answer buffer too short for this request", 5
-unfoldable pub entryRows : ℕ → List Cell → EntryReading → ℕ → ℕ → List Row
-entryRows operation deps e proof left =
+unfoldable pub authenticatorRows : ℕ → List Cell → EntryReading → ℕ → ℕ → List Row
+authenticatorRows operation deps e proof left =
     row (capable operation (e .capabilities)) InvalidCapability
     ∷ row (eqb (length (verifiers e deps)) 1) InvalidVerifierRef
-    ∷ limitRows (length (e .aux)) proof left
+    ∷ requestLimitRows (length (e .aux)) proof left
 
-unfoldable pub proofRows : Setting → ℕ → ProofReading → List Row
+unfoldable pub proofRows : Context → ℕ → ProofReading → List Row
 proofRows c used p =
     row (known (p .slot) (c .entries)) InvalidWitness
-    ∷ entryRows (c .operation) (c .deps) (entryFor (p .slot) (c .entries)) (length (p .bytes)) (c .room - used)
+    ∷ authenticatorRows (c .operation) (c .deps) (entryFor (p .slot) (c .entries)) (length (p .bytes)) (c .room - used)
 
 -- the request: its profile is the first byte of aux. 01, Request: "digest, key (32 bytes each)": a key in its field of 32 bytes. A
 -- state that passed its rows has keys of 32 bytes, and they stand there as they are
-unfoldable pub requestReading : ℕ → List ℕ → EntryReading → ProofReading → RequestReading
-requestReading operation digest e p =
-    reading (e .algorithm) (p .slot) operation (getD (e .aux) 0 0) digest (arrayOf 32 (e .key)) (e .aux) (p .bytes)
+unfoldable pub requestContent : ℕ → List ℕ → EntryReading → ProofReading → RequestReading
+requestContent operation digest e p =
+    requestWith (e .algorithm) (p .slot) operation (getD (e .aux) 0 0) digest (arrayOf 32 (e .key)) (e .aux) (p .bytes)
 
-unfoldable pub requestOf : Setting → ProofReading → List ℕ
-requestOf c p = requestBytes (requestReading (c .operation) (c .digest) (entryFor (p .slot) (c .entries)) p)
+unfoldable pub requestOf : Context → ProofReading → List ℕ
+requestOf c p = requestBytes (requestContent (c .operation) (c .digest) (entryFor (p .slot) (c .entries)) p)
 
-unfoldable pub requestsOf : Setting → List ProofReading → List ℕ
+unfoldable pub requestsOf : Context → List ProofReading → List ℕ
 requestsOf c [] = []
 requestsOf c (p ∷ ps) = requestOf c p ++ requestsOf c ps

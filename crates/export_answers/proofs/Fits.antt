@@ -6,7 +6,7 @@ use Prim.Native.Nat.{ℕ, _≤_, _<_, zero-le}
 use lib.ListN.{length}
 use lib.Seq.{sets}
 use borrow.Author.Tests.{le-leb, lt-leb}
-use Rattle.octets.specs.Table.{numbers}
+use Rattle.octets.specs.Layout.{layoutBytes}
 use Rattle.export_answers.specs.Words.{storedNumber, storedAfter, words, wordBytes, wordsNumber, wordsAfter}
 
 -- bytes for which there is room
@@ -39,9 +39,9 @@ unfolding storedAfter
 none-after out = rw (le-leb 0 (length out) zero-le)
 
 pub no-words-number : (number room : ℕ) → number ≡ wordsNumber number [] room
-unfolding wordsNumber wordBytes words numbers
+unfolding wordsNumber wordBytes words layoutBytes
 no-words-number = none-number
 
 pub no-words-after : (out : List ℕ) → out ≡ wordsAfter [] out
-unfolding wordsAfter wordBytes words numbers
+unfolding wordsAfter wordBytes words layoutBytes
 no-words-after = none-after

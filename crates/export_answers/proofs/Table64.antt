@@ -10,7 +10,7 @@ use lib.ListN.{length, drop, getD, length-append, drop-of-length-le}
 use lib.Seq.{sets, drop-cons}
 use borrow.Rule.Slice.PartMut.{midOf, putMid}
 use Rattle.octets.specs.Le.{toLe}
-use Rattle.octets.specs.Table.{numbers}
+use Rattle.octets.specs.Layout.{layoutBytes}
 use Rattle.octets.proofs.LeLaws.{length-to}
 use Rattle.octets.proofs.Stores.{sets-append, sets-lent}
 use Rattle.export_answers.specs.Words.{words, wordBytes, wordsNumber, wordsAfter}
@@ -18,7 +18,7 @@ use Rattle.export_answers.proofs.Fits.{fit-number, fit-after, short-num
 
 -- word i, and then the words behind it
 pub word-stored : (vs out : List ℕ) (i : ℕ) → i < length vs → sets (sets out (8 * i) (toLe 8 (getD vs i 0))) (8 * (i + 1)) (wordBytes (drop (i + 1) vs)) ≡ sets out (8 * i) (wordBytes (drop i vs))
-unfolding wordBytes words numbers
+unfolding wordBytes words layoutBytes
 word-stored vs out i h =
     let n : length (toLe 8 (getD vs i 0)) ≡ 8 = length-to 8 (getD vs i 0) in
     rw (add-one, drop-cons vs i 0 h)
@@ -26,11 +26,11 @@ word-stored vs out i h =
 
 -- no word is left
 pub words-stored : (vs out : List ℕ) (i : ℕ) → length vs ≤ i → sets out (8 * i) (wordBytes (drop i vs)) ≡ out
-unfolding wordBytes words numbers
+unfolding wordBytes words layoutBytes
 words-stored vs out i h = rw (drop-of-length-le vs h)
 
 pub length-words : (vs : List ℕ) → length (wordBytes vs) ≡ 8 * length vs
-unfolding wordBytes words numbers
+unfolding wordBytes words layoutBytes
 length-words [] = refl
 length-words (v ∷ vs) =
     let n : length (toLe 8 v) ≡ 8 = length-to 8 v in

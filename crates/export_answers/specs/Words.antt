@@ -6,7 +6,7 @@ use mathlib.Core.List.{List, [], _∷_}
 use lib.Dec.{leb}
 use lib.ListN.{length}
 use lib.Seq.{sets}
-use Rattle.octets.specs.Table.{Number, numbers}
+use Rattle.octets.specs.Layout.{Field, layoutBytes}
 use Rattle.protocol.specs.Errors.{errorNumber}
 use Rattle.protocol.specs.declared.error.ProtocolError.the-variants.{BufferTooShort}
 use Rattle.protocol.specs.declared.check.Check.{Check}
@@ -24,12 +24,12 @@ unfoldable pub storedAfter : List ℕ → List ℕ → List ℕ
 storedAfter bytes out = cond (leb (length bytes) (length out)) (sets out 0 bytes) out
 
 -- the bytes of 64-bit words
-unfoldable pub words : List ℕ → List Number
+unfoldable pub words : List ℕ → List Field
 words [] = []
 words (v ∷ vs) = record { width = 8; value = v } ∷ words vs
 
 unfoldable pub wordBytes : List ℕ → List ℕ
-wordBytes vs = numbers (words vs)
+wordBytes vs = layoutBytes (words vs)
 
 -- a reader's number and words, or 5
 unfoldable pub wordsNumber : ℕ → List ℕ → ℕ → ℕ

@@ -13,14 +13,14 @@ use Rattle.verifier_request.specs.Reading.{RequestReading}
 use Rattle.verifier_request.specs.Writer.{requestWritten, requestStored}
 
 -- the args: 33 bytes
-unfoldable pub argsFault : List ℕ → ℕ → Check
-argsFault account room = writeFault (sizeRow account ∷ []) 33 room
+unfoldable pub argsWriterFault : List ℕ → ℕ → Check
+argsWriterFault account room = writeFault (sizeRow account ∷ []) 33 room
 
 unfoldable pub argsWritten : List ℕ → List ℕ → WriteAnswer
-argsWritten account out = writeAnswer (argsFault account (length out)) 33
+argsWritten account out = writeAnswer (argsWriterFault account (length out)) 33
 
 unfoldable pub argsStored : List ℕ → List ℕ → List ℕ
-argsStored account out = afterWrite (argsFault account (length out)) (argsBytes account) out
+argsStored account out = afterWrite (argsWriterFault account (length out)) (argsBytes account) out
 
 -- the request: digest and key are tested before the writer's own refusals
 unfoldable pub answerAfter : Check → WriteAnswer → WriteAnswer

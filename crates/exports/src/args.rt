@@ -22,7 +22,7 @@ ghost use Rattle.protocol.specs.Policy.{isSupportedAlgorithm, capabilityFor, ca
 ghost use Rattle.protocol.specs.Write.{writeNumber};
 ghost use Rattle.export_answers.specs.Words.{wordsNumber, wordsAfter, lengthAfter};
 ghost use Rattle.exports.specs.Readers.{argsWords, capabilityWords};
-ghost use Rattle.exports.specs.Writers.{argsFault, argsWritten, argsStored};
+ghost use Rattle.exports.specs.Writers.{argsWriterFault, argsWritten, argsStored};
 
 // Stores the version and the place of the account id.
 #[no_mangle]
@@ -67,7 +67,7 @@ pub extern "C" fn fowlcredenza_capability_for_operation(operation: u8, out: &mut
 }
 
 fn check_account(account: &[u8], room: usize) -> Check
-    ensures { λ r. ⌜ r ≡ argsFault (now (account .entry)) room ⌝ }
+    ensures { λ r. ⌜ r ≡ argsWriterFault (now (account .entry)) room ⌝ }
 {
     Check::Passed
         .require(account.len() == 32, ProtocolError::SlicesDisagree)

@@ -13,7 +13,7 @@ ghost use mathlib.Core.Path.{_≡_};
 ghost use lib.ListN.{length};
 ghost use Rattle.protocol.specs.Write.{writeNumber};
 ghost use Rattle.verifier_request.specs.Reader.{requestNumber, readRequest};
-ghost use Rattle.verifier_request.specs.Reading.{reading};
+ghost use Rattle.verifier_request.specs.Reading.{requestWith};
 ghost use Rattle.export_answers.specs.Words.{wordsNumber, wordsAfter, lengthAfter};
 ghost use Rattle.exports.specs.Readers.{requestWords};
 ghost use Rattle.exports.specs.Writers.{lentWritten, lentStored};
@@ -56,8 +56,8 @@ fn write_request(
     proof: &[u8],
     out: &mut [u8],
 ) -> WriteAnswer
-    ensures { λ r. ⌜ r ≡ lentWritten (reading algorithm slot operation profile (now (digest .entry)) (now (key .entry)) (now (aux .entry)) (now (proof .entry))) (now (out .entry)) ⌝ }
-    ensures { λ _. ⌜ now (out .exit) ≡ lentStored (reading algorithm slot operation profile (now (digest .entry)) (now (key .entry)) (now (aux .entry)) (now (proof .entry))) (now (out .entry)) ⌝ }
+    ensures { λ r. ⌜ r ≡ lentWritten (requestWith algorithm slot operation profile (now (digest .entry)) (now (key .entry)) (now (aux .entry)) (now (proof .entry))) (now (out .entry)) ⌝ }
+    ensures { λ _. ⌜ now (out .exit) ≡ lentStored (requestWith algorithm slot operation profile (now (digest .entry)) (now (key .entry)) (now (aux .entry)) (now (proof .entry))) (now (out .entry)) ⌝ }
 {
     match check_sizes(digest, key) {
         Check::Failed(error) => WriteAnswer::Refused(error),
@@ -89,9 +89,9 @@ pub extern "C" fn fowlcredenza_encode_verifier_request(
     out: &mut [u8],
     len: &mut u64,
 ) -> u32
-    ensures { λ r. ⌜ r ≡ writeNumber (lentWritten (reading algorithm slot operation profile (now (digest .entry)) (now (key .entry)) (now (aux .entry)) (now (proof .entry))) (now (out .entry))) ⌝ }
-    ensures { λ _. ⌜ now (out .exit) ≡ lentStored (reading algorithm slot operation profile (now (digest .entry)) (now (key .entry)) (now (aux .entry)) (now (proof .entry))) (now (out .entry)) ⌝ }
-    ensures { λ _. ⌜ now (len .exit) ≡ lengthAfter (lentWritten (reading algorithm slot operation profile (now (digest .entry)) (now (key .entry)) (now (aux .entry)) (now (proof .entry))) (now (out .entry))) (now (len .entry)) ⌝ }
+    ensures { λ r. ⌜ r ≡ writeNumber (lentWritten (requestWith algorithm slot operation profile (now (digest .entry)) (now (key .entry)) (now (aux .entry)) (now (proof .entry))) (now (out .entry))) ⌝ }
+    ensures { λ _. ⌜ now (out .exit) ≡ lentStored (requestWith algorithm slot operation profile (now (digest .entry)) (now (key .entry)) (now (aux .entry)) (now (proof .entry))) (now (out .entry)) ⌝ }
+    ensures { λ _. ⌜ now (len .exit) ≡ lengthAfter (lentWritten (requestWith algorithm slot operation profile (now (digest .entry)) (now (key .entry)) (now (aux .entry)) (now (proof .entry))) (now (out .entry))) (now (len .entry)) ⌝ }
 {
     let answer = write_request(
         algorithm,

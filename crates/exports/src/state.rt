@@ -13,7 +13,7 @@ use protocol::error_number;
 ghost use mathlib.Core.Path.{_≡_};
 ghost use lib.ListN.{length};
 ghost use Rattle.protocol.specs.Write.{writeNumber};
-ghost use Rattle.account_state.specs.State.{headerNumber, readHeader, stateNumber, readState, stepNumber, entryStep};
+ghost use Rattle.account_state.specs.State.{stateHeaderNumber, readStateHeader, stateNumber, readState, entryStepNumber, entryStep};
 ghost use Rattle.account_state_writer.specs.Writer.{stateFrom, stateWritten, stateStored};
 ghost use Rattle.export_answers.specs.Words.{wordsNumber, wordsAfter, lengthAfter};
 ghost use Rattle.exports.specs.Readers.{headerWords, stateWords, stepWords};
@@ -21,8 +21,8 @@ ghost use Rattle.exports.specs.Readers.{headerWords, stateWords, stepWor
 // Stores flags, sequence, spend, rotate and recovery thresholds, count and recovery_since.
 #[no_mangle]
 pub extern "C" fn fowlcredenza_parse_state_header(state: &[u8], out: &mut [u8]) -> u32
-    ensures { λ r. ⌜ r ≡ wordsNumber (headerNumber (readHeader (now (state .entry)))) (headerWords (readHeader (now (state .entry)))) (length (now (out .entry))) ⌝ }
-    ensures { λ _. ⌜ now (out .exit) ≡ wordsAfter (headerWords (readHeader (now (state .entry)))) (now (out .entry)) ⌝ }
+    ensures { λ r. ⌜ r ≡ wordsNumber (stateHeaderNumber (readStateHeader (now (state .entry)))) (headerWords (readStateHeader (now (state .entry)))) (length (now (out .entry))) ⌝ }
+    ensures { λ _. ⌜ now (out .exit) ≡ wordsAfter (headerWords (readStateHeader (now (state .entry)))) (now (out .entry)) ⌝ }
 {
     match StateHeader::parse(state) {
         StateHeaderAnswer::Refused(error) => error_number(error) as u32,
@@ -76,7 +76,7 @@ pub extern "C" fn fowlcredenza_next_entry(
     least: u32,
     out: &mut [u8],
 ) -> u32
-    ensures { λ r. ⌜ r ≡ wordsNumber (stepNumber (entryStep (now (state .entry)) (record { offset = offset; least = least }))) (stepWords (entryStep (now (state .entry)) (record { offset = offset; least = least }))) (length (now (out .entry))) ⌝ }
+    ensures { λ r. ⌜ r ≡ wordsNumber (entryStepNumber (entryStep (now (state .entry)) (record { offset = offset; least = least }))) (stepWords (entryStep (now (state .entry)) (record { offset = offset; least = least }))) (length (now (out .entry))) ⌝ }
     ensures { λ _. ⌜ now (out .exit) ≡ wordsAfter (stepWords (entryStep (now (state .entry)) (record { offset = offset; least = least }))) (now (out .entry)) ⌝ }
 {
     match next_entry(state, EntryCursor { offset, least }) {

@@ -13,8 +13,8 @@ use protocol::error_number;
 ghost use mathlib.Core.Path.{_≡_};
 ghost use lib.ListN.{length};
 ghost use Rattle.protocol.specs.Write.{writeNumber};
-ghost use Rattle.account_witness.specs.Header.{headerNumber, readHeader};
-ghost use Rattle.account_witness.specs.Walk.{stepNumber, proofStep};
+ghost use Rattle.account_witness.specs.Header.{witnessHeaderNumber, readWitnessHeader};
+ghost use Rattle.account_witness.specs.Walk.{proofStepNumber, proofStep};
 ghost use Rattle.account_witness.specs.Witness.{witnessNumber, readWitness};
 ghost use Rattle.account_witness_writer.specs.Encode.{witnessWritten, witnessStored};
 ghost use Rattle.export_answers.specs.Words.{wordsNumber, wordsAfter, lengthAfter};
@@ -23,8 +23,8 @@ ghost use Rattle.exports.specs.Readers.{witnessHeaderWords, proofStepWor
 // Stores operation, proof count and sequence.
 #[no_mangle]
 pub extern "C" fn fowlcredenza_parse_witness_header(witness: &[u8], out: &mut [u8]) -> u32
-    ensures { λ r. ⌜ r ≡ wordsNumber (headerNumber (readHeader (now (witness .entry)))) (witnessHeaderWords (readHeader (now (witness .entry)))) (length (now (out .entry))) ⌝ }
-    ensures { λ _. ⌜ now (out .exit) ≡ wordsAfter (witnessHeaderWords (readHeader (now (witness .entry)))) (now (out .entry)) ⌝ }
+    ensures { λ r. ⌜ r ≡ wordsNumber (witnessHeaderNumber (readWitnessHeader (now (witness .entry)))) (witnessHeaderWords (readWitnessHeader (now (witness .entry)))) (length (now (out .entry))) ⌝ }
+    ensures { λ _. ⌜ now (out .exit) ≡ wordsAfter (witnessHeaderWords (readWitnessHeader (now (witness .entry)))) (now (out .entry)) ⌝ }
 {
     match parse_witness_header(witness) {
         WitnessHeaderAnswer::Refused(error) => error_number(error) as u32,
@@ -47,7 +47,7 @@ pub extern "C" fn fowlcredenza_next_proof(
     least: u32,
     out: &mut [u8],
 ) -> u32
-    ensures { λ r. ⌜ r ≡ wordsNumber (stepNumber (proofStep (now (witness .entry)) (record { offset = offset; least = least }))) (proofStepWords (proofStep (now (witness .entry)) (record { offset = offset; least = least }))) (length (now (out .entry))) ⌝ }
+    ensures { λ r. ⌜ r ≡ wordsNumber (proofStepNumber (proofStep (now (witness .entry)) (record { offset = offset; least = least }))) (proofStepWords (proofStep (now (witness .entry)) (record { offset = offset; least = least }))) (length (now (out .entry))) ⌝ }
     ensures { λ _. ⌜ now (out .exit) ≡ wordsAfter (proofStepWords (proofStep (now (witness .entry)) (record { offset = offset; least = least }))) (now (out .entry)) ⌝ }
 {
     match next_proof(witness, ProofCursor { offset, least }) {

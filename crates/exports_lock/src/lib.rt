@@ -12,8 +12,8 @@ ghost use Prim.Native.Nat.{_≤_};
 ghost use lib.ListN.{length};
 ghost use Rattle.protocol.specs.Rows.{checkNumber};
 ghost use Rattle.decision.specs.Walk.{answered};
-ghost use Rattle.account_lock.specs.Lock.{lockOf, told};
-ghost use Rattle.scene_reader.specs.Reader.{readOf, storeOf, tableOf};
+ghost use Rattle.account_lock.specs.Lock.{lockOf, answerOf};
+ghost use Rattle.scene_reader.specs.Reader.{readOf, readerStore, readerTable};
 ghost use Rattle.decide_scene.specs.Decided.{decided};
 ghost use Rattle.exports_lock.specs.Stored.{answerStored, roomNumber, roomAfter};
 
@@ -46,7 +46,7 @@ pub extern "C" fn fowlcredenza_lock(
 ) -> u32
     ensures { λ r. ⌜ r ≡ roomNumber (now (out .entry)) (checkNumber (lockOf (now (table .entry)) (now (store .entry)) (length (now (answer .entry))) .found)) ⌝ }
     ensures { λ _. ⌜ now (answer .exit) ≡ roomAfter (now (out .entry)) (answered (now (answer .entry)) (lockOf (now (table .entry)) (now (store .entry)) (length (now (answer .entry))) .made)) (now (answer .entry)) ⌝ }
-    ensures { λ _. ⌜ now (out .exit) ≡ roomAfter (now (out .entry)) (answerStored (told (lockOf (now (table .entry)) (now (store .entry)) (length (now (answer .entry))))) (now (out .entry))) (now (out .entry)) ⌝ }
+    ensures { λ _. ⌜ now (out .exit) ≡ roomAfter (now (out .entry)) (answerStored (answerOf (lockOf (now (table .entry)) (now (store .entry)) (length (now (answer .entry))))) (now (out .entry))) (now (out .entry)) ⌝ }
 {
     if out.len() < ANSWER_LEN {
         return error_number(ProtocolError::SlicesDisagree) as u32;
@@ -67,10 +67,10 @@ pub extern "C" fn fowlcredenza_decide_scene(
     out: &mut [u8],
 ) -> u32
     ensures { λ r. ⌜ r ≡ roomNumber (now (out .entry)) (checkNumber (decided (now (scene .entry)) (length (now (store .entry))) (length (now (table .entry))) (length (now (answer .entry))) .found)) ⌝ }
-    ensures { λ _. ⌜ now (store .exit) ≡ roomAfter (now (out .entry)) (storeOf (length (now (store .entry))) (readOf (now (scene .entry)) (length (now (store .entry))) (length (now (table .entry))))) (now (store .entry)) ⌝ }
-    ensures { λ _. ⌜ now (table .exit) ≡ roomAfter (now (out .entry)) (tableOf (length (now (table .entry))) (readOf (now (scene .entry)) (length (now (store .entry))) (length (now (table .entry))))) (now (table .entry)) ⌝ }
+    ensures { λ _. ⌜ now (store .exit) ≡ roomAfter (now (out .entry)) (readerStore (length (now (store .entry))) (readOf (now (scene .entry)) (length (now (store .entry))) (length (now (table .entry))))) (now (store .entry)) ⌝ }
+    ensures { λ _. ⌜ now (table .exit) ≡ roomAfter (now (out .entry)) (readerTable (length (now (table .entry))) (readOf (now (scene .entry)) (length (now (store .entry))) (length (now (table .entry))))) (now (table .entry)) ⌝ }
     ensures { λ _. ⌜ now (answer .exit) ≡ roomAfter (now (out .entry)) (answered (now (answer .entry)) (decided (now (scene .entry)) (length (now (store .entry))) (length (now (table .entry))) (length (now (answer .entry))) .made)) (now (answer .entry)) ⌝ }
-    ensures { λ _. ⌜ now (out .exit) ≡ roomAfter (now (out .entry)) (answerStored (told (decided (now (scene .entry)) (length (now (store .entry))) (length (now (table .entry))) (length (now (answer .entry))))) (now (out .entry))) (now (out .entry)) ⌝ }
+    ensures { λ _. ⌜ now (out .exit) ≡ roomAfter (now (out .entry)) (answerStored (answerOf (decided (now (scene .entry)) (length (now (store .entry))) (length (now (table .entry))) (length (now (answer .entry))))) (now (out .entry))) (now (out .entry)) ⌝ }
 {
     if out.len() < ANSWER_LEN {
         return error_number(ProtocolError::SlicesDisagree) as u32;

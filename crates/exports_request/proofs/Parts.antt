@@ -9,13 +9,13 @@ use lib.ListN.{length}
 use lib.Seq.{take-all}
 use Rattle.octets.proofs.Stores.{sets-over}
 use Rattle.protocol.specs.Errors.{errorNumber}
-use Rattle.protocol.specs.Rows.{row, decide, checkNumber, Hold}
+use Rattle.protocol.specs.Rows.{row, decide, checkNumber, AllPass}
 use Rattle.protocol.specs.Write.{writeFault, writeAnswer, afterWrite}
 use Rattle.protocol.specs.declared.error.ProtocolError.{ProtocolError}
 use Rattle.protocol.specs.declared.error.ProtocolError.the-variants.{BufferTooShort}
 use Rattle.protocol.specs.declared.check.Check.{Check}
 use Rattle.protocol.specs.declared.check.Check.the-variants.{Passed, Failed}
-use Rattle.protocol.proofs.Hold.{decide-append, decide-failed, passed-hold}
+use Rattle.protocol.proofs.AllPass.{decide-append, decide-failed, passed-all-pass}
 use Rattle.verifier_request.specs.Reader.{requestRows, requestFault, readRequest}
 use Rattle.verifier_request.specs.Reading.{RequestReading, requestReading}
 use Rattle.held_request.specs.Held.{placesOf, heldReading}
@@ -53,7 +53,7 @@ handed s out of = by-check (requestFault s) refl
     read = of (requestReading s)
 
     by-check : (k : Check) → requestFault s ≡ k → (partWritten s held out ≡ partWritten s read out) × (partStored s held out ≡ partStored s read out)
-    by-check Passed h = let e = ap of (held-reading s (passed-hold (requestRows s) h)) in (rw e, rw e)
+    by-check Passed h = let e = ap of (held-reading s (passed-all-pass (requestRows s) h)) in (rw e, rw e)
     by-check (Failed e) h =
         let refused = refused-fault s e h in
         (rw (refused (length held) (length out), refused (length read) (length out)), rw (refused (length held) (length out), refused (length read) (length out)))

@@ -4,15 +4,15 @@ ghost use mathlib.Core.Path.{_≡_};
 ghost use mathlib.Core.Bool.{cond};
 ghost use lib.ListN.{length};
 ghost use Rattle.protocol.specs.Rows.{checkNumber};
-ghost use Rattle.scene_reader.specs.Reader.{readOf, answerOf, storeOf, tableOf};
+ghost use Rattle.scene_reader.specs.Reader.{readOf, readerCheck, readerStore, readerTable};
 ghost use Rattle.scene_table.specs.Valid.{validTable};
 
 // Reads a scene into the store and the table, and returns document 01's number, 0 where it is accepted.
 #[no_mangle]
 pub extern "C" fn fowlcredenza_read_scene(scene: &[u8], store: &mut [u8], table: &mut [u32]) -> u32
-    ensures { λ r. ⌜ r ≡ checkNumber (answerOf (readOf (now (scene .entry)) (length (now (store .entry))) (length (now (table .entry))))) ⌝ }
-    ensures { λ _. ⌜ now (store .exit) ≡ storeOf (length (now (store .entry))) (readOf (now (scene .entry)) (length (now (store .entry))) (length (now (table .entry)))) ⌝ }
-    ensures { λ _. ⌜ now (table .exit) ≡ tableOf (length (now (table .entry))) (readOf (now (scene .entry)) (length (now (store .entry))) (length (now (table .entry)))) ⌝ }
+    ensures { λ r. ⌜ r ≡ checkNumber (readerCheck (readOf (now (scene .entry)) (length (now (store .entry))) (length (now (table .entry))))) ⌝ }
+    ensures { λ _. ⌜ now (store .exit) ≡ readerStore (length (now (store .entry))) (readOf (now (scene .entry)) (length (now (store .entry))) (length (now (table .entry)))) ⌝ }
+    ensures { λ _. ⌜ now (table .exit) ≡ readerTable (length (now (table .entry))) (readOf (now (scene .entry)) (length (now (store .entry))) (length (now (table .entry)))) ⌝ }
 {
     check_number(scene_reader::read_scene(scene, store, table)) as u32
 }

@@ -12,7 +12,7 @@ use Rattle.molecule.specs.declared.bytes.PlaceAnswer.{PlaceAnswer}
 use Rattle.molecule.specs.declared.bytes.PlaceAnswer.the-variants.{At, Refused}
 use Rattle.authorization.specs.Digest.{operationRows, digestAnswer, digestOf}
 use Rattle.authorization.specs.declared.digest.AuthorizationDigest.{AuthorizationDigest}
-use Rattle.scene_table.specs.Lent.{lentScene}
+use Rattle.scene_table.specs.Lent.{sceneIn}
 use Rattle.scene_table.specs.Valid.{validTable}
 use Rattle.group_sighash.specs.declared.transaction.Sighash.{Sighash}
 use Rattle.group_sighash.specs.GroupSighash.{sighashFound, groupAnswer}
@@ -37,4 +37,4 @@ lentDigest operation account sequence state sighash =
 -- 01, of the lock: "a table that the reader, scene length aside, leaves for no accepted scene with a store this long: 7"
 unfoldable pub lentSighash : List ℕ → List ℕ → Sighash
 lentSighash table store =
-    cond (validTable table (length store)) (groupAnswer (lentScene table store)) (sighashFound (Failed SlicesDisagree) [])
+    cond (validTable table (length store)) (groupAnswer (sceneIn table store)) (sighashFound (Failed SlicesDisagree) [])

@@ -10,7 +10,7 @@ ghost use mathlib.Core.Path.{_≡_};
 ghost use lib.ListN.{length};
 ghost use Rattle.protocol.specs.Write.{writeNumber};
 ghost use Rattle.export_answers.specs.Words.{wordsNumber, wordsAfter, lengthAfter};
-ghost use Rattle.molecule.specs.Bytes.{placeNumber, readLock, readScriptArgs};
+ghost use Rattle.molecule.specs.Bytes.{placeNumber, readWitnessLock, readScriptArgs};
 ghost use Rattle.molecule.specs.Canonical.{canonicalWritten, canonicalStored};
 ghost use Rattle.exports_transaction.specs.Answers.{placeWords};
 
@@ -31,8 +31,8 @@ fn place_stored(answer: PlaceAnswer, out: &mut [u8]) -> u32
 // Stores place and length of the lock's bytes.
 #[no_mangle]
 pub extern "C" fn fowlcredenza_witness_lock(witness: &[u8], out: &mut [u8]) -> u32
-    ensures { λ r. ⌜ r ≡ wordsNumber (placeNumber (readLock (now (witness .entry)))) (placeWords (readLock (now (witness .entry)))) (length (now (out .entry))) ⌝ }
-    ensures { λ _. ⌜ now (out .exit) ≡ wordsAfter (placeWords (readLock (now (witness .entry)))) (now (out .entry)) ⌝ }
+    ensures { λ r. ⌜ r ≡ wordsNumber (placeNumber (readWitnessLock (now (witness .entry)))) (placeWords (readWitnessLock (now (witness .entry)))) (length (now (out .entry))) ⌝ }
+    ensures { λ _. ⌜ now (out .exit) ≡ wordsAfter (placeWords (readWitnessLock (now (witness .entry)))) (now (out .entry)) ⌝ }
 {
     place_stored(witness_lock(witness), out)
 }

@@ -13,8 +13,8 @@ use Rattle.octets.specs.Lists.{joined}
 use Rattle.blake2b.specs.declared.Blake2b.{Blake2b}
 use Rattle.blake2b.specs.State.{fedAll}
 use Rattle.blake2b.proofs.Feed.{fed-append}
-use Rattle.protocol.specs.Rows.{Hold, decide, _▷_}
-use Rattle.protocol.proofs.Hold.{hold-split}
+use Rattle.protocol.specs.Rows.{AllPass, decide, _▷_}
+use Rattle.protocol.proofs.AllPass.{all-pass-split}
 use Rattle.protocol.specs.declared.error.ProtocolError.the-variants.{InvalidWitness}
 use Rattle.protocol.specs.declared.check.Check.the-variants.{Passed, Failed}
 use Rattle.molecule.specs.Table3.{tableRows}
@@ -22,7 +22,7 @@ use Rattle.authorization.specs.Hashed.{hashedWitness}
 use Rattle.authorization.specs.Sighash.{hashedWitnesses}
 use Rattle.scene_table.specs.Valid.{every}
 use Rattle.scene_table.specs.Scene.{Input, Scene}
-use Rattle.scene_table.specs.Lent.{entryAt, lentScene}
+use Rattle.scene_table.specs.Lent.{tableEntry, sceneIn}
 use Rattle.scene_table.specs.Places.{inputGroup}
 use Rattle.scene_table.proofs.PlaceLaws.{lent-group, lent-given}
 use Rattle.group_sighash.specs.Witnesses.{groupWitnesses, groupOf, headOf, firstWitness, otherWitnesses, witnessFits, otherRows}
@@ -52,139 +52,139 @@ group-none [] = refl
 group-none (i ∷ is) = refl
 
 module _ (table store : List ℕ) (i : ℕ) where
-  group-yes : i < entryAt table 3 → i < entryAt table 6 → inputGroup table i ≡ true
+  group-yes : i < tableEntry table 3 → i < tableEntry table 6 → inputGroup table i ≡ true
       → groupFrom table store i ≡ witnessAt table store i ∷ groupFrom table store (i + 1)
   unfolding groupFrom groupWitnesses witnessAt
   group-yes n w g = rw (lent-given table store .inputs .turn i n, lent-given table store .witnesses .turn i w, lent-group table store i, g)
 
-  group-no : i < entryAt table 3 → i < entryAt table 6 → inputGroup table i ≡ false
+  group-no : i < tableEntry table 3 → i < tableEntry table 6 → inputGroup table i ≡ false
       → groupFrom table store i ≡ groupFrom table store (i + 1)
   unfolding groupFrom groupWitnesses
   group-no n w g = rw (lent-given table store .inputs .turn i n, lent-given table store .witnesses .turn i w, lent-group table store i, g)
 
-  group-past : entryAt table 3 ≤ i → groupFrom table store i ≡ []
+  group-past : tableEntry table 3 ≤ i → groupFrom table store i ≡ []
   unfolding groupFrom groupWitnesses
   group-past n = rw (lent-given table store .inputs .none i n)
 
-  group-end : entryAt table 6 ≤ i → groupFrom table store i ≡ []
+  group-end : tableEntry table 6 ≤ i → groupFrom table store i ≡ []
   unfolding groupFrom
-  group-end w = rw (lent-given table store .witnesses .none i w) (group-none (drop i (lentScene table store .inputs)))
+  group-end w = rw (lent-given table store .witnesses .none i w) (group-none (drop i (sceneIn table store .inputs)))
 
   -- a hashed witness
-  pub hashed-take : i < entryAt table 6 → isHashed table i ≡ true
+  pub hashed-take : i < tableEntry table 6 → isHashed table i ≡ true
       → hashedFrom table store i ≡ witnessAt table store i ∷ hashedFrom table store (i + 1)
   unfolding isHashed hashedFrom hashedOf witnessAt
-  hashed-take w = go (leb (entryAt table 3) i) refl
+  hashed-take w = go (leb (tableEntry table 3) i) refl
     where
-      go : (b : Bool) → leb (entryAt table 3) i ≡ b → cond b true (inputGroup table i) ≡ true
+      go : (b : Bool) → leb (tableEntry table 3) i ≡ b → cond b true (inputGroup table i) ≡ true
           → hashedFrom table store i ≡ witnessAt table store i ∷ hashedFrom table store (i + 1)
       go true e g =
-          let n : entryAt table 3 ≤ i = leb-true _ _ e in
-          let m : entryAt table 3 ≤ i + 1 = omega arith in
+          let n : tableEntry table 3 ≤ i = leb-true _ _ e in
+          let m : tableEntry table 3 ≤ i + 1 = omega arith in
           rw (lent-given table store .inputs .none i n, lent-given table store .inputs .none (i + 1) m, lent-given table store .witnesses .turn i w)
       go false e g =
           rw (lent-given table store .inputs .turn i (leb-false _ _ e), lent-given table store .witnesses .turn i w, lent-group table store i, g)
 
   -- one that is not
-  pub hashed-skip : i < entryAt table 6 → isHashed table i ≡ false → hashedFrom table store i ≡ hashedFrom table store (i + 1)
+  pub hashed-skip : i < tableEntry table 6 → isHashed table i ≡ false → hashedFrom table store i ≡ hashedFrom table store (i + 1)
   unfolding isHashed hashedFrom hashedOf
-  hashed-skip w = go (leb (entryAt table 3) i) refl
+  hashed-skip w = go (leb (tableEntry table 3) i) refl
     where
-      go : (b : Bool) → leb (entryAt table 3) i ≡ b → cond b true (inputGroup table i) ≡ false
+      go : (b : Bool) → leb (tableEntry table 3) i ≡ b → cond b true (inputGroup table i) ≡ false
           → hashedFrom table store i ≡ hashedFrom table store (i + 1)
       go true e g = absurd (true≢false g)
       go false e g =
           rw (lent-given table store .inputs .turn i (leb-false _ _ e), lent-given table store .witnesses .turn i w, lent-group table store i, g)
 
-  pub group-skip : i < entryAt table 6 → isHashed table i ≡ false → groupFrom table store i ≡ groupFrom table store (i + 1)
+  pub group-skip : i < tableEntry table 6 → isHashed table i ≡ false → groupFrom table store i ≡ groupFrom table store (i + 1)
   unfolding isHashed
-  group-skip w = go (leb (entryAt table 3) i) refl
+  group-skip w = go (leb (tableEntry table 3) i) refl
     where
-      go : (b : Bool) → leb (entryAt table 3) i ≡ b → cond b true (inputGroup table i) ≡ false
+      go : (b : Bool) → leb (tableEntry table 3) i ≡ b → cond b true (inputGroup table i) ≡ false
           → groupFrom table store i ≡ groupFrom table store (i + 1)
       go true e g = absurd (true≢false g)
       go false e g = group-no (leb-false _ _ e) w g
 
-  pub hashed-end : entryAt table 6 ≤ i → hashedFrom table store i ≡ []
+  pub hashed-end : tableEntry table 6 ≤ i → hashedFrom table store i ≡ []
   unfolding hashedFrom
-  hashed-end w = rw (lent-given table store .witnesses .none i w) (hashed-none (drop i (lentScene table store .inputs)))
+  hashed-end w = rw (lent-given table store .witnesses .none i w) (hashed-none (drop i (sceneIn table store .inputs)))
 
 -- there is an input and a witness at the place
 pub record Both (table : List ℕ) (i : ℕ) : Type 0 where
-  pub input : i < entryAt table 3
-  pub witness : i < entryAt table 6
+  pub input : i < tableEntry table 3
+  pub witness : i < tableEntry table 6
 
 pub input-both : (table : List ℕ) (i : ℕ) → isInput table i ≡ true → Both table i
 unfolding isInput
-input-both table i = go (leb (entryAt table 6) i) refl
+input-both table i = go (leb (tableEntry table 6) i) refl
   where
-    go : (b : Bool) → leb (entryAt table 6) i ≡ b → cond b false (ltb i (entryAt table 3)) ≡ true → Both table i
+    go : (b : Bool) → leb (tableEntry table 6) i ≡ b → cond b false (ltb i (tableEntry table 3)) ≡ true → Both table i
     go true e g = absurd (true≢false (sym g))
     go false e g = record { input = ltb-true _ _ g; witness = leb-false _ _ e }
 
-hashed-group : (table : List ℕ) (i : ℕ) → i < entryAt table 3 → isHashed table i ≡ true → inputGroup table i ≡ true
+hashed-group : (table : List ℕ) (i : ℕ) → i < tableEntry table 3 → isHashed table i ≡ true → inputGroup table i ≡ true
 unfolding isHashed
-hashed-group table i n e = rw (lt-leb (entryAt table 3) i n) at e
+hashed-group table i n e = rw (lt-leb (tableEntry table 3) i n) at e
 
 -- the first hashed witness, from the front on
 module _ (table store : List ℕ) (r : ℕ) (first : Next table 0 r) where
-  group-first : isInput table r ≡ true → groupOf (lentScene table store) ≡ witnessAt table store r ∷ groupFrom table store (r + 1)
+  group-first : isInput table r ≡ true → groupOf (sceneIn table store) ≡ witnessAt table store r ∷ groupFrom table store (r + 1)
   unfolding groupOf groupFrom
   group-first e =
       let b = input-both table r e in
       first .group store ∙ group-yes table store r (b .input) (b .witness) (hashed-group table r (b .input) (first .hit (b .witness)))
 
-  group-missing : isInput table r ≡ false → groupOf (lentScene table store) ≡ []
+  group-missing : isInput table r ≡ false → groupOf (sceneIn table store) ≡ []
   unfolding groupOf groupFrom isInput
-  group-missing = go (leb (entryAt table 6) r) refl
+  group-missing = go (leb (tableEntry table 6) r) refl
     where
-      go : (b : Bool) → leb (entryAt table 6) r ≡ b → cond b false (ltb r (entryAt table 3)) ≡ false → groupOf (lentScene table store) ≡ []
+      go : (b : Bool) → leb (tableEntry table 6) r ≡ b → cond b false (ltb r (tableEntry table 3)) ≡ false → groupOf (sceneIn table store) ≡ []
       go true e g = first .group store ∙ group-end table store r (leb-true _ _ e)
       go false e g = first .group store ∙ group-past table store r (ltb-false _ _ g)
 
-  pub first-there : isInput table r ≡ true → firstWitness (lentScene table store) ≡ witnessAt table store r
+  pub first-there : isInput table r ≡ true → firstWitness (sceneIn table store) ≡ witnessAt table store r
   unfolding firstWitness headOf
   first-there e = rw (group-first e)
 
-  pub first-missing : isInput table r ≡ false → firstWitness (lentScene table store) ≡ []
+  pub first-missing : isInput table r ≡ false → firstWitness (sceneIn table store) ≡ []
   unfolding firstWitness headOf
   first-missing e = rw (group-missing e)
 
-  pub group-count : leb 1 (length (groupOf (lentScene table store))) ≡ isInput table r
+  pub group-count : leb 1 (length (groupOf (sceneIn table store))) ≡ isInput table r
   group-count = go (isInput table r) refl
     where
-      go : (b : Bool) → isInput table r ≡ b → leb 1 (length (groupOf (lentScene table store))) ≡ b
+      go : (b : Bool) → isInput table r ≡ b → leb 1 (length (groupOf (sceneIn table store))) ≡ b
       go true e = rw (group-first e) (le-leb 1 (length (witnessAt table store r ∷ groupFrom table store (r + 1))) (omega arith))
       go false e = rw (group-missing e)
 
-  pub other-there : isInput table r ≡ true → otherWitnesses (lentScene table store) ≡ hashedFrom table store (r + 1)
+  pub other-there : isInput table r ≡ true → otherWitnesses (sceneIn table store) ≡ hashedFrom table store (r + 1)
   unfolding otherWitnesses hashedFrom groupFrom
   other-there e =
-      let is = lentScene table store .inputs in
-      let ws = lentScene table store .witnesses in
-      let n : length is ≡ entryAt table 3 = lent-given table store .inputs .long in
+      let is = sceneIn table store .inputs in
+      let ws = sceneIn table store .witnesses in
+      let n : length is ≡ tableEntry table 3 = lent-given table store .inputs .long in
       let b = input-both table r e .input in
       let m : r + 1 + (length is - (r + 1)) ≡ length is = rw n (omega arith) in
       rw (group-first e)
       (sym (hashed-split (drop (r + 1) is) (drop (r + 1) ws) ∙ rw (length-drop, drop-drop, m)))
 
-  pub other-missing : isInput table r ≡ false → otherWitnesses (lentScene table store) ≡ hashedFrom table store r
+  pub other-missing : isInput table r ≡ false → otherWitnesses (sceneIn table store) ≡ hashedFrom table store r
   unfolding otherWitnesses hashedFrom groupOf
   other-missing e =
-      let is = lentScene table store .inputs in
-      let ws = lentScene table store .witnesses in
+      let is = sceneIn table store .inputs in
+      let ws = sceneIn table store .witnesses in
       rw (group-missing e) (sym (hashed-split is ws ∙ rw (group-missing e)) ∙ first .hashed store)
 
 -- A loop over the hashed witnesses that stands at witness i: what the loop is to find is a function of those from i on
 pub record Left {A : Type 0} (table store : List ℕ) (count i : ℕ) (whole : A) (of : List (List ℕ) → A) : Type 0 where
-  pub counted : count ≡ entryAt table 6
+  pub counted : count ≡ tableEntry table 6
   pub hashed : i < count → isHashed table i ≡ true
   pub left : whole ≡ of (hashedFrom table store i)
 
 module _ {A : Type 0} {table : List ℕ} (store : List ℕ) {count : ℕ} where
   -- it begins at the first behind the first of the group
-  pub left-first : {from i : ℕ} (of : List (List ℕ) → A) → count ≡ entryAt table 6 → FirstOther table from → Next table from i
-      → Left table store count i (of (otherWitnesses (lentScene table store))) of
+  pub left-first : {from i : ℕ} (of : List (List ℕ) → A) → count ≡ tableEntry table 6 → FirstOther table from → Next table from i
+      → Left table store count i (of (otherWitnesses (sceneIn table store))) of
   left-first of e other next = record { counted = e; hashed = λ h. next .hit (rw e at h); left = ap of (other store ∙ next .hashed store) }
 
   module _ {i : ℕ} {whole : A} {of : List (List ℕ) → A} (l : Left table store count i whole of) where
@@ -230,9 +230,9 @@ module _ (s : Scene) where
   others-fail e = rw e
 
 -- where the sighash's rows pass, the first witness is a table
-pub first-table : (s : Scene) → Hold (sighashRows s) → Hold (tableRows InvalidWitness (firstWitness s))
+pub first-table : (s : Scene) → AllPass (sighashRows s) → AllPass (tableRows InvalidWitness (firstWitness s))
 unfolding sighashRows
-first-table s h = hold-split (tableRows InvalidWitness (firstWitness s)) (otherRows s) (h .1 .1) .0
+first-table s h = all-pass-split (tableRows InvalidWitness (firstWitness s)) (otherRows s) (h .1 .1) .0
 
 -- a hashed witness is fed
 pub fed-next : (h : Blake2b) (w : List ℕ) (ws : List (List ℕ))

@@ -1,5 +1,5 @@
 -- Private: no public contract cites this file.
--- The hashed witnesses, by the rows of the table.
+-- The hashed witnesses, by the records of the table.
 use mathlib.Core.Path.{_≡_}
 use Prim.Native.Nat.{ℕ, _≤_, _<_}
 use mathlib.Core.Bool.{Bool, true, false, cond}
@@ -7,7 +7,7 @@ use mathlib.Core.List.{List, [], _∷_}
 use lib.ListN.{drop}
 use lib.Dec.{eqb, leb, ltb}
 use Rattle.scene_table.specs.Scene.{Input}
-use Rattle.scene_table.specs.Lent.{entryAt, lentScene}
+use Rattle.scene_table.specs.Lent.{tableEntry, sceneIn}
 use Rattle.scene_table.specs.Places.{inputGroup, witnessPlace}
 use Rattle.octets.specs.Places.{bytesAt}
 use Rattle.group_sighash.specs.Witnesses.{groupWitnesses, otherWitnesses}
@@ -20,28 +20,28 @@ hashedOf (i ∷ is) (w ∷ ws) = cond (eqb (i .group) 1) (w ∷ hashedOf is ws) 
 
 -- from witness i on
 unfoldable pub hashedFrom : List ℕ → List ℕ → ℕ → List (List ℕ)
-hashedFrom table store i = hashedOf (drop i (lentScene table store .inputs)) (drop i (lentScene table store .witnesses))
+hashedFrom table store i = hashedOf (drop i (sceneIn table store .inputs)) (drop i (sceneIn table store .witnesses))
 
 unfoldable pub groupFrom : List ℕ → List ℕ → ℕ → List (List ℕ)
-groupFrom table store i = groupWitnesses (drop i (lentScene table store .inputs)) (drop i (lentScene table store .witnesses))
+groupFrom table store i = groupWitnesses (drop i (sceneIn table store .inputs)) (drop i (sceneIn table store .witnesses))
 
 unfoldable pub witnessAt : List ℕ → List ℕ → ℕ → List ℕ
 witnessAt table store i = bytesAt store (witnessPlace table i)
 
 -- witness i is one of them, and one of the group
 unfoldable pub isHashed : List ℕ → ℕ → Bool
-isHashed table i = cond (leb (entryAt table 3) i) true (inputGroup table i)
+isHashed table i = cond (leb (tableEntry table 3) i) true (inputGroup table i)
 
 unfoldable pub isInput : List ℕ → ℕ → Bool
-isInput table i = cond (leb (entryAt table 6) i) false (ltb i (entryAt table 3))
+isInput table i = cond (leb (tableEntry table 6) i) false (ltb i (tableEntry table 3))
 
 -- no witness before r is hashed, from one on
 pub record Next (table : List ℕ) (from r : ℕ) : Type 0 where
   pub behind : from ≤ r
   pub hashed : (store : List ℕ) → hashedFrom table store from ≡ hashedFrom table store r
   pub group : (store : List ℕ) → groupFrom table store from ≡ groupFrom table store r
-  pub hit : r < entryAt table 6 → isHashed table r ≡ true
+  pub hit : r < tableEntry table 6 → isHashed table r ≡ true
 
 -- the hashed witnesses from r on are those behind the first of the group
 abbrev pub FirstOther : List ℕ → ℕ → Type 0
-FirstOther table r = (store : List ℕ) → otherWitnesses (lentScene table store) ≡ hashedFrom table store r
+FirstOther table r = (store : List ℕ) → otherWitnesses (sceneIn table store) ≡ hashedFrom table store r

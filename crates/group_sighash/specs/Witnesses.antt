@@ -7,8 +7,8 @@ use lib.Dec.{eqb, leb}
 use Rattle.account_witness.specs.Witness.{countRow}
 use Rattle.protocol.specs.Rows.{Row, row}
 use Rattle.protocol.specs.declared.error.ProtocolError.the-variants.{InvalidWitness}
-use Rattle.molecule.specs.Bytes.{lockRows, readLock, bytesIn}
-use Rattle.account_witness.specs.Header.{headerRows}
+use Rattle.molecule.specs.Bytes.{witnessLockRows, readWitnessLock, bytesIn}
+use Rattle.account_witness.specs.Header.{witnessHeaderRows}
 use Rattle.scene_table.specs.Scene.{Input, Scene}
 use Rattle.scene_table.specs.Valid.{every}
 
@@ -35,19 +35,19 @@ otherWitnesses s = drop 1 (groupOf s) ++ drop (length (s .inputs)) (s .witnesses
 
 -- a witness's lock: the bytes of its field 1, none where it is refused
 unfoldable pub lockIn : List ℕ → List ℕ
-lockIn witness = bytesIn witness (readLock witness)
+lockIn witness = bytesIn witness (readWitnessLock witness)
 
 -- 01, "Where each refusal is raised": "first group witness missing, above 132,096, table, empty lock, header, count", 22
 unfoldable pub countRows : List ℕ → List Row
 countRows lock = countRow lock ∷ []
 
-unfoldable pub witnessRows : List ℕ → List Row
-witnessRows witness =
+unfoldable pub firstWitnessRows : List ℕ → List Row
+firstWitnessRows witness =
     row (leb (length witness) 132096) InvalidWitness
-    ∷ (lockRows witness ++ (headerRows (lockIn witness) ++ countRows (lockIn witness)))
+    ∷ (witnessLockRows witness ++ (witnessHeaderRows (lockIn witness) ++ countRows (lockIn witness)))
 
 unfoldable pub groupRows : Scene → List Row
-groupRows s = row (leb 1 (length (groupOf s))) InvalidWitness ∷ witnessRows (firstWitness s)
+groupRows s = row (leb 1 (length (groupOf s))) InvalidWitness ∷ firstWitnessRows (firstWitness s)
 
 -- "another hashed witness above 132,096", 22
 unfoldable pub witnessFits : List ℕ → Bool

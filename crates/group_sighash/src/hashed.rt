@@ -56,7 +56,7 @@ pub(crate) fn first_other(table: &[u32]) -> u32
     }
 }
 
-// The bytes of the witness whose row is there.
+// The bytes of the witness whose record is there.
 pub(crate) fn witness_at<'a>(table: &[u32], store: &'a [u8], i: u32) -> &'a [u8]
     ensures { λ r. ⌜ now r ≡ witnessAt (now (table .entry)) (now (store .entry)) i ⌝ }
 {

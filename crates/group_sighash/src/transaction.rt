@@ -13,9 +13,9 @@ use scene_table::transaction_hash;
 use scene_table::witness_count;
 ghost use mathlib.Core.Path.{_≡_};
 ghost use Rattle.blake2b.specs.State.{fedAll};
-ghost use Rattle.protocol.specs.Rows.{Hold};
+ghost use Rattle.protocol.specs.Rows.{AllPass};
 ghost use Rattle.authorization.specs.Sighash.{hashedWitnesses};
-ghost use Rattle.scene_table.specs.Lent.{lentScene};
+ghost use Rattle.scene_table.specs.Lent.{sceneIn};
 ghost use Rattle.group_sighash.specs.Witnesses.{otherWitnesses};
 ghost use Rattle.group_sighash.specs.GroupSighash.{sighashRows, groupSighash, groupAnswer};
 
@@ -27,7 +27,7 @@ pub struct Sighash {
 
 // The hashed witnesses behind the first of the group are fed.
 fn feed_others(hash: Blake2b, table: &[u32], store: &[u8]) -> Blake2b
-    ensures { λ r. ⌜ r ≡ fedAll hash (hashedWitnesses (otherWitnesses (lentScene (now (table .entry)) (now (store .entry))))) ⌝ }
+    ensures { λ r. ⌜ r ≡ fedAll hash (hashedWitnesses (otherWitnesses (sceneIn (now (table .entry)) (now (store .entry))))) ⌝ }
 {
     let count = witness_count(table);
     let mut fed = hash;
@@ -41,8 +41,8 @@ fn feed_others(hash: Blake2b, table: &[u32], store: &[u8]) -> Blake2b
 
 // The sighash of witnesses that pass.
 fn hash_group(table: &[u32], store: &[u8]) -> [u8; 32]
-    requires { ⌜ Hold (sighashRows (lentScene (now table) (now store))) ⌝ }
-    ensures { λ r. ⌜ r ≡ groupSighash (lentScene (now (table .entry)) (now (store .entry))) ⌝ }
+    requires { ⌜ AllPass (sighashRows (sceneIn (now table) (now store))) ⌝ }
+    ensures { λ r. ⌜ r ≡ groupSighash (sceneIn (now (table .entry)) (now (store .entry))) ⌝ }
 {
     let place = transaction_hash(table);
     let transaction = part(store, place.start, place.len);
@@ -54,7 +54,7 @@ fn hash_group(table: &[u32], store: &[u8]) -> [u8; 32]
 // The sighash of the transaction, or 22: the first witness of the group is missing or no table, or a hashed witness is too
 // long.
 pub fn canonical_group_sighash(table: &[u32], store: &[u8]) -> Sighash
-    ensures { λ r. ⌜ r ≡ groupAnswer (lentScene (now (table .entry)) (now (store .entry))) ⌝ }
+    ensures { λ r. ⌜ r ≡ groupAnswer (sceneIn (now (table .entry)) (now (store .entry))) ⌝ }
 {
     match check_hashed(table, store) {
         Check::Failed(error) => {

@@ -17,17 +17,17 @@ use protocol::ProtocolError;
 use scene_table::witness_count;
 ghost use mathlib.Core.Path.{_≡_};
 ghost use Rattle.protocol.specs.Rows.{decide};
-ghost use Rattle.molecule.specs.Bytes.{lockRows};
-ghost use Rattle.account_witness.specs.Header.{headerRows};
-ghost use Rattle.scene_table.specs.Lent.{lentScene};
-ghost use Rattle.group_sighash.specs.Witnesses.{firstWitness, lockIn, witnessRows, groupRows, otherRows};
+ghost use Rattle.molecule.specs.Bytes.{witnessLockRows};
+ghost use Rattle.account_witness.specs.Header.{witnessHeaderRows};
+ghost use Rattle.scene_table.specs.Lent.{sceneIn};
+ghost use Rattle.group_sighash.specs.Witnesses.{firstWitness, lockIn, firstWitnessRows, groupRows, otherRows};
 ghost use Rattle.group_sighash.specs.GroupSighash.{sighashRows};
 
 const MAX_WITNESS: usize = 132096;
 
 // The witness of the group's first input, nothing where it is missing.
 pub fn first_witness<'a>(table: &[u32], store: &'a [u8]) -> &'a [u8]
-    ensures { λ r. ⌜ now r ≡ firstWitness (lentScene (now (table .entry)) (now (store .entry))) ⌝ }
+    ensures { λ r. ⌜ now r ≡ firstWitness (sceneIn (now (table .entry)) (now (store .entry))) ⌝ }
 {
     let first = next_hashed(table, 0);
     if is_input(table, first) {
@@ -45,7 +45,7 @@ pub fn lock_in(witness: &[u8]) -> &[u8]
 }
 
 fn check_lock(witness: &[u8]) -> Check
-    ensures { λ r. ⌜ r ≡ decide Check.Passed (lockRows (now (witness .entry))) ⌝ }
+    ensures { λ r. ⌜ r ≡ decide Check.Passed (witnessLockRows (now (witness .entry))) ⌝ }
 {
     match witness_lock(witness) {
         PlaceAnswer::At(_) => Check::Passed,
@@ -54,7 +54,7 @@ fn check_lock(witness: &[u8]) -> Check
 }
 
 fn check_header(lock: &[u8]) -> Check
-    ensures { λ r. ⌜ r ≡ decide Check.Passed (headerRows (now (lock .entry))) ⌝ }
+    ensures { λ r. ⌜ r ≡ decide Check.Passed (witnessHeaderRows (now (lock .entry))) ⌝ }
 {
     match parse_witness_header(lock) {
         WitnessHeaderAnswer::Header(_) => Check::Passed,
@@ -63,7 +63,7 @@ fn check_header(lock: &[u8]) -> Check
 }
 
 fn check_witness(witness: &[u8]) -> Check
-    ensures { λ r. ⌜ r ≡ decide Check.Passed (witnessRows (now (witness .entry))) ⌝ }
+    ensures { λ r. ⌜ r ≡ decide Check.Passed (firstWitnessRows (now (witness .entry))) ⌝ }
 {
     let invalid = ProtocolError::InvalidWitness;
     let lock = lock_in(witness);
@@ -75,7 +75,7 @@ fn check_witness(witness: &[u8]) -> Check
 }
 
 pub fn check_group(table: &[u32], store: &[u8]) -> Check
-    ensures { λ r. ⌜ r ≡ decide Check.Passed (groupRows (lentScene (now (table .entry)) (now (store .entry)))) ⌝ }
+    ensures { λ r. ⌜ r ≡ decide Check.Passed (groupRows (sceneIn (now (table .entry)) (now (store .entry)))) ⌝ }
 {
     let found = is_input(table, next_hashed(table, 0));
     Check::Passed
@@ -84,7 +84,7 @@ pub fn check_group(table: &[u32], store: &[u8]) -> Check
 }
 
 pub fn check_others(table: &[u32], store: &[u8]) -> Check
-    ensures { λ r. ⌜ r ≡ decide Check.Passed (otherRows (lentScene (now (table .entry)) (now (store .entry)))) ⌝ }
+    ensures { λ r. ⌜ r ≡ decide Check.Passed (otherRows (sceneIn (now (table .entry)) (now (store .entry)))) ⌝ }
 {
     let count = witness_count(table);
     let mut i = next_hashed(table, first_other(table));
@@ -99,7 +99,7 @@ pub fn check_others(table: &[u32], store: &[u8]) -> Check
 
 // The witnesses that are hashed, as the sighash needs them.
 pub(crate) fn check_hashed(table: &[u32], store: &[u8]) -> Check
-    ensures { λ r. ⌜ r ≡ decide Check.Passed (sighashRows (lentScene (now (table .entry)) (now (store .entry)))) ⌝ }
+    ensures { λ r. ⌜ r ≡ decide Check.Passed (sighashRows (sceneIn (now (table .entry)) (now (store .entry)))) ⌝ }
 {
     let invalid = ProtocolError::InvalidWitness;
     let found = is_input(table, next_hashed(table, 0));

@@ -12,7 +12,7 @@ use Rattle.octets.specs.Le.{Bytes}
 use Rattle.octets.specs.Lists.{same}
 use Rattle.octets.specs.Places.{bytesAt}
 use Rattle.octets.proofs.Same.{same-eq, eq-same}
-use Rattle.protocol.specs.Rows.{Hold, checkNumber}
+use Rattle.protocol.specs.Rows.{AllPass, checkNumber}
 use Rattle.protocol.specs.Reading.{OneReading, WritesBack}
 use Rattle.protocol.specs.declared.check.Check.{Check}
 use Rattle.protocol.specs.declared.check.Check.the-variants.{Passed, Failed}
@@ -20,10 +20,10 @@ use Rattle.protocol.proofs.ErrorNumbers.{not-0}
 use Rattle.verifier_request.specs.declared.reader.RequestFields.{RequestFields}
 use Rattle.verifier_request.specs.declared.reader.RequestAnswer.{RequestAnswer}
 use Rattle.verifier_request.specs.declared.reader.RequestAnswer.the-variants.{Request, Refused}
-use Rattle.verifier_request.specs.Reader.{requestRows, requestFault, fieldsAt, requestAnswer, readRequest}
-use Rattle.verifier_request.specs.Reading.{RequestReading, RequestTyped, readingOf, requestReading, requestBytes}
+use Rattle.verifier_request.specs.Reader.{requestRows, requestFault, requestFieldsOf, requestAnswer, readRequest}
+use Rattle.verifier_request.specs.Reading.{RequestReading, RequestTyped, requestGiven, requestReading, requestBytes}
 use Rattle.verifier_request.specs.Writer.{requestWritten, requestStored}
-use Rattle.verifier_request.proofs.RequestTheorem.{reader-accepts, request-given, request-theorem}
+use Rattle.verifier_request.proofs.RequestTheorem.{request-accepts, request-given, request-theorem}
 use Rattle.held_request.specs.declared.places.RequestPlaces.{RequestPlaces}
 use Rattle.held_request.specs.Held.{placesOf, heldReading, isFor}
 
@@ -32,27 +32,27 @@ abbrev found : List ℕ → RequestPlaces
 found s = placesOf (readRequest s)
 
 -- the functions hand out what the fields of the answer say
-held-given : (s : List ℕ) (f : RequestFields) → readRequest s ≡ Request f → heldReading s (found s) ≡ readingOf s f
-unfolding placesOf heldReading bytesAt readingOf
+held-given : (s : List ℕ) (f : RequestFields) → readRequest s ≡ Request f → heldReading s (found s) ≡ requestGiven s f
+unfolding placesOf heldReading bytesAt requestGiven
 held-given s f e = rw e
 
 -- an answer that is not refused has fields
-accepted : (s : List ℕ) (a : RequestAnswer) → readRequest s ≡ a → placesOf a .refusal ≡ 0 → readRequest s ≡ Request (fieldsAt s)
+accepted : (s : List ℕ) (a : RequestAnswer) → readRequest s ≡ a → placesOf a .refusal ≡ 0 → readRequest s ≡ Request (requestFieldsOf s)
 unfolding placesOf
-accepted s (Request f) e z = reader-accepts s .1 (request-given s f e .0)
+accepted s (Request f) e z = request-accepts s .1 (request-given s f e .0)
 accepted s (Refused x) e z = absurd (not-0 x z)
 
 -- not refused exactly where every check passes
-pub held-accepts : (s : List ℕ) → (found s .refusal ≡ 0) ↔ Hold (requestRows s)
+pub held-accepts : (s : List ℕ) → (found s .refusal ≡ 0) ↔ AllPass (requestRows s)
 unfolding placesOf
-held-accepts s = (λ z. reader-accepts s .0 (accepted s (readRequest s) refl z), λ h. rw (reader-accepts s .1 h))
+held-accepts s = (λ z. request-accepts s .0 (accepted s (readRequest s) refl z), λ h. rw (request-accepts s .1 h))
 
 -- the number of what the checks find
 pub held-refusal : (s : List ℕ) → found s .refusal ≡ checkNumber (requestFault s)
 unfolding placesOf readRequest requestAnswer
 held-refusal s = by-check (requestFault s)
   where
-    by-check : (k : Check) → placesOf (requestAnswer k (fieldsAt s)) .refusal ≡ checkNumber k
+    by-check : (k : Check) → placesOf (requestAnswer k (requestFieldsOf s)) .refusal ≡ checkNumber k
     by-check Passed = refl
     by-check (Failed e) = refl
 
@@ -62,21 +62,21 @@ pub held-theorem : (s : List ℕ) → Bytes s → found s .refusal ≡ 0
     (requestStored (heldReading s (found s))) s
 held-theorem s b z =
     let e = accepted s (readRequest s) refl z in
-    rw (held-given s (fieldsAt s) e) (request-theorem s (fieldsAt s) b e)
+    rw (held-given s (requestFieldsOf s) e) (request-theorem s (requestFieldsOf s) b e)
 
 -- where every check passes, they hand out the request's reading
-pub held-reading : (s : List ℕ) → Hold (requestRows s) → heldReading s (found s) ≡ requestReading s
+pub held-reading : (s : List ℕ) → AllPass (requestRows s) → heldReading s (found s) ≡ requestReading s
 held-reading s h =
-    let e = reader-accepts s .1 h in
-    held-given s (fieldsAt s) e ∙ request-given s (fieldsAt s) e .1
+    let e = request-accepts s .1 h in
+    held-given s (requestFieldsOf s) e ∙ request-given s (requestFieldsOf s) e .1
 
 -- its digest
-held-digest : (s : List ℕ) → Hold (requestRows s) → bytesAt s (found s .«authorization_digest») ≡ requestReading s .digest
+held-digest : (s : List ℕ) → AllPass (requestRows s) → bytesAt s (found s .«authorization_digest») ≡ requestReading s .digest
 unfolding heldReading
 held-digest s h = ap (λ (r : RequestReading). r .digest) (held-reading s h)
 
 -- a request for this digest: every check passes, and its reading has the digest
-pub for-theorem : (s digest : List ℕ) → (isFor s digest ≡ true) ↔ (Hold (requestRows s) × (requestReading s .digest ≡ digest))
+pub for-theorem : (s digest : List ℕ) → (isFor s digest ≡ true) ↔ (AllPass (requestRows s) × (requestReading s .digest ≡ digest))
 unfolding isFor
 for-theorem s digest = (
   λ t.

@@ -13,7 +13,7 @@ use Rattle.verifier_request.specs.declared.reader.RequestFields.{RequestFields}
 use Rattle.verifier_request.specs.declared.reader.RequestAnswer.{RequestAnswer}
 use Rattle.verifier_request.specs.declared.reader.RequestAnswer.the-variants.{Request, Refused}
 use Rattle.verifier_request.specs.Reader.{readRequest}
-use Rattle.verifier_request.specs.Reading.{RequestReading, reading}
+use Rattle.verifier_request.specs.Reading.{RequestReading, requestWith}
 use Rattle.held_request.specs.declared.places.RequestPlaces.{RequestPlaces}
 use Rattle.held_request.specs.declared.VerifierRequest.{VerifierRequest}
 
@@ -61,7 +61,7 @@ parsed s = record { request = s; places = placesOf (readRequest (now s)) }
 -- what its functions hand out, together
 unfoldable pub heldReading : List ℕ → RequestPlaces → RequestReading
 heldReading s p =
-    reading
+    requestWith
     (p .«algorithm_id»)
     (p .slot)
     (p .operation)

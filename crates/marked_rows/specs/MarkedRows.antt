@@ -7,7 +7,7 @@ use mathlib.Core.List.{List, [], _∷_, _++_}
 use lib.ListN.{length, replicate}
 use Rattle.octets.specs.Le.{toLe, fromLe, numberAt}
 use Rattle.octets.specs.Lists.{joined}
-use Rattle.octets.specs.Table.{numbers}
+use Rattle.octets.specs.Layout.{layoutBytes}
 use Rattle.protocol.specs.Write.{writeFault, writeAnswer, afterWrite}
 use Rattle.protocol.specs.declared.error.ProtocolError.the-variants.{InvalidState}
 use Rattle.protocol.specs.declared.check.WriteAnswer.the-variants.{Written}
@@ -17,13 +17,13 @@ use Rattle.molecule.specs.Canonical.{canonicalOf, canonicalRoom, canonicalWritt
 use Rattle.protocol.specs.Rows.{_▷_, decide}
 use Rattle.protocol.specs.Policy.{isSupportedAlgorithm, isOperation, hasCapability}
 use Rattle.protocol.specs.Args.{argsRows, argsFault, argsAnswer, readArgs, argsNumber}
-use Rattle.account_state.specs.Reading.{entryOf, entriesOf, shareOf, weightOf}
-use Rattle.account_state.specs.State.{headRows, layoutRows, fieldRows, entryRows, entriesRows, behind, recoveryRows, thresholdRows, endRows, tailRows, stateRows, stateFault, headerOf, summaryOf, stateAnswer, readState, stateNumber}
-use Rattle.account_state.proofs.Theorem.{reader-refuses}
-use Rattle.account_witness.specs.Header.{headerRows, headerAt}
-use Rattle.account_witness.specs.Walk.{proofRows, proofsRows}
+use Rattle.account_state.specs.Reading.{entryOf, entriesOf, capableShare, capableWeight}
+use Rattle.account_state.specs.State.{stateHeaderRows, entryLayoutRows, entryFieldRows, entryRows, entriesRows, behindEntries, recoveryThresholdRows, thresholdRows, stateEndRows, stateTailRows, stateRows, stateFault, stateHeaderOf, summaryOf, stateAnswer, readState, stateNumber}
+use Rattle.account_state.proofs.Theorem.{state-refuses}
+use Rattle.account_witness.specs.Header.{witnessHeaderRows, witnessHeaderOf}
+use Rattle.account_witness.specs.Walk.{proofLayoutRows, proofsLayoutRows}
 use Rattle.account_witness.specs.Witness.{witnessRows, witnessFault, witnessAnswer, readWitness, witnessNumber}
-use Rattle.public_key_proof.specs.Reader.{proofRows as keyProofRows, proofFault, placesAt, proofAnswer, readProof, proofNumber}
+use Rattle.public_key_proof.specs.Reader.{publicKeyProofRows, publicKeyProofFault, publicKeyProofPlaces, publicKeyProofAnswer, readPublicKeyProof, publicKeyProofNumber}
 use Rattle.public_key_proof.specs.declared.reader.PublicKeyProofAnswer.the-variants.{Proof}
 
 -- the smallest state, of 113 bytes: thresholds spend, 1, 0, and one entry of weight 1 and capabilities 3 whose aux is one byte
@@ -67,8 +67,8 @@ pub record MarkedRows : Type 0 where
   pub since-1 : stateNumber (readState (smallestState 1 0 1 1)) ≡ 21
   pub flags-4 : stateNumber (readState (smallestState 1 4 1 0)) ≡ 21
   -- "proof `01 01 00 01 00 aa bb` read, without `bb` 36"
-  pub proof-read : readProof (0x01 ∷ 0x01 ∷ 0x00 ∷ 0x01 ∷ 0x00 ∷ 0xaa ∷ 0xbb ∷ []) ≡ Proof (record { «public_key» = 5; «public_key_len» = 1; signature = 6; «signature_len» = 1 })
-  pub proof-short : proofNumber (readProof (0x01 ∷ 0x01 ∷ 0x00 ∷ 0x01 ∷ 0x00 ∷ 0xaa ∷ [])) ≡ 36
+  pub proof-read : readPublicKeyProof (0x01 ∷ 0x01 ∷ 0x00 ∷ 0x01 ∷ 0x00 ∷ 0xaa ∷ 0xbb ∷ []) ≡ Proof (record { «public_key» = 5; «public_key_len» = 1; signature = 6; «signature_len» = 1 })
+  pub proof-short : publicKeyProofNumber (readPublicKeyProof (0x01 ∷ 0x01 ∷ 0x00 ∷ 0x01 ∷ 0x00 ∷ 0xaa ∷ [])) ≡ 36
   -- "16-byte witness lock with count 0 read, operation 4 22"
   pub witness-empty : witnessNumber (readWitness (emptyWitness 1)) ≡ 0
   pub witness-operation : witnessNumber (readWitness (emptyWitness 4)) ≡ 22
@@ -78,12 +78,12 @@ pub record MarkedRows : Type 0 where
   pub canonical-bytes : canonicalStored lockOfOne (replicate 20 0xff) ≡ lockOfNone
 
 pub marked-rows : MarkedRows
-unfolding fromLe numberAt _▷_ decide isSupportedAlgorithm isOperation hasCapability argsRows argsFault argsAnswer readArgs entryOf entriesOf shareOf weightOf headRows layoutRows fieldRows entryRows entriesRows behind recoveryRows thresholdRows endRows tailRows stateRows stateFault headerOf summaryOf stateAnswer readState headerRows headerAt proofRows proofsRows witnessRows witnessFault witnessAnswer readWitness keyProofRows proofFault placesAt proofAnswer readProof smallestState emptyWitness toLe numbers joined bytesVector offsetsFrom headSize tableHead tableBytes tableRows between field2 field3 canonicalOf writeFault writeAnswer afterWrite canonicalRoom canonicalWritten canonicalStored lockOfOne lockOfNone
+unfolding fromLe numberAt _▷_ decide isSupportedAlgorithm isOperation hasCapability argsRows argsFault argsAnswer readArgs entryOf entriesOf capableShare capableWeight stateHeaderRows entryLayoutRows entryFieldRows entryRows entriesRows behindEntries recoveryThresholdRows thresholdRows stateEndRows stateTailRows stateRows stateFault stateHeaderOf summaryOf stateAnswer readState witnessHeaderRows witnessHeaderOf proofLayoutRows proofsLayoutRows witnessRows witnessFault witnessAnswer readWitness publicKeyProofRows publicKeyProofFault publicKeyProofPlaces publicKeyProofAnswer readPublicKeyProof smallestState emptyWitness toLe layoutBytes joined bytesVector offsetsFrom headSize tableHead tableBytes tableRows between field2 field3 canonicalOf writeFault writeAnswer afterWrite canonicalRoom canonicalWritten canonicalStored lockOfOne lockOfNone
 marked-rows =
     record {
       args-of-32 = λ s h. rw h;
       args-version = λ id h. rw h;
-      state-of-31 = λ s h. ap stateNumber (reader-refuses s InvalidState .1 (inl (rw h, refl)));
+      state-of-31 = λ s h. ap stateNumber (state-refuses s InvalidState .1 (inl (rw h, refl)));
       smallest = refl;
       smallest-length = refl;
       spend-2 = refl;

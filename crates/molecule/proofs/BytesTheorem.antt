@@ -13,19 +13,19 @@ use Rattle.octets.specs.Le.{numberAt, Bytes}
 use Rattle.octets.specs.Places.{bytesAt}
 use Rattle.octets.proofs.LeLaws.{number-lt, length-to, bytes-take, bytes-drop}
 use Rattle.octets.proofs.Parts.{part-length}
-use Rattle.protocol.specs.Rows.{Row, decide, Hold, First}
+use Rattle.protocol.specs.Rows.{Row, decide, AllPass, FirstFailed}
 use Rattle.protocol.specs.Reading.{OneReading}
 use Rattle.protocol.specs.declared.error.ProtocolError.{ProtocolError}
 use Rattle.protocol.specs.declared.error.ProtocolError.the-variants.{InvalidArgs, InvalidWitness}
 use Rattle.protocol.specs.declared.check.Check.{Check}
 use Rattle.protocol.specs.declared.check.Check.the-variants.{Passed, Failed}
-use Rattle.protocol.proofs.Hold.{passed-hold, hold-split}
+use Rattle.protocol.proofs.AllPass.{passed-all-pass, all-pass-split}
 use Rattle.protocol.proofs.Answers.{answer-given, answer-accepts, answer-refuses}
 use Rattle.molecule.specs.declared.bytes.PlaceAnswer.{PlaceAnswer}
 use Rattle.molecule.specs.declared.bytes.PlaceAnswer.the-variants.{At, Refused}
 use Rattle.molecule.specs.Molecule.{bytesVector, tableBytes}
 use Rattle.molecule.specs.Table3.{tableRows, between, field1, field2, field3}
-use Rattle.molecule.specs.Bytes.{bytesRows, placeOf, placeAnswer, readBytes, lockRows, readLock, argsRows, readScriptArgs}
+use Rattle.molecule.specs.Bytes.{bytesRows, bytesPlaceFrom, placeAnswer, readBytes, witnessLockRows, readWitnessLock, scriptArgsRows, readScriptArgs}
 use Rattle.molecule.proofs.Form.{Passes, passes, length-field1}
 use Rattle.molecule.proofs.Inverse.{table-written, vector-length, vector-written, vector-read}
 
@@ -42,61 +42,61 @@ place-back g (Failed e) = refl
 
 -- What holds of each of the three readers: its rows, and the place that it gives where they pass.
 module _ (rows : List Row) (g : Place) where
-  pub place-accepts : (placeAnswer (decide Passed rows) g ≡ At g) ↔ Hold rows
+  pub place-accepts : (placeAnswer (decide Passed rows) g ≡ At g) ↔ AllPass rows
   unfolding placeAnswer
   place-accepts = answer-accepts (λ k. placeAnswer k g) placeFound (place-back g) rows
 
-  pub place-refuses : (e : ProtocolError) → (placeAnswer (decide Passed rows) g ≡ Refused e) ↔ First rows e
+  pub place-refuses : (e : ProtocolError) → (placeAnswer (decide Passed rows) g ≡ Refused e) ↔ FirstFailed rows e
   unfolding placeAnswer
   place-refuses e = answer-refuses (λ k. placeAnswer k g) placeFound (place-back g) rows e
 
-  place-given : (p : Place) → placeAnswer (decide Passed rows) g ≡ At p → Hold rows × (p ≡ g)
+  place-given : (p : Place) → placeAnswer (decide Passed rows) g ≡ At p → AllPass rows × (p ≡ g)
   unfolding placeAnswer
   place-given p h =
       let z = answer-given (λ k. placeAnswer k g) placeFound (place-back g) (decide Passed rows) (At p) h refl in
       let e : At g ≡ At p = z .1 in
-      (passed-hold rows (z .0), cc)
+      (passed-all-pass rows (z .0), cc)
 
 -- what the lock's reader and the args' say of their checks
-pub lock-found : (s : List ℕ) → placeFound (readLock s) ≡ decide Passed (lockRows s)
-unfolding readLock
-lock-found s = place-back _ (decide Passed (lockRows s))
+pub lock-found : (s : List ℕ) → placeFound (readWitnessLock s) ≡ decide Passed (witnessLockRows s)
+unfolding readWitnessLock
+lock-found s = place-back _ (decide Passed (witnessLockRows s))
 
-pub script-found : (s : List ℕ) → placeFound (readScriptArgs s) ≡ decide Passed (argsRows s)
+pub script-found : (s : List ℕ) → placeFound (readScriptArgs s) ≡ decide Passed (scriptArgsRows s)
 unfolding readScriptArgs
-script-found s = place-back _ (decide Passed (argsRows s))
+script-found s = place-back _ (decide Passed (scriptArgsRows s))
 
 -- accepted exactly where every check passes, refused exactly with the first that fails
-pub bytes-accepts : (field : List ℕ) → (readBytes field ≡ At (placeOf 0 field)) ↔ Hold (bytesRows InvalidWitness field)
+pub bytes-accepts : (field : List ℕ) → (readBytes field ≡ At (bytesPlaceFrom 0 field)) ↔ AllPass (bytesRows InvalidWitness field)
 unfolding readBytes
-bytes-accepts field = place-accepts (bytesRows InvalidWitness field) (placeOf 0 field)
+bytes-accepts field = place-accepts (bytesRows InvalidWitness field) (bytesPlaceFrom 0 field)
 
-pub bytes-refuses : (field : List ℕ) (e : ProtocolError) → (readBytes field ≡ Refused e) ↔ First (bytesRows InvalidWitness field) e
+pub bytes-refuses : (field : List ℕ) (e : ProtocolError) → (readBytes field ≡ Refused e) ↔ FirstFailed (bytesRows InvalidWitness field) e
 unfolding readBytes
-bytes-refuses field e = place-refuses (bytesRows InvalidWitness field) (placeOf 0 field) e
+bytes-refuses field e = place-refuses (bytesRows InvalidWitness field) (bytesPlaceFrom 0 field) e
 
-pub lock-accepts : (s : List ℕ) → (readLock s ≡ At (placeOf 16 (field1 s))) ↔ Hold (lockRows s)
-unfolding readLock
-lock-accepts s = place-accepts (lockRows s) (placeOf 16 (field1 s))
+pub witness-lock-accepts : (s : List ℕ) → (readWitnessLock s ≡ At (bytesPlaceFrom 16 (field1 s))) ↔ AllPass (witnessLockRows s)
+unfolding readWitnessLock
+witness-lock-accepts s = place-accepts (witnessLockRows s) (bytesPlaceFrom 16 (field1 s))
 
-pub lock-refuses : (s : List ℕ) (e : ProtocolError) → (readLock s ≡ Refused e) ↔ First (lockRows s) e
-unfolding readLock
-lock-refuses s e = place-refuses (lockRows s) (placeOf 16 (field1 s)) e
+pub witness-lock-refuses : (s : List ℕ) (e : ProtocolError) → (readWitnessLock s ≡ Refused e) ↔ FirstFailed (witnessLockRows s) e
+unfolding readWitnessLock
+witness-lock-refuses s e = place-refuses (witnessLockRows s) (bytesPlaceFrom 16 (field1 s)) e
 
-pub args-accepts : (s : List ℕ) → (readScriptArgs s ≡ At (placeOf (numberAt s 12 4) (field3 s))) ↔ Hold (argsRows s)
+pub script-args-accepts : (s : List ℕ) → (readScriptArgs s ≡ At (bytesPlaceFrom (numberAt s 12 4) (field3 s))) ↔ AllPass (scriptArgsRows s)
 unfolding readScriptArgs
-args-accepts s = place-accepts (argsRows s) (placeOf (numberAt s 12 4) (field3 s))
+script-args-accepts s = place-accepts (scriptArgsRows s) (bytesPlaceFrom (numberAt s 12 4) (field3 s))
 
-pub args-refuses : (s : List ℕ) (e : ProtocolError) → (readScriptArgs s ≡ Refused e) ↔ First (argsRows s) e
+pub script-args-refuses : (s : List ℕ) (e : ProtocolError) → (readScriptArgs s ≡ Refused e) ↔ FirstFailed (scriptArgsRows s) e
 unfolding readScriptArgs
-args-refuses s e = place-refuses (argsRows s) (placeOf (numberAt s 12 4) (field3 s)) e
+script-args-refuses s e = place-refuses (scriptArgsRows s) (bytesPlaceFrom (numberAt s 12 4) (field3 s)) e
 
 length-vector : (q : List ℕ) → length (bytesVector q) ≡ 4 + length q
 unfolding bytesVector
 length-vector q = simp (length-append, length-to)
 
 -- the one reading of a field that passes
-vector-one : (e : ProtocolError) (v : List ℕ) → Bytes v → Hold (bytesRows e v) → OneReading (λ (items : List ℕ). Unit {0}) bytesVector v (take (numberAt v 0 4) (drop 4 v))
+vector-one : (e : ProtocolError) (v : List ℕ) → Bytes v → AllPass (bytesRows e v) → OneReading (λ (items : List ℕ). Unit {0}) bytesVector v (take (numberAt v 0 4) (drop 4 v))
 vector-one e v b h =
     record {
       typed = tt;
@@ -114,9 +114,9 @@ vector-one e v b h =
 
 -- The bytes in a field: exactly one list of bytes has the field as its vector, that at the place.
 pub bytes-theorem : (field : List ℕ) (p : Place) → Bytes field → readBytes field ≡ At p → OneReading (λ (items : List ℕ). Unit {0}) bytesVector field (bytesAt field p)
-unfolding readBytes placeOf bytesAt
+unfolding readBytes bytesPlaceFrom bytesAt
 bytes-theorem field p b h =
-    let g = place-given (bytesRows InvalidWitness field) (placeOf 0 field) p h in
+    let g = place-given (bytesRows InvalidWitness field) (bytesPlaceFrom 0 field) p h in
     rw (g .1) (vector-one InvalidWitness field b (g .0))
 
 field-split : (s : List ℕ) (n : ℕ) → 4 + n ≡ numberAt s 8 4 - 16 → field1 s ≡ take 4 (drop 16 s) ++ take n (drop 20 s)
@@ -132,7 +132,7 @@ unfolding field3
 field3-bytes s b = bytes-drop (numberAt s 12 4) s b
 
 -- the bytes of field 1, in the witness
-lock-bytes : (s : List ℕ) → Passes s → Hold (bytesRows InvalidWitness (field1 s))
+lock-bytes : (s : List ℕ) → Passes s → AllPass (bytesRows InvalidWitness (field1 s))
     → take (numberAt (field1 s) 0 4) (drop 4 (field1 s)) ≡ take (numberAt (field1 s) 0 4) (drop 20 s)
 lock-bytes s z h =
     let n : ℕ = numberAt (field1 s) 0 4 in
@@ -151,25 +151,25 @@ unfolding field3
 args-bytes s = drop-drop 4 (numberAt s 12 4) s
 
 -- The lock of a witness: field 1 is the vector of just those bytes that stand at the place, and the witness is the table of it and the other two fields.
-pub lock-theorem : (s : List ℕ) (p : Place) → Bytes s → readLock s ≡ At p
+pub witness-lock-theorem : (s : List ℕ) (p : Place) → Bytes s → readWitnessLock s ≡ At p
     → OneReading (λ (items : List ℕ). Unit {0}) bytesVector (field1 s) (bytesAt s p) × (tableBytes (bytesVector (bytesAt s p) ∷ field2 s ∷ field3 s ∷ []) ≡ s)
-unfolding readLock lockRows placeOf bytesAt
-lock-theorem s p b h =
-    let g = place-given (lockRows s) (placeOf 16 (field1 s)) p h in
-    let q = hold-split (tableRows InvalidWitness s) _ (g .0) in
+unfolding readWitnessLock witnessLockRows bytesPlaceFrom bytesAt
+witness-lock-theorem s p b h =
+    let g = place-given (witnessLockRows s) (bytesPlaceFrom 16 (field1 s)) p h in
+    let q = all-pass-split (tableRows InvalidWitness s) _ (g .0) in
     let z : Passes s = passes InvalidWitness s (q .0) in
-    let v : Hold (bytesRows InvalidWitness (field1 s)) = q .1 .1 in
+    let v : AllPass (bytesRows InvalidWitness (field1 s)) = q .1 .1 in
     let o : OneReading (λ (items : List ℕ). Unit {0}) bytesVector (field1 s) (take (numberAt (field1 s) 0 4) (drop 20 s)) =
     rw (lock-bytes s z v) at (vector-one InvalidWitness (field1 s) (field1-bytes s b) v) in
     rw (g .1) (o, rw (o .written) (table-written s b z))
 
 -- The args of a script, likewise of field 3.
-pub args-theorem : (s : List ℕ) (p : Place) → Bytes s → readScriptArgs s ≡ At p
+pub script-args-theorem : (s : List ℕ) (p : Place) → Bytes s → readScriptArgs s ≡ At p
     → OneReading (λ (items : List ℕ). Unit {0}) bytesVector (field3 s) (bytesAt s p) × (tableBytes (field1 s ∷ field2 s ∷ bytesVector (bytesAt s p) ∷ []) ≡ s)
-unfolding readScriptArgs argsRows placeOf bytesAt
-args-theorem s p b h =
-    let g = place-given (argsRows s) (placeOf (numberAt s 12 4) (field3 s)) p h in
-    let q = hold-split (tableRows InvalidArgs s) (bytesRows InvalidArgs (field3 s)) (g .0) in
+unfolding readScriptArgs scriptArgsRows bytesPlaceFrom bytesAt
+script-args-theorem s p b h =
+    let g = place-given (scriptArgsRows s) (bytesPlaceFrom (numberAt s 12 4) (field3 s)) p h in
+    let q = all-pass-split (tableRows InvalidArgs s) (bytesRows InvalidArgs (field3 s)) (g .0) in
     let z : Passes s = passes InvalidArgs s (q .0) in
     let o : OneReading (λ (items : List ℕ). Unit {0}) bytesVector (field3 s) (take (numberAt (field3 s) 0 4) (drop (numberAt s 12 4 + 4) s)) =
     rw (args-bytes s) at (vector-one InvalidArgs (field3 s) (field3-bytes s b) (q .1)) in

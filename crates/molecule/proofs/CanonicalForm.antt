@@ -8,26 +8,26 @@ use lib.Dec.{leb}
 use lib.ListN.{length, take, drop, replicate, length-append, take-append-drop}
 use lib.Seq.{sets, take-at, drop-drop}
 use Rattle.octets.specs.Le.{numberAt}
-use Rattle.octets.specs.Table.{Number, numbers}
+use Rattle.octets.specs.Layout.{Field, layoutBytes}
 use Rattle.octets.proofs.LeLaws.{length-to}
 use Rattle.octets.proofs.Stores.{sets-append}
-use Rattle.octets.proofs.TableLaws.{length-numbers}
-use Rattle.protocol.specs.Rows.{row, _▷_, decide, Hold}
+use Rattle.octets.proofs.LayoutLaws.{length-numbers}
+use Rattle.protocol.specs.Rows.{row, _▷_, decide, AllPass}
 use Rattle.protocol.specs.Write.{writeFault}
 use Rattle.protocol.specs.declared.error.ProtocolError.{ProtocolError}
 use Rattle.protocol.specs.declared.error.ProtocolError.the-variants.{BufferTooShort, InvalidWitness}
 use Rattle.protocol.specs.declared.check.Check.{Check}
 use Rattle.protocol.specs.declared.check.Check.the-variants.{Passed, Failed}
-use Rattle.protocol.proofs.Hold.{passed-hold, hold-passed, decide-append}
+use Rattle.protocol.proofs.AllPass.{passed-all-pass, all-pass-passed, decide-append}
 use Rattle.molecule.specs.declared.table.TableFields.{TableFields}
 use Rattle.molecule.specs.Molecule.{bytesVector, tableBytes}
-use Rattle.molecule.specs.Table3.{tableRows, fieldsAt, tableAnswer, readTable, between, field2, field3}
+use Rattle.molecule.specs.Table3.{tableRows, tableFieldsOf, tableAnswer, readTable, between, field2, field3}
 use Rattle.molecule.specs.Canonical.{canonicalOf, canonicalRoom, canonicalHead, partsOf, canonicalParts}
 use Rattle.molecule.proofs.Form.{three-layout, Passes, passes, length-field2, length-field3}
 
 -- a table whose first field is an empty vector
-pub canonical-layout : (b c : List ℕ) → tableBytes (bytesVector [] ∷ b ∷ c ∷ []) ≡ numbers (canonicalHead (20 + length b + length c) (20 + length b)) ++ (b ++ c)
-unfolding bytesVector canonicalHead numbers
+pub canonical-layout : (b c : List ℕ) → tableBytes (bytesVector [] ∷ b ∷ c ∷ []) ≡ layoutBytes (canonicalHead (20 + length b + length c) (20 + length b)) ++ (b ++ c)
+unfolding bytesVector canonicalHead layoutBytes
 canonical-layout b c =
     let n : length (bytesVector []) ≡ 4 = rw append-nil (length-to 4 0) in
     let e₁ : 16 + length (bytesVector []) + length b + length c ≡ 20 + length b + length c = omega arith in
@@ -47,14 +47,14 @@ module _ (s : List ℕ) (z : Passes s) where
       rw (← d) (take-append-drop (y - x) (drop x s))
 
   -- the 20 bytes, as numbers
-  abbrev pub Front : List Number
+  abbrev pub Front : List Field
   Front = canonicalHead (20 + (length s - numberAt s 8 4)) (20 + (numberAt s 12 4 - numberAt s 8 4))
 
-  length-front : length (numbers Front) ≡ 20
+  length-front : length (layoutBytes Front) ≡ 20
   unfolding canonicalHead
   length-front = length-numbers Front
 
-  canonical-form : canonicalOf s ≡ numbers Front ++ drop (numberAt s 8 4) s
+  canonical-form : canonicalOf s ≡ layoutBytes Front ++ drop (numberAt s 8 4) s
   unfolding canonicalOf
   canonical-form =
       let l₂ : length (field2 s) ≡ numberAt s 12 4 - numberAt s 8 4 = length-field2 s z in
@@ -63,8 +63,8 @@ module _ (s : List ℕ) (z : Passes s) where
       let e₂ : 20 + length (field2 s) ≡ 20 + (numberAt s 12 4 - numberAt s 8 4) = omega arith in
       canonical-layout (field2 s) (field3 s) ∙ rw (e₁, e₂, fields-end)
 
-  pub canonical-first : take 20 (canonicalOf s) ≡ numbers Front
-  canonical-first = rw canonical-form (take-at (numbers Front) (drop (numberAt s 8 4) s) 20 length-front)
+  pub canonical-first : take 20 (canonicalOf s) ≡ layoutBytes Front
+  canonical-first = rw canonical-form (take-at (layoutBytes Front) (drop (numberAt s 8 4) s) 20 length-front)
 
   -- the first 20 bytes, and the witness from field 2 on, are the canonical witness
   pub canonical-whole : take 20 (canonicalOf s) ++ drop (numberAt s 8 4) s ≡ canonicalOf s
@@ -72,7 +72,7 @@ module _ (s : List ℕ) (z : Passes s) where
 
   pub length-canonical : length (canonicalOf s) ≡ 20 + length (drop (numberAt s 8 4) s)
   length-canonical =
-      ap length canonical-form ∙ (length-append (numbers Front) (drop (numberAt s 8 4) s) ∙ ap (λ (n : ℕ). n + length (drop (numberAt s 8 4) s)) length-front)
+      ap length canonical-form ∙ (length-append (layoutBytes Front) (drop (numberAt s 8 4) s) ∙ ap (λ (n : ℕ). n + length (drop (numberAt s 8 4) s)) length-front)
 
   -- stored one behind the other
   pub parts-stored : (out : List ℕ) → sets (sets out 0 (take 20 (canonicalOf s))) 20 (drop (numberAt s 8 4) s) ≡ sets out 0 (canonicalOf s)
@@ -81,9 +81,9 @@ module _ (s : List ℕ) (z : Passes s) where
       sets-append out 0 (take 20 (canonicalOf s)) (drop (numberAt s 8 4) s) 20 (omega arith) ∙ ap (sets out 0) canonical-whole
 
 -- the parts of a witness whose table passes
-pub parts-read : (s : List ℕ) → Hold (tableRows InvalidWitness s) → canonicalParts s ≡ record { found = Passed; head = take 20 (canonicalOf s); rest = numberAt s 8 4 }
-unfolding canonicalParts partsOf readTable tableAnswer fieldsAt
-parts-read s h = rw (hold-passed (tableRows InvalidWitness s) h)
+pub parts-read : (s : List ℕ) → AllPass (tableRows InvalidWitness s) → canonicalParts s ≡ record { found = Passed; head = take 20 (canonicalOf s); rest = numberAt s 8 4 }
+unfolding canonicalParts partsOf readTable tableAnswer tableFieldsOf
+parts-read s h = rw (all-pass-passed (tableRows InvalidWitness s) h)
 
 -- and of one that is refused
 pub parts-refused : (s : List ℕ) (e : ProtocolError) → decide Passed (tableRows InvalidWitness s) ≡ Failed e
@@ -99,7 +99,7 @@ found-by (Failed e) f s = refl
 
 pub parts-found : (s : List ℕ) → canonicalParts s .found ≡ decide Passed (tableRows InvalidWitness s)
 unfolding canonicalParts readTable
-parts-found s = found-by (decide Passed (tableRows InvalidWitness s)) (fieldsAt s) s
+parts-found s = found-by (decide Passed (tableRows InvalidWitness s)) (tableFieldsOf s) s
 
 -- the room for the parts is the room for the whole
 module _ (s : List ℕ) (room : ℕ) where
@@ -107,7 +107,7 @@ module _ (s : List ℕ) (room : ℕ) where
       → canonicalParts s .found ▷ row (leb (20 + length (drop (canonicalParts s .rest) s)) room) BufferTooShort ≡ canonicalRoom s room
   unfolding canonicalRoom writeFault decide _▷_
   room-by Passed h =
-      let p : Hold (tableRows InvalidWitness s) = passed-hold (tableRows InvalidWitness s) h in
+      let p : AllPass (tableRows InvalidWitness s) = passed-all-pass (tableRows InvalidWitness s) h in
       rw (parts-read s p, ← length-canonical s (passes InvalidWitness s p))
       (sym (decide-append Passed (tableRows InvalidWitness s) (row (leb (length (canonicalOf s)) room) BufferTooShort ∷ []) ∙ rw h))
   room-by (Failed e) h =

@@ -9,25 +9,25 @@ use lib.ListN.{length, drop, length-drop}
 use Rattle.octets.specs.declared.place.Place.{Place}
 use Rattle.octets.specs.Le.{numberAt, Bytes}
 use Rattle.octets.specs.Places.{bytesAt}
-use Rattle.protocol.specs.Rows.{Hold}
+use Rattle.protocol.specs.Rows.{AllPass}
 use Rattle.protocol.specs.declared.error.ProtocolError.the-variants.{InvalidWitness}
 use Rattle.protocol.specs.declared.check.Check.the-variants.{Passed}
-use Rattle.protocol.proofs.Hold.{passed-hold}
+use Rattle.protocol.proofs.AllPass.{passed-all-pass}
 use Rattle.molecule.specs.declared.bytes.PlaceAnswer.the-variants.{At}
 use Rattle.molecule.specs.Molecule.{bytesVector, tableBytes}
 use Rattle.molecule.specs.Table3.{tableRows, field2, field3}
-use Rattle.molecule.specs.Bytes.{readLock}
+use Rattle.molecule.specs.Bytes.{readWitnessLock}
 use Rattle.molecule.specs.Canonical.{canonicalOf, canonicalParts, ReadBack, Whole}
 use Rattle.molecule.proofs.Form.{length-three, passes, passes-hold}
 use Rattle.molecule.proofs.CanonicalForm.{canonical-whole, length-canonical, parts-read, parts-found}
 use Rattle.molecule.proofs.Inverse.{written-passes, field1-read, field2-read, field3-read}
-use Rattle.molecule.proofs.BytesTheorem.{lock-theorem}
+use Rattle.molecule.proofs.BytesTheorem.{witness-lock-theorem}
 
 -- a witness with a lock, and its canonical witness: the same table but for the lock
-pub canonical-theorem : (s : List ℕ) (p : Place) → Bytes s → readLock s ≡ At p
+pub canonical-theorem : (s : List ℕ) (p : Place) → Bytes s → readWitnessLock s ≡ At p
     → (s ≡ tableBytes (bytesVector (bytesAt s p) ∷ field2 s ∷ field3 s ∷ [])) × (canonicalOf s ≡ tableBytes (bytesVector [] ∷ field2 s ∷ field3 s ∷ []))
 unfolding canonicalOf
-canonical-theorem s p b h = (sym (lock-theorem s p b h .1), refl)
+canonical-theorem s p b h = (sym (witness-lock-theorem s p b h .1), refl)
 
 -- where its size fits its field it is read back
 pub canonical-read : (s : List ℕ) → length (canonicalOf s) < 2 ^ 32 → ReadBack s
@@ -44,7 +44,7 @@ canonical-read s h =
     }
 
 -- the parts of a witness whose table passes are whole
-whole-read : (s : List ℕ) → Hold (tableRows InvalidWitness s) → Whole s
+whole-read : (s : List ℕ) → AllPass (tableRows InvalidWitness s) → Whole s
 whole-read s h =
     let z = passes InvalidWitness s h in
     let l : length (canonicalOf s) ≡ 20 + length (drop (numberAt s 8 4) s) = length-canonical s z in
@@ -56,4 +56,4 @@ whole-read s h =
 
 -- so are those of a witness that is not refused
 pub parts-theorem : (s : List ℕ) → canonicalParts s .found ≡ Passed → Whole s
-parts-theorem s h = whole-read s (passed-hold (tableRows InvalidWitness s) (sym (parts-found s) ∙ h))
+parts-theorem s h = whole-read s (passed-all-pass (tableRows InvalidWitness s) (sym (parts-found s) ∙ h))

@@ -8,24 +8,24 @@ use borrow.Author.Tests.{leb-true, eqb-true, le-leb, eq-eqb}
 use lib.ListN.{length, length-append, length-drop}
 use Rattle.octets.specs.Le.{numberAt}
 use Rattle.octets.specs.Lists.{joined}
-use Rattle.octets.specs.Table.{Number, numbers}
-use Rattle.octets.proofs.TableLaws.{length-numbers}
+use Rattle.octets.specs.Layout.{Field, layoutBytes}
+use Rattle.octets.proofs.LayoutLaws.{length-numbers}
 use Rattle.octets.proofs.Parts.{part-length}
-use Rattle.protocol.specs.Rows.{decide, Hold}
+use Rattle.protocol.specs.Rows.{decide, AllPass}
 use Rattle.protocol.specs.declared.error.ProtocolError.{ProtocolError}
 use Rattle.protocol.specs.declared.error.ProtocolError.the-variants.{InvalidWitness}
 use Rattle.protocol.specs.declared.check.Check.{Check}
 use Rattle.protocol.specs.declared.check.Check.the-variants.{Passed, Failed}
-use Rattle.protocol.proofs.Hold.{passed-hold}
+use Rattle.protocol.proofs.AllPass.{passed-all-pass}
 use Rattle.protocol.proofs.Answers.{answer-given}
 use Rattle.molecule.specs.declared.table.TableFields.{TableFields}
 use Rattle.molecule.specs.declared.table.TableAnswer.{TableAnswer}
 use Rattle.molecule.specs.declared.table.TableAnswer.the-variants.{Fields, Refused}
 use Rattle.molecule.specs.Molecule.{offsetsFrom, headSize, tableHead, tableBytes}
-use Rattle.molecule.specs.Table3.{tableRows, fieldsAt, tableAnswer, readTable, between, field1, field2, field3}
+use Rattle.molecule.specs.Table3.{tableRows, tableFieldsOf, tableAnswer, readTable, between, field1, field2, field3}
 
 -- the numbers before the fields
-abbrev pub head3 : ℕ → ℕ → ℕ → List Number
+abbrev pub head3 : ℕ → ℕ → ℕ → List Field
 head3 total second third =
     record { width = 4; value = total }
     ∷ record { width = 4; value = 16 }
@@ -35,7 +35,7 @@ head3 total second third =
 
 module _ (a b c : List ℕ) where
   pub three-layout : tableBytes (a ∷ b ∷ c ∷ [])
-      ≡ numbers (head3 (16 + length a + length b + length c) (16 + length a) (16 + length a + length b)) ++ (a ++ (b ++ c))
+      ≡ layoutBytes (head3 (16 + length a + length b + length c) (16 + length a) (16 + length a + length b)) ++ (a ++ (b ++ c))
   unfolding tableBytes tableHead headSize offsetsFrom joined
   three-layout =
       let e : 16 + length (a ++ (b ++ c)) ≡ 16 + length a + length b + length c = simp length-append (omega arith) in
@@ -44,7 +44,7 @@ module _ (a b c : List ℕ) where
   pub length-three : length (tableBytes (a ∷ b ∷ c ∷ [])) ≡ 16 + length a + length b + length c
   length-three =
       let h = head3 (16 + length a + length b + length c) (16 + length a) (16 + length a + length b) in
-      let n : length (numbers h) ≡ 16 = length-numbers h in
+      let n : length (layoutBytes h) ≡ 16 = length-numbers h in
       rw (three-layout) (simp (length-append, n) (omega arith))
 
 -- what the rows say of a table that passes them
@@ -56,7 +56,7 @@ pub record Passes (s : List ℕ) : Type 0 where
   pub third : numberAt s 8 4 ≤ numberAt s 12 4
   pub end : numberAt s 12 4 ≤ length s
 
-pub passes : (e : ProtocolError) (s : List ℕ) → Hold (tableRows e s) → Passes s
+pub passes : (e : ProtocolError) (s : List ℕ) → AllPass (tableRows e s) → Passes s
 unfolding tableRows
 passes e s h =
     record {
@@ -68,7 +68,7 @@ passes e s h =
       end = leb-true _ _ (h .1 .1 .1 .1 .1 .0);
     }
 
-pub passes-hold : (e : ProtocolError) (s : List ℕ) → Passes s → Hold (tableRows e s)
+pub passes-hold : (e : ProtocolError) (s : List ℕ) → Passes s → AllPass (tableRows e s)
 unfolding tableRows
 passes-hold e s z =
     (le-leb _ _ (z .header), (eq-eqb _ _ (z .total), (eq-eqb _ _ (z .first), (le-leb _ _ (z .second), (le-leb _ _ (z .third), (le-leb _ _ (z .end), tt))))))
@@ -99,16 +99,16 @@ table-back g Passed = refl
 table-back g (Failed e) = refl
 
 -- the fields of an answer that accepts
-pub table-given : (s : List ℕ) (f : TableFields) → readTable s ≡ Fields f → Hold (tableRows InvalidWitness s) × (f ≡ fieldsAt s)
+pub table-given : (s : List ℕ) (f : TableFields) → readTable s ≡ Fields f → AllPass (tableRows InvalidWitness s) × (f ≡ tableFieldsOf s)
 unfolding readTable tableAnswer
 table-given s f h =
-    let z = answer-given (λ k. tableAnswer k (fieldsAt s)) tableFound (table-back (fieldsAt s)) (decide Passed (tableRows InvalidWitness s)) (Fields f) h refl in
-    let e : Fields (fieldsAt s) ≡ Fields f = z .1 in
-    (passed-hold (tableRows InvalidWitness s) (z .0), cc)
+    let z = answer-given (λ k. tableAnswer k (tableFieldsOf s)) tableFound (table-back (tableFieldsOf s)) (decide Passed (tableRows InvalidWitness s)) (Fields f) h refl in
+    let e : Fields (tableFieldsOf s) ≡ Fields f = z .1 in
+    (passed-all-pass (tableRows InvalidWitness s) (z .0), cc)
 
 -- the offsets of the answer don't fall or pass the length
 pub given-order : (s : List ℕ) (f : TableFields) → readTable s ≡ Fields f → (f .second ≤ f .third) × (f .third ≤ length s)
-unfolding fieldsAt
+unfolding tableFieldsOf
 given-order s f h =
     let g = table-given s f h in
     let z = passes InvalidWitness s (g .0) in

@@ -9,11 +9,11 @@ use borrow.Author.Tests.{eqb-true, le-leb, eq-eqb}
 use lib.ListN.{length, take, drop, length-append, length-drop, take-append-drop}
 use lib.Seq.{take-all, drop-at, drop-drop}
 use Rattle.octets.specs.Le.{toLe, fromLe, numberAt, Bytes}
-use Rattle.octets.specs.Table.{Number, numbers, numbersAt, valueOf}
+use Rattle.octets.specs.Layout.{Field, layoutBytes, layoutAt, fieldValue}
 use Rattle.octets.proofs.LeLaws.{length-to, from-to-fit}
-use Rattle.octets.proofs.TableLaws.{length-numbers, number-back, table-back, numbers-back}
+use Rattle.octets.proofs.LayoutLaws.{length-numbers, number-back, table-back, numbers-back}
 use Rattle.octets.proofs.Parts.{part-back, part-length}
-use Rattle.protocol.specs.Rows.{Hold}
+use Rattle.protocol.specs.Rows.{AllPass}
 use Rattle.protocol.specs.declared.error.ProtocolError.{ProtocolError}
 use Rattle.molecule.specs.Molecule.{bytesVector, tableBytes}
 use Rattle.molecule.specs.Table3.{between, field1, field2, field3}
@@ -23,8 +23,8 @@ use Rattle.molecule.proofs.CanonicalForm.{fields-end}
 
 -- a table that passes is the written form of its fields
 module _ (s : List ℕ) (b : Bytes s) (z : Passes s) where
-  head-back : numbers (head3 (numberAt s 0 4) (numberAt s 8 4) (numberAt s 12 4)) ≡ take 16 s
-  unfolding numbersAt
+  head-back : layoutBytes (head3 (numberAt s 0 4) (numberAt s 8 4) (numberAt s 12 4)) ≡ take 16 s
+  unfolding layoutAt
   head-back = rw (z .first) at (table-back (4 ∷ 4 ∷ 4 ∷ 4 ∷ []) s 0 b (omega arith))
 
   fields-behind : field1 s ++ (field2 s ++ field3 s) ≡ drop 16 s
@@ -50,34 +50,34 @@ module _ (a b c : List ℕ) (small : 16 + length a + length b + length c < 2 ^ 3
   abbrev Whole : List ℕ
   Whole = tableBytes (a ∷ b ∷ c ∷ [])
 
-  abbrev Head : List Number
+  abbrev Head : List Field
   Head = head3 (16 + length a + length b + length c) (16 + length a) (16 + length a + length b)
 
-  length-head : length (numbers Head) ≡ 16
+  length-head : length (layoutBytes Head) ≡ 16
   length-head = length-numbers Head
 
-  head-read : numbersAt (4 ∷ 4 ∷ 4 ∷ 4 ∷ []) Whole 0 ≡ Head
+  head-read : layoutAt (4 ∷ 4 ∷ 4 ∷ 4 ∷ []) Whole 0 ≡ Head
   head-read = numbers-back Head Whole [] (a ++ (b ++ c)) 0 (omega arith) (three-layout a b c) refl
 
   second-read : numberAt Whole 8 4 ≡ 16 + length a
-  unfolding numbersAt
-  second-read = ap (valueOf 2) head-read
+  unfolding layoutAt
+  second-read = ap (fieldValue 2) head-read
 
   third-read : numberAt Whole 12 4 ≡ 16 + length a + length b
-  unfolding numbersAt
-  third-read = ap (valueOf 3) head-read
+  unfolding layoutAt
+  third-read = ap (fieldValue 3) head-read
 
   pub written-passes : Passes Whole
-  unfolding numbersAt
+  unfolding layoutAt
   written-passes =
       let n : length Whole ≡ 16 + length a + length b + length c = length-three a b c in
-      let e₀ : numberAt Whole 0 4 ≡ 16 + length a + length b + length c = ap (valueOf 0) head-read in
+      let e₀ : numberAt Whole 0 4 ≡ 16 + length a + length b + length c = ap (fieldValue 0) head-read in
       let e₂ : numberAt Whole 8 4 ≡ 16 + length a = second-read in
       let e₃ : numberAt Whole 12 4 ≡ 16 + length a + length b = third-read in
       record {
         header = omega arith;
         total = e₀ ∙ sym n;
-        first = ap (valueOf 1) head-read;
+        first = ap (fieldValue 1) head-read;
         second = omega arith;
         third = omega arith;
         end = omega arith;
@@ -87,25 +87,25 @@ module _ (a b c : List ℕ) (small : 16 + length a + length b + length c < 2 ^ 3
   unfolding field1 between
   field1-read =
       let e : 16 + length a - 16 ≡ length a = omega arith in
-      rw (second-read, e) (part-back Whole (numbers Head) a (b ++ c) 16 (length a) (three-layout a b c) length-head refl)
+      rw (second-read, e) (part-back Whole (layoutBytes Head) a (b ++ c) 16 (length a) (three-layout a b c) length-head refl)
 
   pub field2-read : field2 Whole ≡ b
   unfolding field2 between
   field2-read =
       let e : 16 + length a + length b - (16 + length a) ≡ length b = omega arith in
-      let n : length (numbers Head ++ a) ≡ 16 + length a = simp (length-append, length-head) in
+      let n : length (layoutBytes Head ++ a) ≡ 16 + length a = simp (length-append, length-head) in
       rw (second-read, third-read, e)
-      (part-back Whole (numbers Head ++ a) b c (16 + length a) (length b) (three-layout a b c ∙ simp append-assoc) n refl)
+      (part-back Whole (layoutBytes Head ++ a) b c (16 + length a) (length b) (three-layout a b c ∙ simp append-assoc) n refl)
 
   pub field3-read : field3 Whole ≡ c
   unfolding field3
   field3-read =
-      let n : length (numbers Head ++ a ++ b) ≡ 16 + length a + length b = simp (length-append, length-head) in
-      let w : Whole ≡ (numbers Head ++ a ++ b) ++ c = three-layout a b c ∙ simp append-assoc in
-      rw (third-read, w) (drop-at (numbers Head ++ a ++ b) c (16 + length a + length b) n)
+      let n : length (layoutBytes Head ++ a ++ b) ≡ 16 + length a + length b = simp (length-append, length-head) in
+      let w : Whole ≡ (layoutBytes Head ++ a ++ b) ++ c = three-layout a b c ∙ simp append-assoc in
+      rw (third-read, w) (drop-at (layoutBytes Head ++ a ++ b) c (16 + length a + length b) n)
 
 -- a vector of bytes that passes is the written form of its bytes
-module _ (e : ProtocolError) (v : List ℕ) (h : Hold (bytesRows e v)) where
+module _ (e : ProtocolError) (v : List ℕ) (h : AllPass (bytesRows e v)) where
   pub vector-length : 4 + numberAt v 0 4 ≡ length v
   unfolding bytesRows
   vector-length = eqb-true _ _ (h .1 .0)
@@ -130,7 +130,7 @@ module _ (items : List ℕ) (small : length items < 2 ^ 32) where
       ap fromLe (part-back (toLe 4 (length items) ++ items) [] (toLe 4 (length items)) items 0 4 refl refl (length-to 4 (length items)))
       ∙ from-to-fit 4 (length items) small
 
-  pub vector-passes : (e : ProtocolError) → Hold (bytesRows e (bytesVector items))
+  pub vector-passes : (e : ProtocolError) → AllPass (bytesRows e (bytesVector items))
   unfolding bytesRows bytesVector
   vector-passes e =
       let n : length (bytesVector items) ≡ 4 + length items = simp (length-append, length-to) in

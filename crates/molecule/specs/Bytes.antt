@@ -22,30 +22,30 @@ unfoldable pub bytesRows : ProtocolError → List ℕ → List Row
 bytesRows e field = row (leb 4 (length field)) e ∷ row (eqb (4 + numberAt field 0 4) (length field)) e ∷ []
 
 -- the place of the bytes of a field that begins at `at`
-unfoldable pub placeOf : ℕ → List ℕ → Place
-placeOf at field = record { start = at + 4; len = numberAt field 0 4 }
+unfoldable pub bytesPlaceFrom : ℕ → List ℕ → Place
+bytesPlaceFrom at field = record { start = at + 4; len = numberAt field 0 4 }
 
 unfoldable pub placeAnswer : Check → Place → PlaceAnswer
 placeAnswer Passed p = At p
 placeAnswer (Failed e) p = Refused e
 
 unfoldable pub readBytes : List ℕ → PlaceAnswer
-readBytes field = placeAnswer (decide Passed (bytesRows InvalidWitness field)) (placeOf 0 field)
+readBytes field = placeAnswer (decide Passed (bytesRows InvalidWitness field)) (bytesPlaceFrom 0 field)
 
 -- "A witness's lock is field 1"; 01, "Where each refusal is raised": "table, empty lock" are 22
-unfoldable pub lockRows : List ℕ → List Row
-lockRows s =
+unfoldable pub witnessLockRows : List ℕ → List Row
+witnessLockRows s =
     tableRows InvalidWitness s ++ (row (leb 1 (length (field1 s))) InvalidWitness ∷ bytesRows InvalidWitness (field1 s))
 
-unfoldable pub readLock : List ℕ → PlaceAnswer
-readLock s = placeAnswer (decide Passed (lockRows s)) (placeOf 16 (field1 s))
+unfoldable pub readWitnessLock : List ℕ → PlaceAnswer
+readWitnessLock s = placeAnswer (decide Passed (witnessLockRows s)) (bytesPlaceFrom 16 (field1 s))
 
 -- "a script's args are field 3"; 01, "Where each refusal is raised": "script .., its table, args" are 20
-unfoldable pub argsRows : List ℕ → List Row
-argsRows s = tableRows InvalidArgs s ++ bytesRows InvalidArgs (field3 s)
+unfoldable pub scriptArgsRows : List ℕ → List Row
+scriptArgsRows s = tableRows InvalidArgs s ++ bytesRows InvalidArgs (field3 s)
 
 unfoldable pub readScriptArgs : List ℕ → PlaceAnswer
-readScriptArgs s = placeAnswer (decide Passed (argsRows s)) (placeOf (numberAt s 12 4) (field3 s))
+readScriptArgs s = placeAnswer (decide Passed (scriptArgsRows s)) (bytesPlaceFrom (numberAt s 12 4) (field3 s))
 
 -- the bytes of s that an answer places, none where it is a refusal
 unfoldable pub bytesIn : List ℕ → PlaceAnswer → List ℕ

@@ -3,8 +3,8 @@ use Prim.Native.Nat.{ℕ, _+_, _-_}
 use mathlib.Core.Path.{_≡_}
 use mathlib.Core.List.{List, [], _∷_, _++_}
 use lib.ListN.{length, take, drop, replicate}
-use Rattle.octets.specs.Table.{Number}
-use Rattle.protocol.specs.Rows.{Hold}
+use Rattle.octets.specs.Layout.{Field}
+use Rattle.protocol.specs.Rows.{AllPass}
 use Rattle.protocol.specs.Write.{writeFault, writeAnswer, afterWrite}
 use Rattle.protocol.specs.declared.error.ProtocolError.{ProtocolError}
 use Rattle.protocol.specs.declared.error.ProtocolError.the-variants.{InvalidWitness}
@@ -22,7 +22,7 @@ canonicalOf s = tableBytes (bytesVector [] ∷ field2 s ∷ field3 s ∷ [])
 
 -- the canonical witness is read back: "the lock field becomes an empty Bytes, fields 2 and 3 are copied"
 pub record ReadBack (s : List ℕ) : Type 0 where
-  pub accepted : (e : ProtocolError) → Hold (tableRows e (canonicalOf s))
+  pub accepted : (e : ProtocolError) → AllPass (tableRows e (canonicalOf s))
   pub lock : field1 (canonicalOf s) ≡ bytesVector []
   pub second : field2 (canonicalOf s) ≡ field2 s
   pub third : field3 (canonicalOf s) ≡ field3 s
@@ -49,7 +49,7 @@ unfoldable pub canonicalParts : List ℕ → CanonicalParts
 canonicalParts s = partsOf (readTable s) s
 
 -- those 20 bytes: the total, the three offsets, and the length of the empty lock
-unfoldable pub canonicalHead : ℕ → ℕ → List Number
+unfoldable pub canonicalHead : ℕ → ℕ → List Field
 canonicalHead total third =
     record { width = 4; value = total }
     ∷ record { width = 4; value = 16 }

@@ -5,14 +5,14 @@ use mathlib.Core.List.{List, [], _∷_, _++_}
 use lib.ListN.{length}
 use Rattle.octets.specs.Le.{toLe}
 use Rattle.octets.specs.Lists.{joined}
-use Rattle.octets.specs.Table.{Number, numbers}
+use Rattle.octets.specs.Layout.{Field, layoutBytes}
 
 -- a vector of items of one size, here bytes ("fixvec"): how many there are (u32), then the items
 unfoldable pub bytesVector : List ℕ → List ℕ
 bytesVector items = toLe 4 (length items) ++ items
 
 -- where each field begins (u32), the first of them at `at`
-unfoldable pub offsetsFrom : ℕ → List (List ℕ) → List Number
+unfoldable pub offsetsFrom : ℕ → List (List ℕ) → List Field
 offsetsFrom at [] = []
 offsetsFrom at (field ∷ fields) = record { width = 4; value = at } ∷ offsetsFrom (at + length field) fields
 
@@ -21,9 +21,9 @@ unfoldable pub headSize : List (List ℕ) → ℕ
 headSize fields = 4 + 4 * length fields
 
 -- a table: its total size (u32), an offset for each field, then the fields
-unfoldable pub tableHead : List (List ℕ) → List Number
+unfoldable pub tableHead : List (List ℕ) → List Field
 tableHead fields =
     record { width = 4; value = headSize fields + length (joined fields) } ∷ offsetsFrom (headSize fields) fields
 
 unfoldable pub tableBytes : List (List ℕ) → List ℕ
-tableBytes fields = numbers (tableHead fields) ++ joined fields
+tableBytes fields = layoutBytes (tableHead fields) ++ joined fields

@@ -28,15 +28,15 @@ tableRows e s =
     ∷ []
 
 -- where each field begins; it ends where the next one begins, the last with the bytes
-unfoldable pub fieldsAt : List ℕ → TableFields
-fieldsAt s = record { first = 16; second = numberAt s 8 4; third = numberAt s 12 4 }
+unfoldable pub tableFieldsOf : List ℕ → TableFields
+tableFieldsOf s = record { first = 16; second = numberAt s 8 4; third = numberAt s 12 4 }
 
 unfoldable pub tableAnswer : Check → TableFields → TableAnswer
 tableAnswer Passed f = Fields f
 tableAnswer (Failed e) f = Refused e
 
 unfoldable pub readTable : List ℕ → TableAnswer
-readTable s = tableAnswer (decide Passed (tableRows InvalidWitness s)) (fieldsAt s)
+readTable s = tableAnswer (decide Passed (tableRows InvalidWitness s)) (tableFieldsOf s)
 
 -- the bytes of s from one place up to another
 unfoldable pub between : List ℕ → ℕ → ℕ → List ℕ
@@ -62,5 +62,5 @@ unfoldable pub table3Bytes : Table3 → List ℕ
 table3Bytes r = tableBytes (r .first ∷ r .second ∷ r .third ∷ [])
 
 -- what the fields of an answer say of the bytes s
-unfoldable pub readingOf : List ℕ → TableFields → Table3
-readingOf s f = record { first = between s (f .first) (f .second); second = between s (f .second) (f .third); third = drop (f .third) s }
+unfoldable pub tableGiven : List ℕ → TableFields → Table3
+tableGiven s f = record { first = between s (f .first) (f .second); second = between s (f .second) (f .third); third = drop (f .third) s }

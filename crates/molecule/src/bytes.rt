@@ -10,7 +10,7 @@ use protocol::ProtocolError;
 ghost use mathlib.Core.Path.{_≡_};
 ghost use Rattle.protocol.specs.Rows.{decide};
 ghost use Rattle.protocol.specs.declared.check.Check.the-variants.{Passed};
-ghost use Rattle.molecule.specs.Bytes.{bytesRows, placeOf, placeAnswer, readBytes, lockRows, readLock, argsRows, readScriptArgs, bytesIn};
+ghost use Rattle.molecule.specs.Bytes.{bytesRows, bytesPlaceFrom, placeAnswer, readBytes, witnessLockRows, readWitnessLock, scriptArgsRows, readScriptArgs, bytesIn};
 
 pub enum PlaceAnswer {
     At(Place),
@@ -28,7 +28,7 @@ fn check_bytes(field: &[u8], error: ProtocolError) -> Check
 
 // The place of the bytes of a field that begins at `at`.
 fn place_of(at: u32, field: &[u8]) -> Place
-    ensures { λ r. ⌜ r ≡ placeOf at (now (field .entry)) ⌝ }
+    ensures { λ r. ⌜ r ≡ bytesPlaceFrom at (now (field .entry)) ⌝ }
 {
     Place {
         start: at as usize + 4,
@@ -56,7 +56,7 @@ pub fn molecule_bytes(field: &[u8]) -> PlaceAnswer
 }
 
 fn check_lock(witness: &[u8]) -> Check
-    ensures { λ r. ⌜ r ≡ decide Passed (lockRows (now (witness .entry))) ⌝ }
+    ensures { λ r. ⌜ r ≡ decide Passed (witnessLockRows (now (witness .entry))) ⌝ }
 {
     let invalid = ProtocolError::InvalidWitness;
     let field = bytes_between(witness, 16, u32_at(witness, 8) as usize);
@@ -67,14 +67,14 @@ fn check_lock(witness: &[u8]) -> Check
 
 // The place in a witness of its lock's bytes.
 pub fn witness_lock(witness: &[u8]) -> PlaceAnswer
-    ensures { λ r. ⌜ r ≡ readLock (now (witness .entry)) ⌝ }
+    ensures { λ r. ⌜ r ≡ readWitnessLock (now (witness .entry)) ⌝ }
 {
     let field = bytes_between(witness, 16, u32_at(witness, 8) as usize);
     place_answer(check_lock(witness), place_of(16, field))
 }
 
 fn check_args(script: &[u8]) -> Check
-    ensures { λ r. ⌜ r ≡ decide Passed (argsRows (now (script .entry))) ⌝ }
+    ensures { λ r. ⌜ r ≡ decide Passed (scriptArgsRows (now (script .entry))) ⌝ }
 {
     let invalid = ProtocolError::InvalidArgs;
     let field = rest(script, u32_at(script, 12) as usize);

@@ -9,7 +9,7 @@ use protocol::Check;
 use protocol::ProtocolError;
 use protocol::WriteAnswer;
 ghost use mathlib.Core.Path.{_≡_};
-ghost use Rattle.octets.specs.Table.{numbers};
+ghost use Rattle.octets.specs.Layout.{layoutBytes};
 ghost use Rattle.molecule.specs.Canonical.{canonicalHead, canonicalParts, canonicalWritten, canonicalStored};
 
 // The canonical witness's first 20 bytes, and where in the witness the others begin: fields 2 and 3, which end with it.
@@ -22,7 +22,7 @@ pub struct CanonicalParts {
 
 // The total, the three offsets, and the length of the empty lock.
 fn canonical_head(total: u64, third: u64) -> [u8; 20]
-    ensures { λ r. ⌜ r ≡ numbers (canonicalHead total third) ⌝ }
+    ensures { λ r. ⌜ r ≡ layoutBytes (canonicalHead total third) ⌝ }
 {
     let mut head = [0u8; 20];
     store_number(&mut head, 0, 4, total);

@@ -6,7 +6,7 @@ use protocol::ProtocolError;
 ghost use mathlib.Core.Path.{_≡_};
 ghost use Rattle.protocol.specs.Rows.{decide};
 ghost use Rattle.protocol.specs.declared.check.Check.the-variants.{Passed};
-ghost use Rattle.molecule.specs.Table3.{tableRows, fieldsAt, readTable, between};
+ghost use Rattle.molecule.specs.Table3.{tableRows, tableFieldsOf, readTable, between};
 
 // Where each field begins. It ends where the next one begins, the last with the table.
 pub struct TableFields {
@@ -35,7 +35,7 @@ pub(crate) fn check_table(table: &[u8], error: ProtocolError) -> Check
 }
 
 fn fields_at(table: &[u8]) -> TableFields
-    ensures { λ r. ⌜ r ≡ fieldsAt (now (table .entry)) ⌝ }
+    ensures { λ r. ⌜ r ≡ tableFieldsOf (now (table .entry)) ⌝ }
 {
     TableFields {
         first: 16,

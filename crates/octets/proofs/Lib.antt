@@ -1,6 +1,6 @@
 pub mod LeLaws
 pub mod Stores
-pub mod TableLaws
+pub mod LayoutLaws
 pub mod Parts
 pub mod Arrays
 pub mod Filled

@@ -1,4 +1,4 @@
 pub mod Le
-pub mod Table
+pub mod Layout
 pub mod Lists
 pub mod Places

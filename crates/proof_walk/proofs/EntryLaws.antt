@@ -13,7 +13,7 @@ use Rattle.octets.specs.Le.{numberAt, fromLe}
 use Rattle.protocol.specs.Policy.{capabilityFor}
 use Rattle.protocol.specs.declared.error.ProtocolError.the-variants.{InvalidOperation}
 use Rattle.protocol.specs.declared.policy.OperationCapability.the-variants.{Capability, Refused}
-use Rattle.account_state.specs.Reading.{slotOf, lengthOf, entryOf, entriesOf}
+use Rattle.account_state.specs.Reading.{entrySlotOf, entryLengthOf, entryOf, entriesOf}
 use Rattle.decision.specs.Proofs.{known, entryFor, noEntry}
 use Rattle.proof_walk.specs.Steps.{stateEntries, FoundIs}
 use Rattle.proof_walk.specs.declared.authenticator.Found.the-variants.{At, Missing}
@@ -25,27 +25,27 @@ pub record Seeking (state : List ℕ) (slot at left : ℕ) : Type 0 where
   pub finds : entryFor slot (stateEntries state) ≡ entryFor slot (entriesOf left (drop at state))
 
 -- the entry at the front, and those behind it
-entries-first : (e : List ℕ) (left : ℕ) → 0 < left → entriesOf left e ≡ entryOf e ∷ entriesOf (left - 1) (drop (lengthOf e) e)
+entries-first : (e : List ℕ) (left : ℕ) → 0 < left → entriesOf left e ≡ entryOf e ∷ entriesOf (left - 1) (drop (entryLengthOf e) e)
 unfolding entriesOf
 entries-first e left h = let l : left ≡ suc (left - 1) = omega arith in ap (λ (n : ℕ). entriesOf n e) l
 
 module _ {state : List ℕ} {slot at left : ℕ} (z : Seeking state slot at left) where
-  pub seek-hit : 0 < left → slotOf (drop at state) ≡ slot → FoundIs (stateEntries state) state slot (At at)
+  pub seek-hit : 0 < left → entrySlotOf (drop at state) ≡ slot → FoundIs (stateEntries state) state slot (At at)
   unfolding known entryFor entryOf
   seek-hit h e =
       record {
-        itsKnown = sym (z .knows ∙ rw (entries-first (drop at state) left h, eq-eqb (slotOf (drop at state)) slot e));
-        itsEntry = sym (z .finds ∙ rw (entries-first (drop at state) left h, eq-eqb (slotOf (drop at state)) slot e));
+        itsKnown = sym (z .knows ∙ rw (entries-first (drop at state) left h, eq-eqb (entrySlotOf (drop at state)) slot e));
+        itsEntry = sym (z .finds ∙ rw (entries-first (drop at state) left h, eq-eqb (entrySlotOf (drop at state)) slot e));
       }
 
-  pub seek-next : 0 < left → (slotOf (drop at state) ≡ slot → ⊥) → (n : ℕ) → n ≡ lengthOf (drop at state) → n ≤ 65535
+  pub seek-next : 0 < left → (entrySlotOf (drop at state) ≡ slot → ⊥) → (n : ℕ) → n ≡ entryLengthOf (drop at state) → n ≤ 65535
       → Seeking state slot (at + n) (left - 1)
   unfolding known entryFor entryOf
   seek-next h e n k m =
       record {
         small = omega arith;
-        knows = z .knows ∙ rw (entries-first (drop at state) left h, ne-eqb (slotOf (drop at state)) slot e, k, drop-drop (lengthOf (drop at state)) at state);
-        finds = z .finds ∙ rw (entries-first (drop at state) left h, ne-eqb (slotOf (drop at state)) slot e, k, drop-drop (lengthOf (drop at state)) at state);
+        knows = z .knows ∙ rw (entries-first (drop at state) left h, ne-eqb (entrySlotOf (drop at state)) slot e, k, drop-drop (entryLengthOf (drop at state)) at state);
+        finds = z .finds ∙ rw (entries-first (drop at state) left h, ne-eqb (entrySlotOf (drop at state)) slot e, k, drop-drop (entryLengthOf (drop at state)) at state);
       }
 
   pub seek-none : left ≡ 0 → FoundIs (stateEntries state) state slot Missing

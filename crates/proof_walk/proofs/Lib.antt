@@ -1,5 +1,5 @@
 pub mod EntryLaws
 pub mod RequestLaws
 pub mod Answered
-pub mod Turn
+pub mod OneProof
 pub mod WalkLaws

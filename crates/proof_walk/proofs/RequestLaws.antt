@@ -16,22 +16,22 @@ use Rattle.protocol.specs.Write.{writeAnswer, afterWrite}
 use Rattle.protocol.specs.declared.check.Check.the-variants.{Passed}
 use Rattle.protocol.specs.declared.check.WriteAnswer.the-variants.{Written}
 use Rattle.protocol.proofs.Back.{write-room}
-use Rattle.protocol.proofs.Hold.{passed-hold}
+use Rattle.protocol.proofs.AllPass.{passed-all-pass}
 use Rattle.account_state.specs.Reading.{EntryReading, entryOf}
 use Rattle.account_witness.specs.Reading.{ProofReading}
 use Rattle.verifier_request.specs.Writer.{requestTotal, requestRoom, requestWritten, requestStored}
 use Rattle.verifier_request.proofs.Form.{length-request}
 use Rattle.scene_table.specs.Scene.{Cell}
-use Rattle.scene_table.specs.Lent.{lentScene}
+use Rattle.scene_table.specs.Lent.{sceneIn}
 use Rattle.cell_search.specs.declared.cells.Source.the-variants.{CellDep}
 use Rattle.cell_search.specs.declared.search.Search.{Search}
 use Rattle.cell_search.specs.declared.search.Search.the-variants.{Missing, One, Several}
 use Rattle.cell_search.specs.Search.{cellsOf, matches, searchOf, cellSearch}
-use Rattle.decision.specs.Proofs.{settingFor, known, entryFor, verifierField, verifiers, requestSize, limitRows, entryRows, proofRows, requestReading, requestOf}
+use Rattle.decision.specs.Proofs.{contextFor, known, entryFor, verifierField, verifiers, requestSize, requestLimitRows, authenticatorRows, proofRows, requestContent, requestOf}
 use Rattle.decision.specs.Walk.{answered}
 use Rattle.decision.proofs.RequestsRead.{request-limits}
-use Rattle.proof_walk.specs.Answer.{sceneDeps, walkSetting}
-use Rattle.proof_walk.specs.Steps.{stateEntries, isKnown, entryIn, FoundIs, proofOf, rowsOf, requestFor}
+use Rattle.proof_walk.specs.Answer.{sceneDeps, walkContext}
+use Rattle.proof_walk.specs.Steps.{stateEntries, isKnown, entryIn, FoundIs, proofOf, foundRows, requestFor}
 use Rattle.proof_walk.specs.declared.authenticator.Found.{Found}
 
 -- just one place
@@ -48,53 +48,53 @@ one-found (k ∷ j ∷ ks) = sym (ne-eqb (suc (suc (length ks))) 1 (λ e. omega 
 
 -- what the search for an entry's verifier says
 pub resolved : (table store entry : List ℕ) (s : Search)
-    → s ≡ cellSearch (verifierField (numberAt entry 10 1)) (take 32 (drop 12 entry)) (cellsOf CellDep (lentScene table store))
+    → s ≡ cellSearch (verifierField (numberAt entry 10 1)) (take 32 (drop 12 entry)) (cellsOf CellDep (sceneIn table store))
     → isOne s ≡ eqb (length (verifiers (entryOf entry) (sceneDeps table store))) 1
 unfolding entryOf verifiers cellsOf sceneDeps cellSearch
 resolved table store entry s e =
-    ap isOne e ∙ one-found (matches (verifierField (numberAt entry 10 1)) (take 32 (drop 12 entry)) (lentScene table store .deps))
+    ap isOne e ∙ one-found (matches (verifierField (numberAt entry 10 1)) (take 32 (drop 12 entry)) (sceneIn table store .deps))
 
 -- where every row passes the request writer refuses nothing: its answer is the request's length, which fits, and the request
 -- stands at the front
 module _ (known : Bool) (operation : ℕ) (digest : List ℕ) (deps : List Cell) (e : EntryReading) (p : ProofReading) (out : List ℕ)
-    (d : length digest ≡ 32) (h : decide Passed (rowsOf known operation deps e (length (p .bytes)) (length out)) ≡ Passed) where
-  request-long : length (requestFor operation digest e p) ≡ requestTotal (requestReading operation digest e p)
-  unfolding requestFor requestReading
-  request-long = length-request (requestReading operation digest e p) (record { digest = d; key = length-array 32 (e .key) })
+    (d : length digest ≡ 32) (h : decide Passed (foundRows known operation deps e (length (p .bytes)) (length out)) ≡ Passed) where
+  request-long : length (requestFor operation digest e p) ≡ requestTotal (requestContent operation digest e p)
+  unfolding requestFor requestContent
+  request-long = length-request (requestContent operation digest e p) (record { digest = d; key = length-array 32 (e .key) })
 
-  request-fits : requestTotal (requestReading operation digest e p) ≤ length out
-  unfolding rowsOf entryRows limitRows requestSize requestReading requestTotal
-  request-fits = leb-true _ _ (passed-hold _ h .1 .1 .1 .1 .1 .1 .0)
+  request-fits : requestTotal (requestContent operation digest e p) ≤ length out
+  unfolding foundRows authenticatorRows requestLimitRows requestSize requestContent requestTotal
+  request-fits = leb-true _ _ (passed-all-pass _ h .1 .1 .1 .1 .1 .1 .0)
 
-  request-passes : requestRoom (requestReading operation digest e p) (length out) ≡ Passed
-  unfolding rowsOf requestRoom
-  request-passes = write-room _ _ _ (request-limits operation digest deps e p (length out) (passed-hold _ h .1)) request-fits
+  request-passes : requestRoom (requestContent operation digest e p) (length out) ≡ Passed
+  unfolding foundRows requestRoom
+  request-passes = write-room _ _ _ (request-limits operation digest deps e p (length out) (passed-all-pass _ h .1)) request-fits
 
   pub made-fits : length (requestFor operation digest e p) ≤ length out
   made-fits = rw request-long request-fits
 
-  pub made-written : requestWritten (requestReading operation digest e p) out ≡ Written (length (requestFor operation digest e p))
+  pub made-written : requestWritten (requestContent operation digest e p) out ≡ Written (length (requestFor operation digest e p))
   unfolding requestWritten writeAnswer
   made-written = rw (request-passes, request-long)
 
-  pub made-stored : requestStored (requestReading operation digest e p) out ≡ answered out (requestFor operation digest e p)
+  pub made-stored : requestStored (requestContent operation digest e p) out ≡ answered out (requestFor operation digest e p)
   unfolding requestStored afterWrite answered requestFor
   made-stored = rw request-passes
 
 -- rows, request and weight by the entry that was found
 module _ (table store state : List ℕ) (operation : ℕ) (digest : List ℕ) (room slot : ℕ) (bytes : List ℕ) (found : Found)
     (f : FoundIs (stateEntries state) state slot found) where
-  pub found-rows : rowsOf (isKnown found) operation (sceneDeps table store) (entryOf (entryIn state found)) (length bytes) room
-      ≡ proofRows (walkSetting table store state operation digest room) 0 (proofOf slot bytes)
-  unfolding proofRows walkSetting settingFor rowsOf
+  pub found-rows : foundRows (isKnown found) operation (sceneDeps table store) (entryOf (entryIn state found)) (length bytes) room
+      ≡ proofRows (walkContext table store state operation digest room) 0 (proofOf slot bytes)
+  unfolding proofRows walkContext contextFor foundRows
   found-rows = rw (f .itsKnown, f .itsEntry, sub-zero)
 
   pub found-request : requestFor operation digest (entryOf (entryIn state found)) (proofOf slot bytes)
-      ≡ requestOf (walkSetting table store state operation digest room) (proofOf slot bytes)
-  unfolding requestOf requestFor walkSetting settingFor
+      ≡ requestOf (walkContext table store state operation digest room) (proofOf slot bytes)
+  unfolding requestOf requestFor walkContext contextFor
   found-request = rw (f .itsEntry)
 
   pub found-weight : numberAt (entryIn state found) 8 2
-      ≡ entryFor slot (walkSetting table store state operation digest room .entries) .weight
-  unfolding walkSetting settingFor entryOf
+      ≡ entryFor slot (walkContext table store state operation digest room .entries) .weight
+  unfolding walkContext contextFor entryOf
   found-weight = ap (λ (e : EntryReading). e .weight) (f .itsEntry)

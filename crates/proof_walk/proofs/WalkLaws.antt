@@ -21,46 +21,46 @@ use Rattle.protocol.specs.declared.check.Check.the-variants.{Passed, Failed}
 use Rattle.account_witness.specs.Reading.{ProofReading}
 use Rattle.account_witness.specs.Walk as witness
 use Rattle.account_witness.specs.declared.walk.ProofCursor.{ProofCursor}
-use Rattle.scene_table.specs.Lent.{sceneFrom, lentScene, blankScene}
+use Rattle.scene_table.specs.Lent.{sceneFrom, sceneIn, blankScene}
 use Rattle.scene_table.specs.Places.{verdictAt, verdictOf}
-use Rattle.decision.specs.Proofs.{Setting, settingFor, thresholdOf, known, entryFor, entryRows, proofRows, requestOf}
-use Rattle.decision.specs.Walk.{Outcome, outcome, verdict, earned, lastRows, orElse, walk, orFault, proofsFrom, walkList, walkLock, answered}
-use Rattle.proof_walk.specs.Answer.{sceneDeps, walkSetting, walkProofs, walkedOf}
-use Rattle.proof_walk.specs.Steps.{readAt, Went, TurnIs}
-use Rattle.proof_walk.specs.declared.walk.Turn.the-variants as turn
+use Rattle.decision.specs.Proofs.{Context, contextFor, thresholdOf, known, entryFor, authenticatorRows, proofRows, requestOf}
+use Rattle.decision.specs.Walk.{WalkOutcome, walkOutcome, verdict, approvedWeight, lastRows, orElse, walk, orFault, proofsUntilFault, walkList, walkLock, answered}
+use Rattle.proof_walk.specs.Answer.{sceneDeps, walkContext, walkProofs, walkedOf}
+use Rattle.proof_walk.specs.Steps.{readAt, Went, ProofOutcomeIs}
+use Rattle.proof_walk.specs.declared.walk.ProofOutcome.the-variants as outcome
 use Rattle.proof_walk.specs.declared.walk.Walked.{Walked}
 use Rattle.proof_walk.proofs.Answered.{answered-length, part-put, lentOf, backIn}
-use Rattle.proof_walk.proofs.Turn.{layout-error, turn-split, turn-both}
+use Rattle.proof_walk.proofs.OneProof.{layout-error, turn-split, turn-both}
 
 -- ---- the settings of one walk, which differ only in the room of the answer buffer
 
 module _ (table store state : List ℕ) (operation : ℕ) (digest : List ℕ) where
-  abbrev pub S : ℕ → Setting
-  S room = walkSetting table store state operation digest room
+  abbrev pub S : ℕ → Context
+  S room = walkContext table store state operation digest room
 
   -- the table's digit is the verdict
   pub verdict-lent : (room i : ℕ) → verdictOf table i ≡ verdict (S room) i
-  unfolding verdictOf verdictAt blankScene lentScene sceneFrom verdict walkSetting settingFor
+  unfolding verdictOf verdictAt blankScene sceneIn sceneFrom verdict walkContext contextFor
   verdict-lent room i = refl
 
   -- rows go by what is left of it, and request, verdict and weight not by it
   rows-alike : (a b used : ℕ) (p : ProofReading) → a - 0 ≡ b - used → proofRows (S a) 0 p ≡ proofRows (S b) used p
-  unfolding proofRows walkSetting settingFor
+  unfolding proofRows walkContext contextFor
   rows-alike a b used p e =
       ap
-      (λ (left : ℕ). row (known (p .slot) (S a .entries)) InvalidWitness ∷ entryRows operation (sceneDeps table store) (entryFor (p .slot) (S a .entries)) (length (p .bytes)) left)
+      (λ (left : ℕ). row (known (p .slot) (S a .entries)) InvalidWitness ∷ authenticatorRows operation (sceneDeps table store) (entryFor (p .slot) (S a .entries)) (length (p .bytes)) left)
       e
 
   request-alike : (a b : ℕ) (p : ProofReading) → requestOf (S a) p ≡ requestOf (S b) p
-  unfolding requestOf walkSetting settingFor
+  unfolding requestOf walkContext contextFor
   request-alike a b p = refl
 
   verdict-alike : (a b i : ℕ) → verdict (S a) i ≡ verdict (S b) i
-  unfolding verdict verdictAt walkSetting settingFor
+  unfolding verdict verdictAt walkContext contextFor
   verdict-alike a b i = refl
 
-  earned-alike : (a b i : ℕ) (p : ProofReading) → earned (S a) i p ≡ earned (S b) i p
-  unfolding earned verdict verdictAt walkSetting settingFor
+  earned-alike : (a b i : ℕ) (p : ProofReading) → approvedWeight (S a) i p ≡ approvedWeight (S b) i p
+  unfolding approvedWeight verdict verdictAt walkContext contextFor
   earned-alike a b i p = refl
 
   -- ---- the operation, before the first proof
@@ -68,24 +68,24 @@ module _ (table store state : List ℕ) (operation : ℕ) (digest : List ℕ) wh
   module _ (room : ℕ) (lock : List ℕ) where
     -- one from 1 to 3 is walked,
     pub walk-known : isOperation operation ≡ true → walkProofs (S room) lock ≡ walkLock (S room) lock
-    unfolding walkProofs walkSetting settingFor
+    unfolding walkProofs walkContext contextFor
     walk-known h = rw h
 
     -- another is 37
-    pub walk-unknown : isOperation operation ≡ false → walkProofs (S room) lock ≡ outcome (Failed InvalidOperation) 0 []
-    unfolding walkProofs walkSetting settingFor
+    pub walk-unknown : isOperation operation ≡ false → walkProofs (S room) lock ≡ walkOutcome (Failed InvalidOperation) 0 []
+    unfolding walkProofs walkContext contextFor
     walk-unknown h = rw h
 
 -- ---- the head of the loop
 
 -- the walk from a cursor on, n proofs being left
-abbrev pub walkFrom : Setting → List ℕ → ℕ → ProofCursor → ℕ → ℕ → List ℕ → Outcome
+abbrev pub walkFrom : Context → List ℕ → ℕ → ProofCursor → ℕ → ℕ → List ℕ → WalkOutcome
 walkFrom c lock n cursor i weight made =
-    let ps = proofsFrom lock n (cursor .offset) (cursor .least) in
+    let ps = proofsUntilFault lock n (cursor .offset) (cursor .least) in
     walk c (ps .clean) i weight made (ps .proofs)
 
 -- what holds where a turn begins: `made` is written, and the walk goes on from proof i
-pub record Head (c : Setting) (lock : List ℕ) (count : ℕ) (answer₀ answer : List ℕ) (cursor : ProofCursor) (weight total i : ℕ) : Type 0 where
+pub record Head (c : Context) (lock : List ℕ) (count : ℕ) (answer₀ answer : List ℕ) (cursor : ProofCursor) (weight total i : ℕ) : Type 0 where
   pub made : List ℕ
   pub wrote : answer ≡ answered answer₀ made
   pub long : length made ≡ total
@@ -95,45 +95,45 @@ pub record Head (c : Setting) (lock : List ℕ) (count : ℕ) (answer₀ answer 
   pub goes : walkLock c lock ≡ walkFrom c lock (count - i) cursor i weight made
 
 -- before the first turn
-pub head-first : (c : Setting) (lock answer₀ : List ℕ) (count : ℕ) → count ≡ numberAt lock 6 1
-    → Head c lock count answer₀ answer₀ witness.firstCursor 0 0 0
+pub head-first : (c : Context) (lock answer₀ : List ℕ) (count : ℕ) → count ≡ numberAt lock 6 1
+    → Head c lock count answer₀ answer₀ witness.firstProof 0 0 0
 unfolding walkLock walkList answered
 head-first c lock answer₀ count e =
     record { made = []; wrote = refl; long = refl; fits = omega arith; kept = refl; bounded = omega arith; goes = rw (e, sub-zero) }
 
 -- a proof with a faulty layout
-walk-faulty : (c : Setting) (lock : List ℕ) (n : ℕ) (cursor : ProofCursor) (i weight : ℕ) (made : List ℕ) (e : ProtocolError)
-    → decide Passed (witness.proofRows lock (cursor .offset) (cursor .least)) ≡ Failed e
-    → walkFrom c lock (suc n) cursor i weight made ≡ outcome (Failed e) i made
-unfolding proofsFrom orFault walk lastRows decide _▷_
+walk-faulty : (c : Context) (lock : List ℕ) (n : ℕ) (cursor : ProofCursor) (i weight : ℕ) (made : List ℕ) (e : ProtocolError)
+    → decide Passed (witness.proofLayoutRows lock (cursor .offset) (cursor .least)) ≡ Failed e
+    → walkFrom c lock (suc n) cursor i weight made ≡ walkOutcome (Failed e) i made
+unfolding proofsUntilFault orFault walk lastRows decide _▷_
 walk-faulty c lock n cursor i weight made e h =
-    rw h (ap (λ (x : ProtocolError). outcome (Failed x) i made) (layout-error lock (cursor .offset) (cursor .least) e h))
+    rw h (ap (λ (x : ProtocolError). walkOutcome (Failed x) i made) (layout-error lock (cursor .offset) (cursor .least) e h))
 
 -- a proof with a sound one
-walk-read : (c : Setting) (lock : List ℕ) (n : ℕ) (cursor : ProofCursor) (i weight : ℕ) (made : List ℕ)
-    → decide Passed (witness.proofRows lock (cursor .offset) (cursor .least)) ≡ Passed
+walk-read : (c : Context) (lock : List ℕ) (n : ℕ) (cursor : ProofCursor) (i weight : ℕ) (made : List ℕ)
+    → decide Passed (witness.proofLayoutRows lock (cursor .offset) (cursor .least)) ≡ Passed
     → let p = readAt lock (cursor .offset) in
     walkFrom c lock (suc n) cursor i weight made
     ≡ orElse (decide Passed (proofRows c (length made) p)) i made
-    (cond (eqb (verdict c i) 2) (outcome (Failed VerifierFailure) (i + 1) (made ++ requestOf c p))
-    (walkFrom c lock n (witness.cursorBehind lock (cursor .offset)) (i + 1) (weight + earned c i p) (made ++ requestOf c p)))
-unfolding proofsFrom orFault walk readAt witness.cursorBehind
+    (cond (eqb (verdict c i) 2) (walkOutcome (Failed VerifierFailure) (i + 1) (made ++ requestOf c p))
+    (walkFrom c lock n (witness.proofCursorBehind lock (cursor .offset)) (i + 1) (weight + approvedWeight c i p) (made ++ requestOf c p)))
+unfolding proofsUntilFault orFault walk readAt witness.proofCursorBehind
 walk-read c lock n cursor i weight made h = rw h
 
 -- a return, from the outcome that was come to
-pub finish : {o : Outcome} (answer₀ : List ℕ) {answer made : List ℕ} {f : Check} {i total : ℕ} {r : Walked} → o ≡ outcome f i made
+pub finish : {o : WalkOutcome} (answer₀ : List ℕ) {answer made : List ℕ} {f : Check} {i total : ℕ} {r : Walked} → o ≡ walkOutcome f i made
     → length made ≡ total → answer ≡ answered answer₀ made → r ≡ record { found = f; count = i; length = total }
     → (r ≡ walkedOf o) × (answer ≡ answered answer₀ (o .made))
 unfolding walkedOf
 finish answer₀ {f = f} {i = i} e l a t = (
   t ∙ (ap (λ (n : ℕ). record { found = f; count = i; length = n }) (sym l) ∙ sym (ap walkedOf e)),
-  a ∙ sym (ap (λ (x : Outcome). answered answer₀ (x .made)) e),
+  a ∙ sym (ap (λ (x : WalkOutcome). answered answer₀ (x .made)) e),
 )
 
 -- ---- the ways on from the head
 
 -- a request was written behind the others
-pub record Wrote (c : Setting) (answer₀ answer made : List ℕ) (total : ℕ) (p : ProofReading) (after : List ℕ) (len : ℕ) : Type 0 where
+pub record Wrote (c : Context) (answer₀ answer made : List ℕ) (total : ℕ) (p : ProofReading) (after : List ℕ) (len : ℕ) : Type 0 where
   pub wrote : backIn total answer after ≡ answered answer₀ (made ++ requestOf c p)
   pub long : length (made ++ requestOf c p) ≡ total + len
   pub fits : total + len ≤ length answer₀
@@ -143,10 +143,10 @@ module _ (table store state : List ℕ) (operation : ℕ) (digest : List ℕ) {l
     {cursor : ProofCursor} {weight total i : ℕ}
     (h : Head (S table store state operation digest (length answer₀)) lock count answer₀ answer cursor weight total i) where
   -- the walk's setting, the one of the lent part, and the proof
-  abbrev C : Setting
+  abbrev C : Context
   C = S table store state operation digest (length answer₀)
 
-  abbrev L : Setting
+  abbrev L : Context
   L = S table store state operation digest (length (lentOf total answer))
 
   abbrev P : ProofReading
@@ -154,8 +154,8 @@ module _ (table store state : List ℕ) (operation : ℕ) (digest : List ℕ) {l
 
   -- every proof is passed
   pub passed-all : count ≤ i
-      → walkLock C lock ≡ outcome (decide Passed (lastRows (eqb (cursor .offset) (length lock)) weight (thresholdOf operation state))) i (h .made)
-  unfolding walk proofsFrom walkSetting settingFor
+      → walkLock C lock ≡ walkOutcome (decide Passed (lastRows (eqb (cursor .offset) (length lock)) weight (thresholdOf operation state))) i (h .made)
+  unfolding walk proofsUntilFault walkContext contextFor
   passed-all e = let z : count - i ≡ 0 = omega arith in h .goes ∙ rw z
 
   lent-length : length (lentOf total answer) ≡ length answer₀ - total
@@ -176,8 +176,8 @@ module _ (table store state : List ℕ) (operation : ℕ) (digest : List ℕ) {l
         h .goes ∙ ap (λ (n : ℕ). walkFrom C lock n cursor i weight (h .made)) z
 
     -- it was refused
-    pub stopped : (e : ProtocolError) → TurnIs L lock cursor i (lentOf total answer) after (turn.Refused e)
-        → walkLock C lock ≡ outcome (Failed e) i (h .made)
+    pub stopped : (e : ProtocolError) → ProofOutcomeIs L lock cursor i (lentOf total answer) after (outcome.Refused e)
+        → walkLock C lock ≡ walkOutcome (Failed e) i (h .made)
     unfolding orElse
     stopped e t =
         from-here
@@ -200,25 +200,25 @@ module _ (table store state : List ℕ) (operation : ℕ) (digest : List ℕ) {l
           record { wrote = b; long = l; fits = f; kept = ap length b ∙ answered-length answer₀ (h .made ++ requestOf C P) (omega arith) }
 
       gone : walkLock C lock
-          ≡ cond (eqb (verdict C i) 2) (outcome (Failed VerifierFailure) (i + 1) (h .made ++ requestOf C P))
-          (walkFrom C lock (count - (i + 1)) (witness.cursorBehind lock (cursor .offset)) (i + 1) (weight + earned C i P) (h .made ++ requestOf C P))
+          ≡ cond (eqb (verdict C i) 2) (walkOutcome (Failed VerifierFailure) (i + 1) (h .made ++ requestOf C P))
+          (walkFrom C lock (count - (i + 1)) (witness.proofCursorBehind lock (cursor .offset)) (i + 1) (weight + approvedWeight C i P) (h .made ++ requestOf C P))
       unfolding orElse
       gone =
           let b = turn-both L lock cursor (w .passed) in
           from-here ∙ (walk-read C lock _ cursor i weight (h .made) (b .0) ∙ rw (← lent-rows, b .1))
 
-      pub failed : verdict L i ≡ 2 → walkLock C lock ≡ outcome (Failed VerifierFailure) (i + 1) (h .made ++ requestOf C P)
+      pub failed : verdict L i ≡ 2 → walkLock C lock ≡ walkOutcome (Failed VerifierFailure) (i + 1) (h .made ++ requestOf C P)
       failed v =
           let v₀ : verdict C i ≡ 2 = verdict-alike table store state operation digest (length answer₀) (length (lentOf total answer)) i ∙ v in
           gone ∙ rw v₀
 
       pub onward : (added : ℕ) (next : ProofCursor) → added ≤ 65535
-          → TurnIs L lock cursor i (lentOf total answer) after (turn.Onward len added next)
+          → ProofOutcomeIs L lock cursor i (lentOf total answer) after (outcome.Onward len added next)
           → Head C lock count answer₀ (backIn total answer after) next (weight + added) (total + len) (i + 1)
       onward added next small t =
           let r = written in
           let v : verdict C i ≢ 2 = λ z. t .1 (verdict-alike table store state operation digest (length (lentOf total answer)) (length answer₀) i ∙ z) in
-          let a : added ≡ earned C i P = t .2 ∙ earned-alike table store state operation digest (length (lentOf total answer)) (length answer₀) i P in
+          let a : added ≡ approvedWeight C i P = t .2 ∙ earned-alike table store state operation digest (length (lentOf total answer)) (length answer₀) i P in
           record {
             made = h .made ++ requestOf C P;
             wrote = r .wrote;

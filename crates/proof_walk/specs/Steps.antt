@@ -1,5 +1,5 @@
 -- Private: no public contract cites this file.
--- What each step of the walk gives: the search for an entry, the request of a proof, a turn.
+-- What each step of the walk gives: the search for an entry, the request of a proof, the outcome of one proof.
 use Prim.Native.Nat.{ℕ, _≤_}
 use mathlib.Core.Path.{_≡_}
 use mathlib.Core.Logic.{_≢_}
@@ -18,14 +18,14 @@ use Rattle.account_witness.specs.Walk as witness
 use Rattle.account_witness.specs.declared.walk.ProofCursor.{ProofCursor}
 use Rattle.verifier_request.specs.Reading.{requestBytes}
 use Rattle.scene_table.specs.Scene.{Cell}
-use Rattle.decision.specs.Proofs.{Setting, known, entryFor, entryRows, proofRows, requestReading, requestOf}
-use Rattle.decision.specs.Walk.{verdict, earned, answered}
+use Rattle.decision.specs.Proofs.{Context, known, entryFor, authenticatorRows, proofRows, requestContent, requestOf}
+use Rattle.decision.specs.Walk.{verdict, approvedWeight, answered}
 use Rattle.proof_walk.specs.declared.authenticator.Found.{Found}
 use Rattle.proof_walk.specs.declared.authenticator.Found.the-variants.{At, Missing}
-use Rattle.proof_walk.specs.declared.request.Step.{Step}
-use Rattle.proof_walk.specs.declared.request.Step.the-variants as step
-use Rattle.proof_walk.specs.declared.walk.Turn.{Turn}
-use Rattle.proof_walk.specs.declared.walk.Turn.the-variants as turn
+use Rattle.proof_walk.specs.declared.request.RequestStep.{RequestStep}
+use Rattle.proof_walk.specs.declared.request.RequestStep.the-variants as step
+use Rattle.proof_walk.specs.declared.walk.ProofOutcome.{ProofOutcome}
+use Rattle.proof_walk.specs.declared.walk.ProofOutcome.the-variants as outcome
 
 -- ---- the entry of a slot
 
@@ -53,52 +53,52 @@ abbrev pub proofOf : ℕ → List ℕ → ProofReading
 proofOf slot bytes = record { slot = slot; bytes = bytes }
 
 -- the rows by what was found of the entry
-unfoldable pub rowsOf : Bool → ℕ → List Cell → EntryReading → ℕ → ℕ → List Row
-rowsOf isKnown operation deps e proof left = row isKnown InvalidWitness ∷ entryRows operation deps e proof left
+unfoldable pub foundRows : Bool → ℕ → List Cell → EntryReading → ℕ → ℕ → List Row
+foundRows isKnown operation deps e proof left = row isKnown InvalidWitness ∷ authenticatorRows operation deps e proof left
 
 unfoldable pub requestFor : ℕ → List ℕ → EntryReading → ProofReading → List ℕ
-requestFor operation digest e p = requestBytes (requestReading operation digest e p)
+requestFor operation digest e p = requestBytes (requestContent operation digest e p)
 
 -- the rows pass, and the request stands at the front of what was lent
-pub record Made (c : Setting) (p : ProofReading) (out after : List ℕ) (len : ℕ) : Type 0 where
+pub record Made (c : Context) (p : ProofReading) (out after : List ℕ) (len : ℕ) : Type 0 where
   pub passed : decide check.Passed (proofRows c 0 p) ≡ check.Passed
   pub wrote : after ≡ answered out (requestOf c p)
   pub long : len ≡ length (requestOf c p)
   pub fits : len ≤ length out
 
 -- what a step comes to: a refusal, which writes nothing, or a request and the weight of its slot
-abbrev pub StepIs : Setting → ProofReading → List ℕ → List ℕ → Step → Type 0
-StepIs c p out after (step.Refused e) = (decide check.Passed (proofRows c 0 p) ≡ check.Failed e) × (after ≡ out)
-StepIs c p out after (step.Made len weight) = Made c p out after len × (weight ≡ entryFor (p .slot) (c .entries) .weight)
+abbrev pub RequestStepIs : Context → ProofReading → List ℕ → List ℕ → RequestStep → Type 0
+RequestStepIs c p out after (step.Refused e) = (decide check.Passed (proofRows c 0 p) ≡ check.Failed e) × (after ≡ out)
+RequestStepIs c p out after (step.Made len weight) = Made c p out after len × (weight ≡ entryFor (p .slot) (c .entries) .weight)
 
--- ---- one turn
+-- ---- one proof
 
 -- the proof at a place of the witness lock
 unfoldable pub readAt : List ℕ → ℕ → ProofReading
 readAt lock at = proofReading lock (witness.proofAt lock at)
 
 -- its layout, then its rows
-unfoldable pub turnCheck : Setting → List ℕ → ProofCursor → Check
-turnCheck c lock cursor =
-    decide check.Passed (witness.proofRows lock (cursor .offset) (cursor .least))
+unfoldable pub proofCheck : Context → List ℕ → ProofCursor → Check
+proofCheck c lock cursor =
+    decide check.Passed (witness.proofLayoutRows lock (cursor .offset) (cursor .least))
     then decide check.Passed (proofRows c 0 (readAt lock (cursor .offset)))
 
--- the turn by the verdict on its request: 0 approved, 1 refused, 2 failed
-unfoldable pub judgedAs : ℕ → ℕ → ℕ → ProofCursor → Turn
-judgedAs verdict len weight next =
-    cond (eqb verdict 2) (turn.Failed len) (turn.Onward len (cond (eqb verdict 0) weight 0) next)
+-- the outcome by the verdict on its request: 0 approved, 1 refused, 2 failed
+unfoldable pub verdictOutcome : ℕ → ℕ → ℕ → ProofCursor → ProofOutcome
+verdictOutcome verdict len weight next =
+    cond (eqb verdict 2) (outcome.Failed len) (outcome.Onward len (cond (eqb verdict 0) weight 0) next)
 
 -- its request was made
-pub record Went (c : Setting) (lock : List ℕ) (cursor : ProofCursor) (out after : List ℕ) (len : ℕ) : Type 0 where
-  pub passed : turnCheck c lock cursor ≡ check.Passed
+pub record Went (c : Context) (lock : List ℕ) (cursor : ProofCursor) (out after : List ℕ) (len : ℕ) : Type 0 where
+  pub passed : proofCheck c lock cursor ≡ check.Passed
   pub made : Made c (readAt lock (cursor .offset)) out after len
 
--- what a turn comes to
-abbrev pub TurnIs : Setting → List ℕ → ProofCursor → ℕ → List ℕ → List ℕ → Turn → Type 0
-TurnIs c lock cursor i out after (turn.Refused e) = (turnCheck c lock cursor ≡ check.Failed e) × (after ≡ out)
-TurnIs c lock cursor i out after (turn.Failed len) = Went c lock cursor out after len × (verdict c i ≡ 2)
-TurnIs c lock cursor i out after (turn.Onward len weight next) =
+-- what a proof comes to
+abbrev pub ProofOutcomeIs : Context → List ℕ → ProofCursor → ℕ → List ℕ → List ℕ → ProofOutcome → Type 0
+ProofOutcomeIs c lock cursor i out after (outcome.Refused e) = (proofCheck c lock cursor ≡ check.Failed e) × (after ≡ out)
+ProofOutcomeIs c lock cursor i out after (outcome.Failed len) = Went c lock cursor out after len × (verdict c i ≡ 2)
+ProofOutcomeIs c lock cursor i out after (outcome.Onward len weight next) =
     Went c lock cursor out after len
     × (verdict c i ≢ 2)
-    × (weight ≡ earned c i (readAt lock (cursor .offset)))
-    × (next ≡ witness.cursorBehind lock (cursor .offset))
+    × (weight ≡ approvedWeight c i (readAt lock (cursor .offset)))
+    × (next ≡ witness.proofCursorBehind lock (cursor .offset))

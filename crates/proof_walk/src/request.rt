@@ -28,12 +28,12 @@ ghost use Rattle.protocol.specs.Rows.{decide};
 ghost use Rattle.protocol.specs.declared.check.Check.the-variants.{Passed};
 ghost use Rattle.account_state.specs.Reading.{entryOf};
 ghost use Rattle.verifier_request.specs.Writer.{requestWritten, requestStored};
-ghost use Rattle.decision.specs.Proofs.{verifierField, verifiers, requestReading};
-ghost use Rattle.proof_walk.specs.Answer.{walkSetting, sceneDeps};
-ghost use Rattle.proof_walk.specs.Steps.{rowsOf, proofOf, StepIs};
+ghost use Rattle.decision.specs.Proofs.{verifierField, verifiers, requestContent};
+ghost use Rattle.proof_walk.specs.Answer.{walkContext, sceneDeps};
+ghost use Rattle.proof_walk.specs.Steps.{foundRows, proofOf, RequestStepIs};
 
 // A refusal, or the length of the request that was made and the weight of its slot.
-pub(crate) enum Step {
+pub(crate) enum RequestStep {
     Refused(ProtocolError),
     Made(usize, u16),
 }
@@ -71,7 +71,7 @@ fn check_request(
     proof: usize,
     left: usize,
 ) -> Check
-    ensures { λ r. ⌜ r ≡ decide Passed (rowsOf known operation (sceneDeps (now (table .entry)) (now (store .entry))) (entryOf (now (entry .entry))) proof left) ⌝ }
+    ensures { λ r. ⌜ r ≡ decide Passed (foundRows known operation (sceneDeps (now (table .entry)) (now (store .entry))) (entryOf (now (entry .entry))) proof left) ⌝ }
 {
     let aux = aux(entry).len();
     let invalid = ProtocolError::InvalidRequest;
@@ -104,8 +104,8 @@ fn encode_request(
     proof: &[u8],
     out: &mut [u8],
 ) -> WriteAnswer
-    ensures { λ r. ⌜ r ≡ requestWritten (requestReading operation digest (entryOf (now (entry .entry))) (proofOf slot (now (proof .entry)))) (now (out .entry)) ⌝ }
-    ensures { λ _. ⌜ now (out .exit) ≡ requestStored (requestReading operation digest (entryOf (now (entry .entry))) (proofOf slot (now (proof .entry)))) (now (out .entry)) ⌝ }
+    ensures { λ r. ⌜ r ≡ requestWritten (requestContent operation digest (entryOf (now (entry .entry))) (proofOf slot (now (proof .entry)))) (now (out .entry)) ⌝ }
+    ensures { λ _. ⌜ now (out .exit) ≡ requestStored (requestContent operation digest (entryOf (now (entry .entry))) (proofOf slot (now (proof .entry)))) (now (out .entry)) ⌝ }
 {
     let aux = aux(entry);
     encode_verifier_request(
@@ -131,8 +131,8 @@ pub(crate) fn make_request(
     slot: u16,
     proof: &[u8],
     out: &mut [u8],
-) -> Step
-    ensures { λ r. ⌜ StepIs (walkSetting (now (table .entry)) (now (store .entry)) (now (state .entry)) operation digest (length (now (out .entry)))) (proofOf slot (now (proof .entry))) (now (out .entry)) (now (out .exit)) r ⌝ }
+) -> RequestStep
+    ensures { λ r. ⌜ RequestStepIs (walkContext (now (table .entry)) (now (store .entry)) (now (state .entry)) operation digest (length (now (out .entry)))) (proofOf slot (now (proof .entry))) (now (out .entry)) (now (out .exit)) r ⌝ }
 {
     let found = find_authenticator(state, slot);
     let entry = entry_bytes(state, found);
@@ -146,10 +146,10 @@ pub(crate) fn make_request(
         proof.len(),
         out.len(),
     ) {
-        Check::Failed(error) => Step::Refused(error),
+        Check::Failed(error) => RequestStep::Refused(error),
         Check::Passed => match encode_request(entry, slot, operation, digest, proof, out) {
-            WriteAnswer::Refused(error) => Step::Refused(error),
-            WriteAnswer::Written(len) => Step::Made(len, u16_at(entry, 8)),
+            WriteAnswer::Refused(error) => RequestStep::Refused(error),
+            WriteAnswer::Written(len) => RequestStep::Made(len, u16_at(entry, 8)),
         },
     }
 }

@@ -1,6 +1,6 @@
-// The walk over the proofs, a turn for each.
+// The walk over the proofs, one by one.
 use crate::authenticator::threshold;
-use crate::request::Step;
+use crate::request::RequestStep;
 use crate::request::make_request;
 use account_witness::ProofCursor;
 use account_witness::ProofStep;
@@ -18,8 +18,8 @@ ghost use lib.ListN.{length};
 ghost use Rattle.protocol.specs.Rows.{decide};
 ghost use Rattle.decision.specs.Proofs.{thresholdOf};
 ghost use Rattle.decision.specs.Walk.{walkLock, answered, lastRows};
-ghost use Rattle.proof_walk.specs.Answer.{walkSetting, walkProofs, walkedOf};
-ghost use Rattle.proof_walk.specs.Steps.{judgedAs, TurnIs};
+ghost use Rattle.proof_walk.specs.Answer.{walkContext, walkProofs, walkedOf};
+ghost use Rattle.proof_walk.specs.Steps.{verdictOutcome, ProofOutcomeIs};
 
 // What the walk answers: what the checks found, how many requests were made, and how many bytes they take.
 pub struct Walked {
@@ -28,22 +28,22 @@ pub struct Walked {
     pub length: usize,
 }
 
-// What a turn comes to: a refusal; a request that the verifier failed on; or a request, the weight that it adds, and the
+// What a proof comes to: a refusal; a request that the verifier failed on; or a request, the weight that it adds, and the
 // cursor behind its proof.
-enum Turn {
+enum ProofOutcome {
     Refused(ProtocolError),
     Failed(usize),
     Onward(usize, u16, ProofCursor),
 }
 
-// The turn by the verdict on its request: 0 approved, 1 refused, 2 failed.
-fn judged(verdict: u32, len: usize, weight: u16, next: ProofCursor) -> Turn
-    ensures { λ r. ⌜ r ≡ judgedAs verdict len weight next ⌝ }
+// The outcome by the verdict on its request: 0 approved, 1 refused, 2 failed.
+fn apply_verdict(verdict: u32, len: usize, weight: u16, next: ProofCursor) -> ProofOutcome
+    ensures { λ r. ⌜ r ≡ verdictOutcome verdict len weight next ⌝ }
 {
     match verdict {
-        0 => Turn::Onward(len, weight, next),
-        2 => Turn::Failed(len),
-        _ => Turn::Onward(len, 0, next),
+        0 => ProofOutcome::Onward(len, weight, next),
+        2 => ProofOutcome::Failed(len),
+        _ => ProofOutcome::Onward(len, 0, next),
     }
 }
 
@@ -58,17 +58,22 @@ fn walk_proof(
     operation: u8,
     digest: [u8; 32],
     out: &mut [u8],
-) -> Turn
-    ensures { λ r. ⌜ TurnIs (walkSetting (now (table .entry)) (now (store .entry)) (now (state .entry)) operation digest (length (now (out .entry)))) (now (lock .entry)) cursor place (now (out .entry)) (now (out .exit)) r ⌝ }
+) -> ProofOutcome
+    ensures { λ r. ⌜ ProofOutcomeIs (walkContext (now (table .entry)) (now (store .entry)) (now (state .entry)) operation digest (length (now (out .entry)))) (now (lock .entry)) cursor place (now (out .entry)) (now (out .exit)) r ⌝ }
 {
     match next_proof(lock, cursor) {
-        ProofStep::Refused(error) => Turn::Refused(error),
+        ProofStep::Refused(error) => ProofOutcome::Refused(error),
         ProofStep::Next(proof, next) => {
             let slot = proof.slot;
             let bytes = part(lock, proof.start, proof.len);
             match make_request(table, store, state, operation, digest, slot, bytes, out) {
-                Step::Refused(error) => Turn::Refused(error),
-                Step::Made(len, weight) => judged(verdict(table, place as u32), len, weight, next),
+                RequestStep::Refused(error) => ProofOutcome::Refused(error),
+                RequestStep::Made(len, weight) => apply_verdict(
+                    verdict(table, place as u32),
+                    len,
+                    weight,
+                    next,
+                ),
             }
         }
     }
@@ -86,7 +91,7 @@ fn check_end(state: &[u8], lock: &[u8], operation: u8, offset: usize, weight: u3
 }
 
 // The answer where `count` requests of `length` bytes were made.
-fn told(found: Check, count: u8, length: usize) -> Walked
+fn answer_of(found: Check, count: u8, length: usize) -> Walked
     ensures { λ r. ⌜ r ≡ record { found = found; count = count; length = length } ⌝ }
 {
     Walked {
@@ -106,8 +111,8 @@ fn walk_lock(
     digest: [u8; 32],
     answer: &mut [u8],
 ) -> Walked
-    ensures { λ r. ⌜ r ≡ walkedOf (walkLock (walkSetting (now (table .entry)) (now (store .entry)) (now (state .entry)) operation digest (length (now (answer .entry)))) (now (lock .entry))) ⌝ }
-    ensures { λ _. ⌜ now (answer .exit) ≡ answered (now (answer .entry)) (walkLock (walkSetting (now (table .entry)) (now (store .entry)) (now (state .entry)) operation digest (length (now (answer .entry)))) (now (lock .entry)) .made) ⌝ }
+    ensures { λ r. ⌜ r ≡ walkedOf (walkLock (walkContext (now (table .entry)) (now (store .entry)) (now (state .entry)) operation digest (length (now (answer .entry)))) (now (lock .entry))) ⌝ }
+    ensures { λ _. ⌜ now (answer .exit) ≡ answered (now (answer .entry)) (walkLock (walkContext (now (table .entry)) (now (store .entry)) (now (state .entry)) operation digest (length (now (answer .entry)))) (now (lock .entry)) .made) ⌝ }
 {
     let count = u8_at(lock, 6);
     let mut cursor = first_proof();
@@ -117,12 +122,12 @@ fn walk_lock(
     while i < count {
         let out = &mut answer[total..];
         match walk_proof(table, store, state, lock, cursor, i, operation, digest, out) {
-            Turn::Refused(error) => return told(Check::Failed(error), i, total),
-            Turn::Failed(len) => {
+            ProofOutcome::Refused(error) => return answer_of(Check::Failed(error), i, total),
+            ProofOutcome::Failed(len) => {
                 let failure = Check::Failed(ProtocolError::VerifierFailure);
-                return told(failure, i + 1, total + len);
+                return answer_of(failure, i + 1, total + len);
             }
-            Turn::Onward(len, added, next) => {
+            ProofOutcome::Onward(len, added, next) => {
                 cursor = next;
                 weight += added as u32;
                 total += len;
@@ -131,7 +136,7 @@ fn walk_lock(
         i += 1;
     }
     let found = check_end(state, lock, operation, cursor.offset, weight);
-    told(found, i, total)
+    answer_of(found, i, total)
 }
 
 // Walks the proofs of a witness lock, and writes each request into the rest of the answer buffer, behind the last one. An
@@ -145,12 +150,12 @@ pub fn walk_proofs(
     digest: [u8; 32],
     answer: &mut [u8],
 ) -> Walked
-    ensures { λ r. ⌜ r ≡ walkedOf (walkProofs (walkSetting (now (table .entry)) (now (store .entry)) (now (state .entry)) operation digest (length (now (answer .entry)))) (now (lock .entry))) ⌝ }
-    ensures { λ _. ⌜ now (answer .exit) ≡ answered (now (answer .entry)) (walkProofs (walkSetting (now (table .entry)) (now (store .entry)) (now (state .entry)) operation digest (length (now (answer .entry)))) (now (lock .entry)) .made) ⌝ }
+    ensures { λ r. ⌜ r ≡ walkedOf (walkProofs (walkContext (now (table .entry)) (now (store .entry)) (now (state .entry)) operation digest (length (now (answer .entry)))) (now (lock .entry))) ⌝ }
+    ensures { λ _. ⌜ now (answer .exit) ≡ answered (now (answer .entry)) (walkProofs (walkContext (now (table .entry)) (now (store .entry)) (now (state .entry)) operation digest (length (now (answer .entry)))) (now (lock .entry)) .made) ⌝ }
 {
     if is_operation(operation) {
         walk_lock(table, store, state, lock, operation, digest, answer)
     } else {
-        told(Check::Failed(ProtocolError::InvalidOperation), 0, 0)
+        answer_of(Check::Failed(ProtocolError::InvalidOperation), 0, 0)
     }
 }

@@ -12,7 +12,7 @@ use lib.ListN.{length, take, drop, getD}
 use lib.Seq.{take-all}
 use Rattle.octets.specs.Le.{numberAt}
 use Rattle.octets.proofs.LeLaws.{number-one}
-use Rattle.protocol.specs.Rows.{decide, Hold, First}
+use Rattle.protocol.specs.Rows.{decide, AllPass, FirstFailed}
 use Rattle.protocol.specs.Args.{argsRows, argsFault, argsAnswer, readArgs, argsBytes, accountOf}
 use Rattle.protocol.specs.Reading.{OneReading}
 use Rattle.protocol.specs.declared.error.ProtocolError.{ProtocolError}
@@ -39,17 +39,17 @@ unfolding readArgs argsFault
 args-found s = args-back (decide Passed (argsRows s))
 
 -- accepted exactly where every check passes
-pub reader-accepts : (s : List ℕ) → (readArgs s ≡ Args (record { version = 1; «account_id» = 1 })) ↔ Hold (argsRows s)
+pub args-accepts : (s : List ℕ) → (readArgs s ≡ Args (record { version = 1; «account_id» = 1 })) ↔ AllPass (argsRows s)
 unfolding readArgs argsFault argsAnswer
-reader-accepts s = answer-accepts argsAnswer argsFound args-back (argsRows s)
+args-accepts s = answer-accepts argsAnswer argsFound args-back (argsRows s)
 
 -- refused exactly with the first check that fails
-pub reader-refuses : (s : List ℕ) (e : ProtocolError) → (readArgs s ≡ Refused e) ↔ First (argsRows s) e
+pub args-refuses : (s : List ℕ) (e : ProtocolError) → (readArgs s ≡ Refused e) ↔ FirstFailed (argsRows s) e
 unfolding readArgs argsFault argsAnswer
-reader-refuses s e = answer-refuses argsAnswer argsFound args-back (argsRows s) e
+args-refuses s e = answer-refuses argsAnswer argsFound args-back (argsRows s) e
 
 -- the one account
-pub args-one : (s : List ℕ) → Hold (argsRows s) → OneReading (λ (a : List ℕ). length a ≡ 32) argsBytes s (accountOf s)
+pub args-one : (s : List ℕ) → AllPass (argsRows s) → OneReading (λ (a : List ℕ). length a ≡ 32) argsBytes s (accountOf s)
 unfolding argsRows argsBytes accountOf
 args-one [] h = absurd (let e : 0 ≡ 33 = eqb-true 0 33 (h .0) in omega arith)
 args-one (b ∷ s) h =

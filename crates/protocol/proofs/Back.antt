@@ -8,31 +8,31 @@ use native.Mathlib.Omega.{arith}
 use borrow.Author.Tests.{le-leb, lt-leb, leb-true}
 use lib.Dec.{leb}
 use lib.ListN.{length, drop}
-use Rattle.protocol.specs.Rows.{Row, row, _▷_, decide, Hold}
+use Rattle.protocol.specs.Rows.{Row, row, _▷_, decide, AllPass}
 use Rattle.protocol.specs.Write.{writeFault, writeAnswer, afterWrite}
 use Rattle.protocol.specs.Reading.{WritesBack}
 use Rattle.protocol.specs.declared.error.ProtocolError.the-variants.{BufferTooShort}
 use Rattle.protocol.specs.declared.check.Check.{Check}
 use Rattle.protocol.specs.declared.check.Check.the-variants.{Passed, Failed}
-use Rattle.protocol.proofs.Hold.{decide-append, hold-passed, passed-hold, hold-split}
+use Rattle.protocol.proofs.AllPass.{decide-append, all-pass-passed, passed-all-pass, all-pass-split}
 
 -- every row passes: the room decides
-pub write-room : (rows : List Row) (total room : ℕ) → Hold rows → total ≤ room → writeFault rows total room ≡ Passed
+pub write-room : (rows : List Row) (total room : ℕ) → AllPass rows → total ≤ room → writeFault rows total room ≡ Passed
 unfolding writeFault decide _▷_
-write-room rows total room h l = decide-append Passed rows _ ∙ rw (hold-passed rows h, le-leb total room l)
+write-room rows total room h l = decide-append Passed rows _ ∙ rw (all-pass-passed rows h, le-leb total room l)
 
-pub write-short : (rows : List Row) (total room : ℕ) → Hold rows → room < total → writeFault rows total room ≡ Failed BufferTooShort
+pub write-short : (rows : List Row) (total room : ℕ) → AllPass rows → room < total → writeFault rows total room ≡ Failed BufferTooShort
 unfolding writeFault decide _▷_
-write-short rows total room h l = decide-append Passed rows _ ∙ rw (hold-passed rows h, lt-leb total room l)
+write-short rows total room h l = decide-append Passed rows _ ∙ rw (all-pass-passed rows h, lt-leb total room l)
 
 -- where a writer passes, every row does and there is room
-pub write-passed : (rows : List Row) (total room : ℕ) → writeFault rows total room ≡ Passed → Hold rows × (total ≤ room)
+pub write-passed : (rows : List Row) (total room : ℕ) → writeFault rows total room ≡ Passed → AllPass rows × (total ≤ room)
 unfolding writeFault
 write-passed rows total room h =
-    let z = hold-split rows (row (leb total room) BufferTooShort ∷ []) (passed-hold _ h) in
+    let z = all-pass-split rows (row (leb total room) BufferTooShort ∷ []) (passed-all-pass _ h) in
     (z .0, leb-true total room (z .1 .0))
 
-pub writes-back : (rows : List Row) (bytes : List ℕ) (total : ℕ) (s : List ℕ) → Hold rows → bytes ≡ s → total ≡ length s
+pub writes-back : (rows : List Row) (bytes : List ℕ) (total : ℕ) (s : List ℕ) → AllPass rows → bytes ≡ s → total ≡ length s
     → WritesBack (λ (out : List ℕ). writeAnswer (writeFault rows total (length out)) total) (λ (out : List ℕ). afterWrite (writeFault rows total (length out)) bytes out) s
 unfolding writeAnswer afterWrite
 writes-back rows bytes total s h b t =

@@ -7,7 +7,7 @@ use Rattle.protocol.specs.Rows.{Row, _▷_, decide}
 use Rattle.protocol.specs.declared.error.ProtocolError.{ProtocolError}
 use Rattle.protocol.specs.declared.check.Check.{Check}
 use Rattle.protocol.specs.declared.check.Check.the-variants.{Passed, Failed}
-use Rattle.protocol.proofs.Hold.{decide-failed}
+use Rattle.protocol.proofs.AllPass.{decide-failed}
 
 -- the refusal of every row has the property P
 abbrev pub Each : (ProtocolError → Type 0) → List Row → Type 0

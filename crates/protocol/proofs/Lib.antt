@@ -1,4 +1,4 @@
-pub mod Hold
+pub mod AllPass
 pub mod ErrorNumbers
 pub mod Back
 pub mod Answers

@@ -8,7 +8,7 @@ use lib.Dec.{leb}
 use lib.ListN.{length}
 use lib.Seq.{sets}
 use Rattle.octets.proofs.Stores.{sets-front}
-use Rattle.protocol.specs.Rows.{Row, row, First}
+use Rattle.protocol.specs.Rows.{Row, row, FirstFailed}
 use Rattle.protocol.specs.Write.{writeFault, writeAnswer, afterWrite}
 use Rattle.protocol.specs.declared.error.ProtocolError.{ProtocolError}
 use Rattle.protocol.specs.declared.error.ProtocolError.the-variants.{BufferTooShort}
@@ -32,7 +32,7 @@ write-found total (Failed e) = refl
 
 -- refused exactly with the first check that fails, the one for the room last
 pub write-refuses : (rows : List Row) (total room : ℕ) (e : ProtocolError)
-    → (writeAnswer (writeFault rows total room) total ≡ Refused e) ↔ First (rows ++ (row (leb total room) BufferTooShort ∷ [])) e
+    → (writeAnswer (writeFault rows total room) total ≡ Refused e) ↔ FirstFailed (rows ++ (row (leb total room) BufferTooShort ∷ [])) e
 unfolding writeFault writeAnswer
 write-refuses rows total room e = answer-refuses (λ k. writeAnswer k total) writeFound (write-found total) (rows ++ (row (leb total room) BufferTooShort ∷ [])) e
 

@@ -35,14 +35,14 @@ decide c [] = c
 decide c (r ∷ rs) = decide (c ▷ r) rs
 
 -- every row passes
-abbrev pub Hold : List Row → Type 0
-Hold [] = Unit {0}
-Hold (r ∷ rs) = (r .test ≡ true) × Hold rs
+abbrev pub AllPass : List Row → Type 0
+AllPass [] = Unit {0}
+AllPass (r ∷ rs) = (r .test ≡ true) × AllPass rs
 
 -- e is the refusal of the first row that fails
-abbrev pub First : List Row → ProtocolError → Type 0
-First [] e = ⊥
-First (r ∷ rs) e = ((r .test ≡ false) × (r .error ≡ e)) ⊎ ((r .test ≡ true) × First rs e)
+abbrev pub FirstFailed : List Row → ProtocolError → Type 0
+FirstFailed [] e = ⊥
+FirstFailed (r ∷ rs) e = ((r .test ≡ false) × (r .error ≡ e)) ⊎ ((r .test ≡ true) × FirstFailed rs e)
 
 -- document 01's number of what the checks found, 0 where all passed
 abbrev pub checkNumber : Check → ℕ

@@ -6,36 +6,36 @@ use Prim.Native.Nat.{ℕ, _+_}
 use native.Mathlib.Omega.{arith}
 use lib.ListN.{length, length-append}
 use lib.Seq.{sets}
-use Rattle.octets.specs.Table.{numbers}
+use Rattle.octets.specs.Layout.{layoutBytes}
 use Rattle.octets.proofs.Stores.{sets-append}
-use Rattle.octets.proofs.TableLaws.{length-numbers, storeNumbers, numbers-stored}
-use Rattle.public_key_proof.specs.Reading.{ProofReading, proofHead, proofBytes}
-use Rattle.public_key_proof.specs.Writer.{proofTotal}
+use Rattle.octets.proofs.LayoutLaws.{length-numbers, storeNumbers, numbers-stored}
+use Rattle.public_key_proof.specs.Reading.{PublicKeyProofReading, publicKeyProofHead, publicKeyProofBytes}
+use Rattle.public_key_proof.specs.Writer.{publicKeyProofTotal}
 
-module _ (r : ProofReading) where
+module _ (r : PublicKeyProofReading) where
   abbrev pub Head : List ℕ
-  Head = numbers (proofHead r)
+  Head = layoutBytes (publicKeyProofHead r)
 
   pub length-head : length Head ≡ 5
-  unfolding proofHead
-  length-head = length-numbers (proofHead r)
+  unfolding publicKeyProofHead
+  length-head = length-numbers (publicKeyProofHead r)
 
   pub before-signature : length (Head ++ r .publicKey) ≡ 5 + length (r .publicKey)
   before-signature = simp (length-append, length-head)
 
-  pub length-proof : length (proofBytes r) ≡ proofTotal r
-  unfolding proofBytes proofTotal
+  pub length-proof : length (publicKeyProofBytes r) ≡ publicKeyProofTotal r
+  unfolding publicKeyProofBytes publicKeyProofTotal
   length-proof = simp (length-append, length-head)
 
   -- the parts stored one behind another
   pub parts-stored : (l : List ℕ)
-      → sets (sets (storeNumbers l 0 (proofHead r)) 5 (r .publicKey)) (5 + length (r .publicKey)) (r .signature) ≡ sets l 0 (proofBytes r)
-  unfolding proofBytes
+      → sets (sets (storeNumbers l 0 (publicKeyProofHead r)) 5 (r .publicKey)) (5 + length (r .publicKey)) (r .signature) ≡ sets l 0 (publicKeyProofBytes r)
+  unfolding publicKeyProofBytes
   parts-stored l =
       let h : length Head ≡ 5 = length-head in
       let e : length (Head ++ r .publicKey) ≡ 5 + length (r .publicKey) = before-signature in
       rw (
-        numbers-stored l 0 (proofHead r),
+        numbers-stored l 0 (publicKeyProofHead r),
         sets-append l 0 Head (r .publicKey) 5 (omega arith),
         sets-append l 0 (Head ++ r .publicKey) (r .signature) (5 + length (r .publicKey)) (omega arith),
       )

@@ -9,14 +9,14 @@ use borrow.Author.Tests.{leb-true, eqb-true, ltb-true, le-leb, eq-eqb, lt-ltb}
 use lib.ListN.{length, take, drop, length-append}
 use lib.Seq.{take-add, take-all}
 use Rattle.octets.specs.Le.{Bytes, toLe, fromLe, numberAt}
-use Rattle.octets.specs.Table.{numbers, numbersAt, valueOf}
+use Rattle.octets.specs.Layout.{layoutBytes, layoutAt, fieldValue}
 use Rattle.octets.proofs.LeLaws.{length-to, from-to, number-lt}
-use Rattle.octets.proofs.TableLaws.{table-back, numbers-back}
+use Rattle.octets.proofs.LayoutLaws.{table-back, numbers-back}
 use Rattle.octets.proofs.Parts.{part-back, part-length}
-use Rattle.protocol.specs.Rows.{Hold}
-use Rattle.public_key_proof.specs.Reader.{proofRows, placesAt}
-use Rattle.public_key_proof.specs.Reading.{ProofReading, readingOf, proofReading, proofHead, proofBytes}
-use Rattle.public_key_proof.specs.Writer.{writerRows, proofTotal}
+use Rattle.protocol.specs.Rows.{AllPass}
+use Rattle.public_key_proof.specs.Reader.{publicKeyProofRows, publicKeyProofPlaces}
+use Rattle.public_key_proof.specs.Reading.{PublicKeyProofReading, publicKeyProofGiven, publicKeyProofReading, publicKeyProofHead, publicKeyProofBytes}
+use Rattle.public_key_proof.specs.Writer.{publicKeyProofWriterRows, publicKeyProofTotal}
 use Rattle.public_key_proof.proofs.Form.{Head, length-head, before-signature, length-proof}
 
 -- what the rows say of a proof that passes them
@@ -27,8 +27,8 @@ pub record Passes (s : List ℕ) : Type 0 where
   pub signature : 0 < numberAt s 3 2
   pub sum : 5 + numberAt s 1 2 + numberAt s 3 2 ≡ length s
 
-pub passes : (s : List ℕ) → Hold (proofRows s) → Passes s
-unfolding proofRows
+pub passes : (s : List ℕ) → AllPass (publicKeyProofRows s) → Passes s
+unfolding publicKeyProofRows
 passes s h =
     record {
       header = leb-true _ _ (h .0);
@@ -38,8 +38,8 @@ passes s h =
       sum = eqb-true _ _ (h .1 .1 .1 .1 .0);
     }
 
-pub passes-hold : (s : List ℕ) → Passes s → Hold (proofRows s)
-unfolding proofRows
+pub passes-hold : (s : List ℕ) → Passes s → AllPass (publicKeyProofRows s)
+unfolding publicKeyProofRows
 passes-hold s z =
     (le-leb _ _ (z .header), (eq-eqb _ _ (z .version), (lt-ltb _ _ (z .key), (lt-ltb _ _ (z .signature), (eq-eqb _ _ (z .sum), tt)))))
 
@@ -51,21 +51,21 @@ module _ (s : List ℕ) (b : Bytes s) (z : Passes s) where
   length-signature : length (take (numberAt s 3 2) (drop (5 + numberAt s 1 2) s)) ≡ numberAt s 3 2
   length-signature = part-length s (5 + numberAt s 1 2) (numberAt s 3 2) (omega arith)
 
-  head-back : numbers (proofHead (proofReading s)) ≡ take 5 s
-  unfolding proofHead proofReading readingOf placesAt numbersAt
+  head-back : layoutBytes (publicKeyProofHead (publicKeyProofReading s)) ≡ take 5 s
+  unfolding publicKeyProofHead publicKeyProofReading publicKeyProofGiven publicKeyProofPlaces layoutAt
   head-back = rw (length-key, length-signature) (rw (z .version) at (table-back (1 ∷ 2 ∷ 2 ∷ []) s 0 b (omega arith)))
 
   -- the proof is the written form of its reading,
-  pub reading-written : proofBytes (proofReading s) ≡ s
-  unfolding proofBytes proofReading readingOf placesAt
+  pub reading-written : publicKeyProofBytes (publicKeyProofReading s) ≡ s
+  unfolding publicKeyProofBytes publicKeyProofReading publicKeyProofGiven publicKeyProofPlaces
   reading-written =
       let k = numberAt s 1 2 in
       let g = numberAt s 3 2 in
       rw (head-back, ← take-add 5 k s, ← take-add (5 + k) g s) (take-all (5 + k + g) s (omega arith))
 
   -- which is within the writer's limits,
-  pub reading-limits : Hold (writerRows (proofReading s))
-  unfolding writerRows proofReading readingOf placesAt
+  pub reading-limits : AllPass (publicKeyProofWriterRows (publicKeyProofReading s))
+  unfolding publicKeyProofWriterRows publicKeyProofReading publicKeyProofGiven publicKeyProofPlaces
   reading-limits =
       let k : numberAt s 1 2 < 65536 = number-lt s 1 2 b in
       let g : numberAt s 3 2 < 65536 = number-lt s 3 2 b in
@@ -73,43 +73,43 @@ module _ (s : List ℕ) (b : Bytes s) (z : Passes s) where
       (lt-ltb _ _ (z .key), (lt-ltb _ _ (z .signature), (le-leb (numberAt s 1 2) 65535 (omega arith), (le-leb (numberAt s 3 2) 65535 (omega arith), tt))))
 
   -- and whose written form is as long as the proof
-  pub reading-total : proofTotal (proofReading s) ≡ length s
-  unfolding proofTotal proofReading readingOf placesAt
+  pub reading-total : publicKeyProofTotal (publicKeyProofReading s) ≡ length s
+  unfolding publicKeyProofTotal publicKeyProofReading publicKeyProofGiven publicKeyProofPlaces
   reading-total = rw (length-key, length-signature) (z .sum)
 
 -- From a reading to the bytes and back, where the parts' lengths fit their fields.
-module _ (r : ProofReading) (k : length (r .publicKey) < 65536) (g : length (r .signature) < 65536) where
-  head-read : numbersAt (1 ∷ 2 ∷ 2 ∷ []) (proofBytes r) 0 ≡ proofHead r
-  unfolding proofBytes proofHead
-  head-read = numbers-back (proofHead r) (proofBytes r) [] (r .publicKey ++ r .signature) 0 (omega arith) (simp append-assoc) refl
+module _ (r : PublicKeyProofReading) (k : length (r .publicKey) < 65536) (g : length (r .signature) < 65536) where
+  head-read : layoutAt (1 ∷ 2 ∷ 2 ∷ []) (publicKeyProofBytes r) 0 ≡ publicKeyProofHead r
+  unfolding publicKeyProofBytes publicKeyProofHead
+  head-read = numbers-back (publicKeyProofHead r) (publicKeyProofBytes r) [] (r .publicKey ++ r .signature) 0 (omega arith) (simp append-assoc) refl
 
-  key-read : take (length (r .publicKey)) (drop 5 (proofBytes r)) ≡ r .publicKey
-  unfolding proofBytes
-  key-read = part-back (proofBytes r) (Head r) (r .publicKey) (r .signature) 5 _ (simp append-assoc) (length-head r) refl
+  key-read : take (length (r .publicKey)) (drop 5 (publicKeyProofBytes r)) ≡ r .publicKey
+  unfolding publicKeyProofBytes
+  key-read = part-back (publicKeyProofBytes r) (Head r) (r .publicKey) (r .signature) 5 _ (simp append-assoc) (length-head r) refl
 
-  signature-read : take (length (r .signature)) (drop (5 + length (r .publicKey)) (proofBytes r)) ≡ r .signature
-  unfolding proofBytes
+  signature-read : take (length (r .signature)) (drop (5 + length (r .publicKey)) (publicKeyProofBytes r)) ≡ r .signature
+  unfolding publicKeyProofBytes
   signature-read =
-      part-back (proofBytes r) (Head r ++ r .publicKey) (r .signature) [] (5 + length (r .publicKey)) _ (simp (append-assoc, append-nil)) (before-signature r) refl
+      part-back (publicKeyProofBytes r) (Head r ++ r .publicKey) (r .signature) [] (5 + length (r .publicKey)) _ (simp (append-assoc, append-nil)) (before-signature r) refl
 
   -- the written form is read as the reading,
-  pub written-reading : proofReading (proofBytes r) ≡ r
-  unfolding proofReading readingOf placesAt proofHead numbersAt
+  pub written-reading : publicKeyProofReading (publicKeyProofBytes r) ≡ r
+  unfolding publicKeyProofReading publicKeyProofGiven publicKeyProofPlaces publicKeyProofHead layoutAt
   written-reading =
-      let e₁ : numberAt (proofBytes r) 1 2 ≡ length (r .publicKey) = ap (valueOf 1) head-read in
-      let e₂ : numberAt (proofBytes r) 3 2 ≡ length (r .signature) = ap (valueOf 2) head-read in
+      let e₁ : numberAt (publicKeyProofBytes r) 1 2 ≡ length (r .publicKey) = ap (fieldValue 1) head-read in
+      let e₂ : numberAt (publicKeyProofBytes r) 3 2 ≡ length (r .signature) = ap (fieldValue 2) head-read in
       rw (e₁, e₂, key-read, signature-read)
 
   -- and within the writer's limits it passes
-  pub written-passes : Hold (writerRows r) → Passes (proofBytes r)
-  unfolding writerRows proofTotal proofHead numbersAt
+  pub written-passes : AllPass (publicKeyProofWriterRows r) → Passes (publicKeyProofBytes r)
+  unfolding publicKeyProofWriterRows publicKeyProofTotal publicKeyProofHead layoutAt
   written-passes h =
-      let n : length (proofBytes r) ≡ 5 + length (r .publicKey) + length (r .signature) = length-proof r in
+      let n : length (publicKeyProofBytes r) ≡ 5 + length (r .publicKey) + length (r .signature) = length-proof r in
       let a : 0 < length (r .publicKey) = ltb-true _ _ (h .0) in
       let c : 0 < length (r .signature) = ltb-true _ _ (h .1 .0) in
-      let e₁ : numberAt (proofBytes r) 1 2 ≡ length (r .publicKey) = ap (valueOf 1) head-read in
-      let e₂ : numberAt (proofBytes r) 3 2 ≡ length (r .signature) = ap (valueOf 2) head-read in
-      record { header = omega arith; version = ap (valueOf 0) head-read; key = omega arith; signature = omega arith; sum = omega arith }
+      let e₁ : numberAt (publicKeyProofBytes r) 1 2 ≡ length (r .publicKey) = ap (fieldValue 1) head-read in
+      let e₂ : numberAt (publicKeyProofBytes r) 3 2 ≡ length (r .signature) = ap (fieldValue 2) head-read in
+      record { header = omega arith; version = ap (fieldValue 0) head-read; key = omega arith; signature = omega arith; sum = omega arith }
 
 -- a number of the written form, cut to its field
 number-cut : (s p t : List ℕ) (at w n : ℕ) → s ≡ p ++ (toLe w n ++ t) → length p ≡ at → numberAt s at w ≡ n % 256 ^ w
@@ -117,8 +117,8 @@ unfolding numberAt
 number-cut s p t at w n e l = ap fromLe (part-back s p (toLe w n) t at w e l (length-to w n)) ∙ from-to w n
 
 -- lengths that were cut would not add up to the whole
-pub lengths-fit : (r : ProofReading) (s : List ℕ) → Passes s → proofBytes r ≡ s → (length (r .publicKey) < 65536) × (length (r .signature) < 65536)
-unfolding proofBytes proofHead numbers proofTotal
+pub lengths-fit : (r : PublicKeyProofReading) (s : List ℕ) → Passes s → publicKeyProofBytes r ≡ s → (length (r .publicKey) < 65536) × (length (r .signature) < 65536)
+unfolding publicKeyProofBytes publicKeyProofHead layoutBytes publicKeyProofTotal
 lengths-fit r s z e =
     let k : ℕ = length (r .publicKey) in
     let g : ℕ = length (r .signature) in

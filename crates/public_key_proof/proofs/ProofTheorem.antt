@@ -9,20 +9,20 @@ use native.Mathlib.Omega.{arith}
 use borrow.Author.Tests.{leb-true}
 use lib.ListN.{length}
 use Rattle.octets.specs.Le.{Bytes}
-use Rattle.protocol.specs.Rows.{decide, Hold, First}
+use Rattle.protocol.specs.Rows.{decide, AllPass, FirstFailed}
 use Rattle.protocol.specs.Reading.{OneReading, WritesBack}
 use Rattle.protocol.specs.declared.error.ProtocolError.{ProtocolError}
 use Rattle.protocol.specs.declared.check.Check.{Check}
 use Rattle.protocol.specs.declared.check.Check.the-variants.{Passed, Failed}
-use Rattle.protocol.proofs.Hold.{passed-hold}
+use Rattle.protocol.proofs.AllPass.{passed-all-pass}
 use Rattle.protocol.proofs.Answers.{answer-given, answer-accepts, answer-refuses}
 use Rattle.protocol.proofs.Back.{writes-back}
 use Rattle.public_key_proof.specs.declared.reader.PublicKeyProof.{PublicKeyProof}
 use Rattle.public_key_proof.specs.declared.reader.PublicKeyProofAnswer.{PublicKeyProofAnswer}
 use Rattle.public_key_proof.specs.declared.reader.PublicKeyProofAnswer.the-variants.{Proof, Refused}
-use Rattle.public_key_proof.specs.Reader.{proofRows, proofFault, placesAt, proofAnswer, readProof}
-use Rattle.public_key_proof.specs.Reading.{ProofReading, ProofTyped, readingOf, proofReading, proofBytes}
-use Rattle.public_key_proof.specs.Writer.{writerRows, proofTotal, proofRoom, proofWritten, proofStored}
+use Rattle.public_key_proof.specs.Reader.{publicKeyProofRows, publicKeyProofFault, publicKeyProofPlaces, publicKeyProofAnswer, readPublicKeyProof}
+use Rattle.public_key_proof.specs.Reading.{PublicKeyProofReading, PublicKeyProofTyped, publicKeyProofGiven, publicKeyProofReading, publicKeyProofBytes}
+use Rattle.public_key_proof.specs.Writer.{publicKeyProofWriterRows, publicKeyProofTotal, publicKeyProofRoom, publicKeyProofWritten, publicKeyProofStored}
 use Rattle.public_key_proof.proofs.Inverse.{passes, passes-hold, reading-written, reading-limits, reading-total, written-reading, written-passes, lengths-fit}
 
 -- what the checks found, by the answer
@@ -31,61 +31,61 @@ proofFound (Proof p) = Passed
 proofFound (Refused e) = Failed e
 
 -- which is what it was made from
-proof-back : (g : PublicKeyProof) (k : Check) → proofFound (proofAnswer k g) ≡ k
-unfolding proofAnswer
+proof-back : (g : PublicKeyProof) (k : Check) → proofFound (publicKeyProofAnswer k g) ≡ k
+unfolding publicKeyProofAnswer
 proof-back g Passed = refl
 proof-back g (Failed e) = refl
 
 -- accepted exactly where every check passes
-pub reader-accepts : (s : List ℕ) → (readProof s ≡ Proof (placesAt s)) ↔ Hold (proofRows s)
-unfolding readProof proofFault proofAnswer
-reader-accepts s = answer-accepts (λ k. proofAnswer k (placesAt s)) proofFound (proof-back (placesAt s)) (proofRows s)
+pub public-key-proof-accepts : (s : List ℕ) → (readPublicKeyProof s ≡ Proof (publicKeyProofPlaces s)) ↔ AllPass (publicKeyProofRows s)
+unfolding readPublicKeyProof publicKeyProofFault publicKeyProofAnswer
+public-key-proof-accepts s = answer-accepts (λ k. publicKeyProofAnswer k (publicKeyProofPlaces s)) proofFound (proof-back (publicKeyProofPlaces s)) (publicKeyProofRows s)
 
 -- refused exactly with the first check that fails
-pub reader-refuses : (s : List ℕ) (e : ProtocolError) → (readProof s ≡ Refused e) ↔ First (proofRows s) e
-unfolding readProof proofFault proofAnswer
-reader-refuses s e = answer-refuses (λ k. proofAnswer k (placesAt s)) proofFound (proof-back (placesAt s)) (proofRows s) e
+pub public-key-proof-refuses : (s : List ℕ) (e : ProtocolError) → (readPublicKeyProof s ≡ Refused e) ↔ FirstFailed (publicKeyProofRows s) e
+unfolding readPublicKeyProof publicKeyProofFault publicKeyProofAnswer
+public-key-proof-refuses s e = answer-refuses (λ k. publicKeyProofAnswer k (publicKeyProofPlaces s)) proofFound (proof-back (publicKeyProofPlaces s)) (publicKeyProofRows s) e
 
 -- what the writer writes is accepted, and read as what was written
-pub proof-accepted : (r : ProofReading) → Hold (writerRows r) → Hold (proofRows (proofBytes r)) × (proofReading (proofBytes r) ≡ r)
-unfolding writerRows
-proof-accepted r h =
+pub public-key-proof-accepted : (r : PublicKeyProofReading) → AllPass (publicKeyProofWriterRows r) → AllPass (publicKeyProofRows (publicKeyProofBytes r)) × (publicKeyProofReading (publicKeyProofBytes r) ≡ r)
+unfolding publicKeyProofWriterRows
+public-key-proof-accepted r h =
     let a : length (r .publicKey) ≤ 65535 = leb-true _ _ (h .1 .1 .0) in
     let b : length (r .signature) ≤ 65535 = leb-true _ _ (h .1 .1 .1 .0) in
     let k : length (r .publicKey) < 65536 = omega arith in
     let g : length (r .signature) < 65536 = omega arith in
-    (passes-hold (proofBytes r) (written-passes r k g h), written-reading r k g)
+    (passes-hold (publicKeyProofBytes r) (written-passes r k g h), written-reading r k g)
 
 -- the one reading
-pub proof-one : (s : List ℕ) → Bytes s → Hold (proofRows s) → OneReading ProofTyped proofBytes s (proofReading s)
-proof-one s b h =
+pub public-key-proof-one : (s : List ℕ) → Bytes s → AllPass (publicKeyProofRows s) → OneReading PublicKeyProofTyped publicKeyProofBytes s (publicKeyProofReading s)
+public-key-proof-one s b h =
     let z = passes s h in
     record {
       typed = tt;
       written = reading-written s b z;
-      unique = λ q t e. let f = lengths-fit q s z e in sym (written-reading q (f .0) (f .1)) ∙ ap proofReading e;
+      unique = λ q t e. let f = lengths-fit q s z e in sym (written-reading q (f .0) (f .1)) ∙ ap publicKeyProofReading e;
     }
 
 -- is the one that the reader gives,
-pub proof-given : (s : List ℕ) (p : PublicKeyProof) → readProof s ≡ Proof p → Hold (proofRows s) × (readingOf s p ≡ proofReading s)
-unfolding readProof proofFault proofReading proofAnswer
-proof-given s p h =
-    let z = answer-given (λ k. proofAnswer k (placesAt s)) proofFound (proof-back (placesAt s)) (decide Passed (proofRows s)) (Proof p) h refl in
-    let e : Proof (placesAt s) ≡ Proof p = z .1 in
-    let same : p ≡ placesAt s = cc in
-    (passed-hold (proofRows s) (z .0), ap (readingOf s) same)
+pub public-key-proof-given : (s : List ℕ) (p : PublicKeyProof) → readPublicKeyProof s ≡ Proof p → AllPass (publicKeyProofRows s) × (publicKeyProofGiven s p ≡ publicKeyProofReading s)
+unfolding readPublicKeyProof publicKeyProofFault publicKeyProofReading publicKeyProofAnswer
+public-key-proof-given s p h =
+    let z = answer-given (λ k. publicKeyProofAnswer k (publicKeyProofPlaces s)) proofFound (proof-back (publicKeyProofPlaces s)) (decide Passed (publicKeyProofRows s)) (Proof p) h refl in
+    let e : Proof (publicKeyProofPlaces s) ≡ Proof p = z .1 in
+    let same : p ≡ publicKeyProofPlaces s = cc in
+    (passed-all-pass (publicKeyProofRows s) (z .0), ap (publicKeyProofGiven s) same)
 
 -- and the writer writes it back
-pub proof-writes-back : (s : List ℕ) → Bytes s → Hold (proofRows s) → WritesBack (proofWritten (proofReading s)) (proofStored (proofReading s)) s
-unfolding proofWritten proofStored proofRoom
-proof-writes-back s b h =
+pub public-key-proof-writes-back : (s : List ℕ) → Bytes s → AllPass (publicKeyProofRows s) → WritesBack (publicKeyProofWritten (publicKeyProofReading s)) (publicKeyProofStored (publicKeyProofReading s)) s
+unfolding publicKeyProofWritten publicKeyProofStored publicKeyProofRoom
+public-key-proof-writes-back s b h =
     let z = passes s h in
-    let r = proofReading s in
-    writes-back (writerRows r) (proofBytes r) (proofTotal r) s (reading-limits s b z) (reading-written s b z) (reading-total s b z)
+    let r = publicKeyProofReading s in
+    writes-back (publicKeyProofWriterRows r) (publicKeyProofBytes r) (publicKeyProofTotal r) s (reading-limits s b z) (reading-written s b z) (reading-total s b z)
 
 -- The theorem: an accepted proof has exactly one reading, that of the answer, and writing it gives the same bytes or 5.
-pub proof-theorem : (s : List ℕ) (p : PublicKeyProof) → Bytes s → readProof s ≡ Proof p
-    → OneReading ProofTyped proofBytes s (readingOf s p) × WritesBack (proofWritten (readingOf s p)) (proofStored (readingOf s p)) s
-proof-theorem s p b e =
-    let g = proof-given s p e in
-    rw (g .1) (proof-one s b (g .0), proof-writes-back s b (g .0))
+pub public-key-proof-theorem : (s : List ℕ) (p : PublicKeyProof) → Bytes s → readPublicKeyProof s ≡ Proof p
+    → OneReading PublicKeyProofTyped publicKeyProofBytes s (publicKeyProofGiven s p) × WritesBack (publicKeyProofWritten (publicKeyProofGiven s p)) (publicKeyProofStored (publicKeyProofGiven s p)) s
+public-key-proof-theorem s p b e =
+    let g = public-key-proof-given s p e in
+    rw (g .1) (public-key-proof-one s b (g .0), public-key-proof-writes-back s b (g .0))

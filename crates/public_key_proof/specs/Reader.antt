@@ -14,8 +14,8 @@ use Rattle.public_key_proof.specs.declared.reader.PublicKeyProof.{Public
 use Rattle.public_key_proof.specs.declared.reader.PublicKeyProofAnswer.{PublicKeyProofAnswer}
 use Rattle.public_key_proof.specs.declared.reader.PublicKeyProofAnswer.the-variants.{Proof, Refused}
 
-unfoldable pub proofRows : List ℕ → List Row
-proofRows s =
+unfoldable pub publicKeyProofRows : List ℕ → List Row
+publicKeyProofRows s =
     row (leb 5 (length s)) InvalidProof
     ∷ row (eqb (numberAt s 0 1) 1) InvalidProof
     ∷ row (ltb 0 (numberAt s 1 2)) InvalidProof
@@ -23,12 +23,12 @@ proofRows s =
     ∷ row (eqb (5 + numberAt s 1 2 + numberAt s 3 2) (length s)) InvalidProof
     ∷ []
 
-unfoldable pub proofFault : List ℕ → Check
-proofFault s = decide Passed (proofRows s)
+unfoldable pub publicKeyProofFault : List ℕ → Check
+publicKeyProofFault s = decide Passed (publicKeyProofRows s)
 
 -- the places of the key and the signature
-unfoldable pub placesAt : List ℕ → PublicKeyProof
-placesAt s =
+unfoldable pub publicKeyProofPlaces : List ℕ → PublicKeyProof
+publicKeyProofPlaces s =
     record {
       «public_key» = 5;
       «public_key_len» = numberAt s 1 2;
@@ -36,14 +36,14 @@ placesAt s =
       «signature_len» = numberAt s 3 2;
     }
 
-unfoldable pub proofAnswer : Check → PublicKeyProof → PublicKeyProofAnswer
-proofAnswer Passed p = Proof p
-proofAnswer (Failed e) p = Refused e
+unfoldable pub publicKeyProofAnswer : Check → PublicKeyProof → PublicKeyProofAnswer
+publicKeyProofAnswer Passed p = Proof p
+publicKeyProofAnswer (Failed e) p = Refused e
 
-unfoldable pub readProof : List ℕ → PublicKeyProofAnswer
-readProof s = proofAnswer (proofFault s) (placesAt s)
+unfoldable pub readPublicKeyProof : List ℕ → PublicKeyProofAnswer
+readPublicKeyProof s = publicKeyProofAnswer (publicKeyProofFault s) (publicKeyProofPlaces s)
 
 -- document 01's number of the answer
-abbrev pub proofNumber : PublicKeyProofAnswer → ℕ
-proofNumber (Proof p) = 0
-proofNumber (Refused e) = errorNumber e
+abbrev pub publicKeyProofNumber : PublicKeyProofAnswer → ℕ
+publicKeyProofNumber (Proof p) = 0
+publicKeyProofNumber (Refused e) = errorNumber e

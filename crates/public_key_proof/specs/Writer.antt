@@ -9,12 +9,12 @@ use Rattle.protocol.specs.Write.{writeFault, writeAnswer, afterWrite}
 use Rattle.protocol.specs.declared.error.ProtocolError.the-variants.{InvalidProof, LengthOverflow}
 use Rattle.protocol.specs.declared.check.Check.{Check}
 use Rattle.protocol.specs.declared.check.WriteAnswer.{WriteAnswer}
-use Rattle.public_key_proof.specs.Reading.{ProofReading, proofBytes}
+use Rattle.public_key_proof.specs.Reading.{PublicKeyProofReading, publicKeyProofBytes}
 
 -- 01, Public-key proof: "both not 0"; host: "The public-key proof writer gives 39 where a part exceeds 65,535 bytes." The Rust
 -- tests for an empty part first.
-unfoldable pub writerRows : ProofReading → List Row
-writerRows r =
+unfoldable pub publicKeyProofWriterRows : PublicKeyProofReading → List Row
+publicKeyProofWriterRows r =
     row (ltb 0 (length (r .publicKey))) InvalidProof
     ∷ row (ltb 0 (length (r .signature))) InvalidProof
     ∷ row (leb (length (r .publicKey)) 65535) LengthOverflow
@@ -22,17 +22,17 @@ writerRows r =
     ∷ []
 
 -- the length of the written form
-unfoldable pub proofTotal : ProofReading → ℕ
-proofTotal r = 5 + length (r .publicKey) + length (r .signature)
+unfoldable pub publicKeyProofTotal : PublicKeyProofReading → ℕ
+publicKeyProofTotal r = 5 + length (r .publicKey) + length (r .signature)
 
 -- what the writer's checks find, for a buffer of `room` bytes
-unfoldable pub proofRoom : ProofReading → ℕ → Check
-proofRoom r room = writeFault (writerRows r) (proofTotal r) room
+unfoldable pub publicKeyProofRoom : PublicKeyProofReading → ℕ → Check
+publicKeyProofRoom r room = writeFault (publicKeyProofWriterRows r) (publicKeyProofTotal r) room
 
 -- the writer's answer
-unfoldable pub proofWritten : ProofReading → List ℕ → WriteAnswer
-proofWritten r out = writeAnswer (proofRoom r (length out)) (proofTotal r)
+unfoldable pub publicKeyProofWritten : PublicKeyProofReading → List ℕ → WriteAnswer
+publicKeyProofWritten r out = writeAnswer (publicKeyProofRoom r (length out)) (publicKeyProofTotal r)
 
 -- and the buffer afterwards
-unfoldable pub proofStored : ProofReading → List ℕ → List ℕ
-proofStored r out = afterWrite (proofRoom r (length out)) (proofBytes r) out
+unfoldable pub publicKeyProofStored : PublicKeyProofReading → List ℕ → List ℕ
+publicKeyProofStored r out = afterWrite (publicKeyProofRoom r (length out)) (publicKeyProofBytes r) out

@@ -4,7 +4,7 @@ use octets::u16_at;
 use protocol::Check;
 use protocol::ProtocolError;
 ghost use mathlib.Core.Path.{_≡_};
-ghost use Rattle.public_key_proof.specs.Reader.{proofFault, placesAt, readProof};
+ghost use Rattle.public_key_proof.specs.Reader.{publicKeyProofFault, publicKeyProofPlaces, readPublicKeyProof};
 
 // Where the key and the signature begin, and how long they are.
 pub struct PublicKeyProof {
@@ -20,7 +20,7 @@ pub enum PublicKeyProofAnswer {
 }
 
 fn check_proof(proof: &[u8]) -> Check
-    ensures { λ r. ⌜ r ≡ proofFault (now (proof .entry)) ⌝ }
+    ensures { λ r. ⌜ r ≡ publicKeyProofFault (now (proof .entry)) ⌝ }
 {
     let invalid = ProtocolError::InvalidProof;
     let public_key_len = u16_at(proof, 1) as usize;
@@ -34,7 +34,7 @@ fn check_proof(proof: &[u8]) -> Check
 }
 
 fn places_at(proof: &[u8]) -> PublicKeyProof
-    ensures { λ r. ⌜ r ≡ placesAt (now (proof .entry)) ⌝ }
+    ensures { λ r. ⌜ r ≡ publicKeyProofPlaces (now (proof .entry)) ⌝ }
 {
     let public_key_len = u16_at(proof, 1) as usize;
     PublicKeyProof {
@@ -47,7 +47,7 @@ fn places_at(proof: &[u8]) -> PublicKeyProof
 
 // The places of the key and the signature, or the refusal.
 pub fn parse_public_key_proof(proof: &[u8]) -> PublicKeyProofAnswer
-    ensures { λ r. ⌜ r ≡ readProof (now (proof .entry)) ⌝ }
+    ensures { λ r. ⌜ r ≡ readPublicKeyProof (now (proof .entry)) ⌝ }
 {
     match check_proof(proof) {
         Check::Failed(error) => PublicKeyProofAnswer::Refused(error),

@@ -7,12 +7,12 @@ use protocol::ProtocolError;
 use protocol::WriteAnswer;
 ghost use mathlib.Core.Path.{_≡_};
 ghost use lib.Seq.{sets};
-ghost use Rattle.public_key_proof.specs.Reading.{reading, proofBytes};
-ghost use Rattle.public_key_proof.specs.Writer.{proofRoom, proofWritten, proofStored};
+ghost use Rattle.public_key_proof.specs.Reading.{publicKeyProofWith, publicKeyProofBytes};
+ghost use Rattle.public_key_proof.specs.Writer.{publicKeyProofRoom, publicKeyProofWritten, publicKeyProofStored};
 
 // Stores the proof's bytes from the front of `out`, as far as there is room.
 fn store_proof(key: &[u8], signature: &[u8], out: &mut [u8])
-    ensures { λ _. ⌜ now (out .exit) ≡ sets (now (out .entry)) 0 (proofBytes (reading (now (key .entry)) (now (signature .entry)))) ⌝ }
+    ensures { λ _. ⌜ now (out .exit) ≡ sets (now (out .entry)) 0 (publicKeyProofBytes (publicKeyProofWith (now (key .entry)) (now (signature .entry)))) ⌝ }
 {
     store_number(out, 0, 1, 1);
     store_number(out, 1, 2, key.len() as u64);
@@ -23,7 +23,7 @@ fn store_proof(key: &[u8], signature: &[u8], out: &mut [u8])
 
 // The writer's refusals, and then that of a buffer of `room` bytes.
 fn check_room(key: &[u8], signature: &[u8], room: usize) -> Check
-    ensures { λ r. ⌜ r ≡ proofRoom (reading (now (key .entry)) (now (signature .entry))) room ⌝ }
+    ensures { λ r. ⌜ r ≡ publicKeyProofRoom (publicKeyProofWith (now (key .entry)) (now (signature .entry))) room ⌝ }
 {
     Check::Passed
         .require(0 < key.len(), ProtocolError::InvalidProof)
@@ -38,8 +38,8 @@ fn check_room(key: &[u8], signature: &[u8], room: usize) -> Check
 
 // Writes a proof to the front of `out` and answers its length. A refused writer writes nothing.
 pub fn encode_public_key_proof(key: &[u8], signature: &[u8], out: &mut [u8]) -> WriteAnswer
-    ensures { λ r. ⌜ r ≡ proofWritten (reading (now (key .entry)) (now (signature .entry))) (now (out .entry)) ⌝ }
-    ensures { λ _. ⌜ now (out .exit) ≡ proofStored (reading (now (key .entry)) (now (signature .entry))) (now (out .entry)) ⌝ }
+    ensures { λ r. ⌜ r ≡ publicKeyProofWritten (publicKeyProofWith (now (key .entry)) (now (signature .entry))) (now (out .entry)) ⌝ }
+    ensures { λ _. ⌜ now (out .exit) ≡ publicKeyProofStored (publicKeyProofWith (now (key .entry)) (now (signature .entry))) (now (out .entry)) ⌝ }
 {
     match check_room(key, signature, out.len()) {
         Check::Failed(error) => WriteAnswer::Refused(error),

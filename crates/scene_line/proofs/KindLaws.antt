@@ -10,9 +10,9 @@ use lib.Dec.{eqb}
 use Rattle.scene_text.proofs.Tests.{and-left, and-right}
 use Rattle.scene_line.specs.declared.kind.Kind.{Kind}
 use Rattle.scene_line.specs.declared.kind.Kind.the-variants.{Script, Tx, Input, Output, Dep, Witness, Verdicts, Unknown}
-use Rattle.scene_line.specs.Kind.{place, fieldCount, kindOf, follows, lineKind}
+use Rattle.scene_line.specs.Kind.{rank, fieldCount, kindOf, follows, lineKind}
 
-pub place-small : (k : Kind) → place k < 8
+pub place-small : (k : Kind) → rank k < 8
 place-small Script = omega arith
 place-small Tx = omega arith
 place-small Input = omega arith
@@ -34,12 +34,12 @@ counted Verdicts = refl
 counted Unknown = refl
 
 -- a line's kind is one whose row 2 holds
-pub shape : (last : ℕ) (w : List ℕ) (fs : List (List ℕ)) → (place (lineKind last (w ∷ fs)) ≡ 0 → ⊥)
-    → (length fs ≡ fieldCount (lineKind last (w ∷ fs))) × (follows last (place (lineKind last (w ∷ fs))) ≡ true)
+pub shape : (last : ℕ) (w : List ℕ) (fs : List (List ℕ)) → (rank (lineKind last (w ∷ fs)) ≡ 0 → ⊥)
+    → (length fs ≡ fieldCount (lineKind last (w ∷ fs))) × (follows last (rank (lineKind last (w ∷ fs))) ≡ true)
 unfolding lineKind
-shape last w fs h = go (kindOf w) (follows last (place (kindOf w)) && eqb (length fs) (fieldCount (kindOf w))) refl h
+shape last w fs h = go (kindOf w) (follows last (rank (kindOf w)) && eqb (length fs) (fieldCount (kindOf w))) refl h
   where
-    go : (k : Kind) (b : Bool) → (follows last (place k) && eqb (length fs) (fieldCount k)) ≡ b → (place (cond b k Unknown) ≡ 0 → ⊥)
-        → (length fs ≡ fieldCount (cond b k Unknown)) × (follows last (place (cond b k Unknown)) ≡ true)
-    go k true t h = (eqb-true (length fs) (fieldCount k) (and-right (follows last (place k)) (eqb (length fs) (fieldCount k)) t), and-left (follows last (place k)) (eqb (length fs) (fieldCount k)) t)
+    go : (k : Kind) (b : Bool) → (follows last (rank k) && eqb (length fs) (fieldCount k)) ≡ b → (rank (cond b k Unknown) ≡ 0 → ⊥)
+        → (length fs ≡ fieldCount (cond b k Unknown)) × (follows last (rank (cond b k Unknown)) ≡ true)
+    go k true t h = (eqb-true (length fs) (fieldCount k) (and-right (follows last (rank k)) (eqb (length fs) (fieldCount k)) t), and-left (follows last (rank k)) (eqb (length fs) (fieldCount k)) t)
     go k false t h = absurd (h refl)

@@ -11,15 +11,15 @@ use Rattle.scene_line.specs.declared.kind.Kind.{Kind}
 use Rattle.scene_line.specs.declared.kind.Kind.the-variants.{Script, Tx, Input, Output, Dep, Witness, Verdicts, Unknown}
 
 -- 01: "in this order of kinds": a kind's place in it, 0 for none
-abbrev pub place : Kind → ℕ
-place Script = 1
-place Tx = 2
-place Input = 3
-place Output = 4
-place Dep = 5
-place Witness = 6
-place Verdicts = 7
-place Unknown = 0
+abbrev pub rank : Kind → ℕ
+rank Script = 1
+rank Tx = 2
+rank Input = 3
+rank Output = 4
+rank Dep = 5
+rank Witness = 6
+rank Verdicts = 7
+rank Unknown = 0
 
 -- how many fields follow the word, as 01 lists them
 abbrev pub fieldCount : Kind → ℕ
@@ -82,9 +82,9 @@ follows last k = cond (ltb last 2) (eqb k (last + 1)) (leb 3 k && (leb last k &&
 -- 01: "line: kind, order, field count", 2: a line's kind by its word and fields, Unknown where this row refuses the line
 unfoldable pub lineKind : ℕ → List (List ℕ) → Kind
 lineKind last [] = Unknown
-lineKind last (w ∷ fs) = cond (follows last (place (kindOf w)) && eqb (length fs) (fieldCount (kindOf w))) (kindOf w) Unknown
+lineKind last (w ∷ fs) = cond (follows last (rank (kindOf w)) && eqb (length fs) (fieldCount (kindOf w))) (kindOf w) Unknown
 
 -- the fields behind the word
-unfoldable pub fieldsOf : List (List ℕ) → List (List ℕ)
-fieldsOf [] = []
-fieldsOf (w ∷ fs) = fs
+unfoldable pub lineFields : List (List ℕ) → List (List ℕ)
+lineFields [] = []
+lineFields (w ∷ fs) = fs

@@ -4,43 +4,43 @@ use mathlib.Core.Bool.{Bool, true, false, cond, _&&_, _||_}
 use mathlib.Core.List.{List, [], _∷_, _++_, map}
 use lib.ListN.{length, getD}
 use lib.Dec.{ltb, leb, eqb}
-use Rattle.scene_text.specs.declared.decimal.Number.{Number}
-use Rattle.scene_text.specs.declared.decimal.Number.the-variants.{Is, Bad}
-use Rattle.scene_text.specs.Text.{all, between, hexOk, hexVal, hexBytes, sinceOf}
+use Rattle.scene_text.specs.declared.decimal.Decimal.{Decimal}
+use Rattle.scene_text.specs.declared.decimal.Decimal.the-variants.{Value, Invalid}
+use Rattle.scene_text.specs.Text.{all, inRange, hexOk, hexVal, hexBytes, sinceOf}
 use Rattle.scene_line.specs.declared.form.Form.{Form}
 use Rattle.scene_line.specs.declared.form.Form.the-variants.{Group, Since, TypeHash, Hash, TypeScript, Hex, Digits}
 use Rattle.scene_line.specs.declared.fields.FieldsFound.{FieldsFound}
 
 -- 01: "`input,GROUP,SINCE,TYPEHASH,DATAHASH,TYPESCRIPT,DATA`; `output,` and `dep,` each with the last four": the form of the
 -- next field
-abbrev pub after : Form → Form
-after Group = Since
-after Since = TypeHash
-after TypeHash = Hash
-after Hash = TypeScript
-after TypeScript = Hex
-after Hex = Hex
-after Digits = Digits
+abbrev pub nextForm : Form → Form
+nextForm Group = Since
+nextForm Since = TypeHash
+nextForm TypeHash = Hash
+nextForm Hash = TypeScript
+nextForm TypeScript = Hex
+nextForm Hex = Hex
+nextForm Digits = Digits
 
-abbrev pub isNumber : Number → Bool
-isNumber (Is v) = true
-isNumber Bad = false
+abbrev pub isNumber : Decimal → Bool
+isNumber (Value v) = true
+isNumber Invalid = false
 
 -- 01: "Hashes have 64 lower-case digits."
-abbrev pub hashOk : List ℕ → Bool
-hashOk f = eqb (length f) 64 && hexOk f
+abbrev pub hashTextOk : List ℕ → Bool
+hashTextOk f = eqb (length f) 64 && hexOk f
 
 -- whether f has the form of its field. 01: "GROUP is 1 where the input runs this lock, else 0"; "TYPEHASH and TYPESCRIPT are
 -- both empty or neither", where bare says that the line's TYPEHASH is empty; "DIGITS is up to 16 of 0 approved, 1 refused,
 -- 2 failed"
 abbrev pub fieldOk : Bool → Form → List ℕ → Bool
-fieldOk bare Group f = eqb (length f) 1 && all (between 48 49) f
+fieldOk bare Group f = eqb (length f) 1 && all (inRange 48 49) f
 fieldOk bare Since f = isNumber (sinceOf f)
-fieldOk bare TypeHash f = eqb (length f) 0 || hashOk f
-fieldOk bare Hash f = hashOk f
+fieldOk bare TypeHash f = eqb (length f) 0 || hashTextOk f
+fieldOk bare Hash f = hashTextOk f
 fieldOk bare TypeScript f = cond bare (eqb (length f) 0) (ltb 0 (length f) && hexOk f)
 fieldOk bare Hex f = hexOk f
-fieldOk bare Digits f = leb (length f) 16 && all (between 48 50) f
+fieldOk bare Digits f = leb (length f) 16 && all (inRange 48 50) f
 
 -- whether the line's TYPEHASH is empty, after the field f
 abbrev pub bareAfter : Bool → Form → List ℕ → Bool
@@ -55,7 +55,7 @@ bareAfter bare Digits f = bare
 -- whether each field has its form, the first one t
 unfoldable pub formsOk : Bool → Form → List (List ℕ) → Bool
 formsOk bare t [] = true
-formsOk bare t (f ∷ fs) = fieldOk bare t f && formsOk (bareAfter bare t f) (after t) fs
+formsOk bare t (f ∷ fs) = fieldOk bare t f && formsOk (bareAfter bare t f) (nextForm t) fs
 
 -- 01: "the bytes of all hexadecimal fields": which forms are
 abbrev pub hexForm : Form → Bool
@@ -74,28 +74,28 @@ fieldBytes t f = cond (hexForm t) (hexBytes f) []
 -- 01: "the bytes of all hexadecimal fields end to end", of one line
 unfoldable pub lineBytes : Form → List (List ℕ) → List ℕ
 lineBytes t [] = []
-lineBytes t (f ∷ fs) = fieldBytes t f ++ lineBytes (after t) fs
+lineBytes t (f ∷ fs) = fieldBytes t f ++ lineBytes (nextForm t) fs
 
 -- a u64 as its low and its high half
-abbrev pub halves : Number → List ℕ
-halves (Is v) = v % 2 ^ 32 ∷ v / 2 ^ 32 ∷ []
-halves Bad = 0 ∷ 0 ∷ []
+abbrev pub sinceHalves : Decimal → List ℕ
+sinceHalves (Value v) = v % 2 ^ 32 ∷ v / 2 ^ 32 ∷ []
+sinceHalves Invalid = 0 ∷ 0 ∷ []
 
 -- 01: "the rest into a lent u32 table, whose layout the team writes in docs/": of a field a group or a length, the halves of SINCE,
 -- the count of DIGITS and each digit
-abbrev pub fieldNumbers : Form → List ℕ → List ℕ
-fieldNumbers Group f = hexVal (getD f 0 0) ∷ []
-fieldNumbers Since f = halves (sinceOf f)
-fieldNumbers TypeHash f = []
-fieldNumbers Hash f = []
-fieldNumbers TypeScript f = length f / 2 ∷ []
-fieldNumbers Hex f = length f / 2 ∷ []
-fieldNumbers Digits f = length f ∷ map hexVal f
+abbrev pub fieldEntries : Form → List ℕ → List ℕ
+fieldEntries Group f = hexVal (getD f 0 0) ∷ []
+fieldEntries Since f = sinceHalves (sinceOf f)
+fieldEntries TypeHash f = []
+fieldEntries Hash f = []
+fieldEntries TypeScript f = length f / 2 ∷ []
+fieldEntries Hex f = length f / 2 ∷ []
+fieldEntries Digits f = length f ∷ map hexVal f
 
 -- what the table holds of a line's fields
-unfoldable pub lineNumbers : Form → List (List ℕ) → List ℕ
-lineNumbers t [] = []
-lineNumbers t (f ∷ fs) = fieldNumbers t f ++ lineNumbers (after t) fs
+unfoldable pub lineEntries : Form → List (List ℕ) → List ℕ
+lineEntries t [] = []
+lineEntries t (f ∷ fs) = fieldEntries t f ++ lineEntries (nextForm t) fs
 
 -- what a line's fields are: the row for 3, and how many bytes the row for 6 asks room for
 unfoldable pub fieldsFound : Form → List (List ℕ) → FieldsFound

@@ -1,7 +1,7 @@
 // Whether a field has its form, and how many bytes it has.
 use crate::form::Form;
 use crate::form::hex_form;
-use scene_text::Number;
+use scene_text::Decimal;
 use scene_text::all_between;
 use scene_text::hex_ok;
 use scene_text::since;
@@ -9,19 +9,19 @@ ghost use mathlib.Core.Path.{_≡_};
 ghost use Prim.Native.Nat.{_≤_};
 ghost use lib.ListN.{length};
 ghost use Rattle.scene_text.specs.Text.{sinceOf};
-ghost use Rattle.scene_line.specs.Line.{isNumber, hashOk, fieldOk, bareAfter, fieldBytes};
+ghost use Rattle.scene_line.specs.Line.{isNumber, hashTextOk, fieldOk, bareAfter, fieldBytes};
 
 fn number_ok(f: &[u8]) -> bool
     ensures { λ r. ⌜ r ≡ isNumber (sinceOf (now (f .entry))) ⌝ }
 {
     match since(f) {
-        Number::Is(_) => true,
-        Number::Bad => false,
+        Decimal::Value(_) => true,
+        Decimal::Invalid => false,
     }
 }
 
 fn hash_ok(f: &[u8]) -> bool
-    ensures { λ r. ⌜ r ≡ hashOk (now (f .entry)) ⌝ }
+    ensures { λ r. ⌜ r ≡ hashTextOk (now (f .entry)) ⌝ }
 {
     if f.len() != 64 {
         return false;

@@ -1,6 +1,6 @@
 // The forms of fields.
 ghost use mathlib.Core.Path.{_≡_};
-ghost use Rattle.scene_line.specs.Line.{after, hexForm};
+ghost use Rattle.scene_line.specs.Line.{nextForm, hexForm};
 
 pub enum Form {
     Group,
@@ -14,7 +14,7 @@ pub enum Form {
 
 // The form of the field behind one of form t.
 pub fn next_form(t: Form) -> Form
-    ensures { λ r. ⌜ r ≡ after t ⌝ }
+    ensures { λ r. ⌜ r ≡ nextForm t ⌝ }
 {
     match t {
         Form::Group => Form::Since,

@@ -6,7 +6,7 @@ ghost use mathlib.Core.Path.{_≡_};
 ghost use mathlib.Core.Bool.{cond};
 ghost use mathlib.Core.List.{_∷_};
 ghost use Rattle.scene_text.specs.Text.{pieces};
-ghost use Rattle.scene_line.specs.Kind.{place, fieldCount, firstForm, kindOf, follows, lineKind};
+ghost use Rattle.scene_line.specs.Kind.{rank, fieldCount, firstForm, kindOf, follows, lineKind};
 
 pub enum Kind {
     Script,
@@ -20,8 +20,8 @@ pub enum Kind {
 }
 
 // A kind's place in the order, 0 for none.
-pub fn place_of(k: Kind) -> usize
-    ensures { λ r. ⌜ r ≡ place k ⌝ }
+pub fn rank_of(k: Kind) -> usize
+    ensures { λ r. ⌜ r ≡ rank k ⌝ }
 {
     match k {
         Kind::Script => 1,
@@ -108,7 +108,7 @@ pub fn line_kind(word: &[u8], fields: &[u8], last: usize) -> Kind
     ensures { λ r. ⌜ r ≡ lineKind last (now (word .entry) ∷ pieces 44 (now (fields .entry))) ⌝ }
 {
     let k = kind_of(word);
-    if !may_follow(last, place_of(k)) {
+    if !may_follow(last, rank_of(k)) {
         return Kind::Unknown;
     }
     if count(fields, 44) != field_count(k) {

@@ -12,4 +12,4 @@ pub use self::form::next_form;
 pub use self::kind::Kind;
 pub use self::kind::first_form;
 pub use self::kind::line_kind;
-pub use self::kind::place_of;
+pub use self::kind::rank_of;

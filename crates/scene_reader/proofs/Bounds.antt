@@ -13,10 +13,10 @@ use Rattle.scene_line.specs.declared.form.Form.{Form}
 use Rattle.scene_line.specs.declared.form.Form.the-variants.{Group, Since, TypeHash, Hash, TypeScript, Hex, Digits}
 use Rattle.scene_line.specs.declared.kind.Kind.{Kind}
 use Rattle.scene_line.specs.declared.kind.Kind.the-variants.{Script, Tx, Input, Output, Dep, Witness, Verdicts, Unknown}
-use Rattle.scene_text.specs.Text.{hexVal, sinceOf, all, between}
-use Rattle.scene_line.specs.Line.{after, fieldNumbers, lineNumbers, formsOk}
+use Rattle.scene_text.specs.Text.{hexVal, sinceOf, all, inRange}
+use Rattle.scene_line.specs.Line.{nextForm, fieldEntries, lineEntries, formsOk}
 use Rattle.scene_line.proofs.KindLaws.{place-small}
-use Rattle.scene_line.specs.Kind.{place, fieldCount, firstForm, follows}
+use Rattle.scene_line.specs.Kind.{rank, fieldCount, firstForm, follows}
 use Rattle.scene_reader.specs.Reader.{seenWith}
 use Rattle.scene_reader.specs.Room.{limit}
 use Rattle.scene_text.proofs.Tests.{and-left, and-right}
@@ -42,7 +42,7 @@ notDigits Hex = true
 notDigits Digits = false
 
 -- the same at the first field: what it adds and what is left
-adds : (t : Form) (f : List ℕ) (n : ℕ) → notDigits t ≡ true → length (fieldNumbers t f) + most (after t) n ≤ most t (suc n)
+adds : (t : Form) (f : List ℕ) (n : ℕ) → notDigits t ≡ true → length (fieldEntries t f) + most (nextForm t) n ≤ most t (suc n)
 unfolding most notDigits
 adds Group f n e = omega arith
 adds Since f n e = omega (arith, halves-length (sinceOf f))
@@ -52,7 +52,7 @@ adds TypeScript f n e = omega arith
 adds Hex f n e = omega arith
 adds Digits f n e = absurd (false≢true e)
 
-stays : (t : Form) → notDigits t ≡ true → notDigits (after t) ≡ true
+stays : (t : Form) → notDigits t ≡ true → notDigits (nextForm t) ≡ true
 unfolding notDigits
 stays Group e = refl
 stays Since e = refl
@@ -62,16 +62,16 @@ stays TypeScript e = refl
 stays Hex e = refl
 stays Digits e = e
 
-numbers-few : (t : Form) (fs : List (List ℕ)) → notDigits t ≡ true → length (lineNumbers t fs) ≤ most t (length fs)
-unfolding lineNumbers
+numbers-few : (t : Form) (fs : List (List ℕ)) → notDigits t ≡ true → length (lineEntries t fs) ≤ most t (length fs)
+unfolding lineEntries
 numbers-few t [] e = omega arith
 numbers-few t (f ∷ fs) e =
-    omega (arith, length-append (fieldNumbers t f) (lineNumbers (after t) fs), numbers-few (after t) fs (stays t e), adds t f (length fs) e)
+    omega (arith, length-append (fieldEntries t f) (lineEntries (nextForm t) fs), numbers-few (nextForm t) fs (stays t e), adds t f (length fs) e)
 
 -- what a line adds to the table: at most 6 entries, or 18 for verdicts
 pub row-few : (k : Kind) (fs : List (List ℕ)) → length fs ≡ fieldCount k → formsOk true (firstForm k) fs ≡ true
-    → 1 + length (lineNumbers (firstForm k) fs) ≤ 6 + 12 * (place k - 6)
-unfolding most notDigits lineNumbers formsOk
+    → 1 + length (lineEntries (firstForm k) fs) ≤ 6 + 12 * (rank k - 6)
+unfolding most notDigits lineEntries formsOk
 row-few Script fs n ok = omega (arith, numbers-few Hex fs refl)
 row-few Tx fs n ok = omega (arith, numbers-few Hash fs refl)
 row-few Input fs n ok = omega (arith, numbers-few Group fs refl)
@@ -80,8 +80,8 @@ row-few Dep fs n ok = omega (arith, numbers-few TypeHash fs refl)
 row-few Witness fs n ok = omega (arith, numbers-few Hex fs refl)
 row-few Verdicts [] n ok = omega arith
 row-few Verdicts (f ∷ []) n ok =
-    let short : length f ≤ 16 = leb-true (length f) 16 (and-left (leb (length f) 16) (all (between 48 50) f) (and-left (leb (length f) 16 && all (between 48 50) f) true ok)) in
-    omega (arith, length-map f hexVal, length-append (fieldNumbers Digits f) [])
+    let short : length f ≤ 16 = leb-true (length f) 16 (and-left (leb (length f) 16) (all (inRange 48 50) f) (and-left (leb (length f) 16 && all (inRange 48 50) f) true ok)) in
+    omega (arith, length-map f hexVal, length-append (fieldEntries Digits f) [])
 row-few Verdicts (f ∷ g ∷ fs) n ok = absurd (omega arith)
 row-few Unknown fs n ok = omega (arith, numbers-few Hex fs refl)
 
@@ -154,12 +154,12 @@ grows last seen k n c filled hk hs hn hf hc (inr a) (inr u) =
     (λ h. grows-later last seen k n c filled hk hs hn hf hc h (omega arith) (u .1))
     (eq-or-lt-of-le (a .0))
 
-pub fits : (last seen filled : ℕ) (k : Kind) (fs : List (List ℕ)) → last < 8 → seen ≤ 64 → filled ≤ limit last seen → seenWith last seen (place k) ≤ 64
-    → length fs ≡ fieldCount k → follows last (place k) ≡ true → formsOk true (firstForm k) fs ≡ true
-    → filled + 1 + length (lineNumbers (firstForm k) fs) ≤ limit (place k) (seenWith last seen (place k))
+pub fits : (last seen filled : ℕ) (k : Kind) (fs : List (List ℕ)) → last < 8 → seen ≤ 64 → filled ≤ limit last seen → seenWith last seen (rank k) ≤ 64
+    → length fs ≡ fieldCount k → follows last (rank k) ≡ true → formsOk true (firstForm k) fs ≡ true
+    → filled + 1 + length (lineEntries (firstForm k) fs) ≤ limit (rank k) (seenWith last seen (rank k))
 fits last seen filled k fs hl hs hf hn n o ok =
-    let h = grows last seen (place k) (seenWith last seen (place k)) (1 + length (lineNumbers (firstForm k) fs)) filled (place-small k) hs hn hf (row-few k fs n ok) (order last (place k) o) (seen-either last seen (place k)) in
-    let e : filled + 1 + length (lineNumbers (firstForm k) fs) ≡ filled + (1 + length (lineNumbers (firstForm k) fs)) = omega arith in
+    let h = grows last seen (rank k) (seenWith last seen (rank k)) (1 + length (lineEntries (firstForm k) fs)) filled (place-small k) hs hn hf (row-few k fs n ok) (order last (rank k) o) (seen-either last seen (rank k)) in
+    let e : filled + 1 + length (lineEntries (firstForm k) fs) ≡ filled + (1 + length (lineEntries (firstForm k) fs)) = omega arith in
     rw e h
 
 pub limit-small : (k n : ℕ) → k < 8 → n ≤ 64 → limit k n ≤ 2048

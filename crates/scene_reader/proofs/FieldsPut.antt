@@ -8,7 +8,7 @@ use lib.Seq.{sets}
 use Rattle.scene_text.specs.Text.{pieces, Cut}
 use Rattle.scene_text.proofs.Pieces.{cut-first}
 use Rattle.scene_line.specs.declared.form.Form.{Form}
-use Rattle.scene_line.specs.Line.{after, lineBytes, lineNumbers}
+use Rattle.scene_line.specs.Line.{nextForm, lineBytes, lineEntries}
 use Rattle.scene_line.proofs.FieldLaws.{fields-length, fields-put}
 
 -- no fields, no bytes
@@ -17,13 +17,13 @@ unfolding lineBytes
 bytes-none t = refl
 
 -- no fields, no numbers
-pub numbers-none : (t : Form) → lineNumbers t [] ≡ []
-unfolding lineNumbers
+pub numbers-none : (t : Form) → lineEntries t [] ≡ []
+unfolding lineEntries
 numbers-none t = refl
 
 -- whole is one after another, by form; the field f of form t is cut from the text rest
 module _ (one : Form → List ℕ → List ℕ) (whole : Form → List (List ℕ) → List ℕ)
-    (on : (t : Form) (f : List ℕ) (fs : List (List ℕ)) → whole t (f ∷ fs) ≡ one t f ++ whole (after t) fs)
+    (on : (t : Form) (f : List ℕ) (fs : List (List ℕ)) → whole t (f ∷ fs) ≡ one t f ++ whole (nextForm t) fs)
     (none : (t : Form) → whole t [] ≡ [])
     (t : Form) (rest f : List ℕ) (e : ℕ) (cut : Cut 44 rest e) (is : f ≡ take e rest) where
   -- a field gives no more than the whole
@@ -36,7 +36,7 @@ module _ (one : Form → List ℕ → List ℕ) (whole : Form → List (List ℕ
   -- The field has been put at `at` into l, which l′ now is; its length is n.
   module _ (l l′ : List ℕ) (at n : ℕ) (long : n ≡ length (one t f)) (stored : l′ ≡ sets l at (one t f)) where
     -- behind another field: the whole from there on
-    pub put-on : (t′ : Form) (rest′ : List ℕ) → e < length rest → t′ ≡ after t → rest′ ≡ drop (e + 1) rest
+    pub put-on : (t′ : Form) (rest′ : List ℕ) → e < length rest → t′ ≡ nextForm t → rest′ ≡ drop (e + 1) rest
         → (at + length (whole t (pieces 44 rest)) ≡ at + n + length (whole t′ (pieces 44 rest′)))
         × (sets l at (whole t (pieces 44 rest)) ≡ sets l′ (at + n) (whole t′ (pieces 44 rest′)))
     put-on t′ rest′ more next from =
@@ -49,6 +49,6 @@ module _ (one : Form → List ℕ → List ℕ) (whole : Form → List (List ℕ
     pub put-end : e ≡ length rest → (at + length (whole t (pieces 44 rest)) ≡ at + n) × (sets l at (whole t (pieces 44 rest)) ≡ l′)
     put-end last =
         let c = cut .whole last in
-        let k : length (whole t (pieces 44 rest)) ≡ length (one t (take e rest)) + 0 = fields-length one whole on t (pieces 44 rest) [] (take e rest) c ∙ rw (none (after t)) in
+        let k : length (whole t (pieces 44 rest)) ≡ length (one t (take e rest)) + 0 = fields-length one whole on t (pieces 44 rest) [] (take e rest) c ∙ rw (none (nextForm t)) in
         let s = fields-put one whole on t (pieces 44 rest) [] (take e rest) c l at in
-        (rw (long, is) (omega (arith, k)), s ∙ rw (none (after t), stored, is))
+        (rw (long, is) (omega (arith, k)), s ∙ rw (none (nextForm t), stored, is))

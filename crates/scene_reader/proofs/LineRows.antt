@@ -8,18 +8,18 @@ use lib.ListN.{length}
 use lib.Dec.{eqb}
 use Rattle.protocol.specs.Rows.{decide}
 use Rattle.protocol.specs.declared.check.Check.the-variants.{Passed}
-use Rattle.protocol.proofs.Hold.{passed-hold}
+use Rattle.protocol.proofs.AllPass.{passed-all-pass}
 use Rattle.scene_line.specs.declared.kind.Kind.{Kind}
 use Rattle.scene_line.specs.Line.{formsOk, lineBytes}
-use Rattle.scene_line.specs.Kind.{place, firstForm}
-use Rattle.scene_reader.specs.Reader.{Held, held, seenWith, put, lineRows}
+use Rattle.scene_line.specs.Kind.{rank, firstForm}
+use Rattle.scene_reader.specs.Reader.{ReaderState, held, seenWith, put, lineRows}
 use Rattle.scene_reader.specs.Room.{stepAs}
 
-module _ (h : Held) (k : Kind) (fs : List (List ℕ)) where
+module _ (h : ReaderState) (k : Kind) (fs : List (List ℕ)) where
   -- a line that every row passes
   pub record Passes : Type 0 where
-    pub real : place k ≡ 0 → ⊥
-    pub few : seenWith (h .last) (h .seen) (place k) ≤ 64
+    pub real : rank k ≡ 0 → ⊥
+    pub few : seenWith (h .last) (h .seen) (rank k) ≤ 64
     pub forms : formsOk true (firstForm k) fs ≡ true
     pub room : h .used + length (lineBytes (firstForm k) fs) ≤ length (h .store)
     pub put-down : stepAs h k fs ≡ held (put h k fs)
@@ -27,10 +27,10 @@ module _ (h : Held) (k : Kind) (fs : List (List ℕ)) where
   pub line-passes : decide Passed (lineRows h k fs) ≡ Passed → Passes
   unfolding lineRows
   line-passes q =
-      let z = passed-hold (lineRows h k fs) q in
+      let z = passed-all-pass (lineRows h k fs) q in
       record {
-        real = eqb-false (place k) 0 (not-true (eqb (place k) 0) (z .0));
-        few = leb-true (seenWith (h .last) (h .seen) (place k)) 64 (z .1 .0);
+        real = eqb-false (rank k) 0 (not-true (eqb (rank k) 0) (z .0));
+        few = leb-true (seenWith (h .last) (h .seen) (rank k)) 64 (z .1 .0);
         forms = z .1 .1 .0;
         room = leb-true (h .used + length (lineBytes (firstForm k) fs)) (length (h .store)) (z .1 .1 .1 .0);
         put-down = rw q;

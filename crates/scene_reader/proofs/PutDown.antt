@@ -10,23 +10,23 @@ use lib.Seq.{sets}
 use Rattle.scene_line.specs.declared.form.Form.{Form}
 use Rattle.scene_line.specs.declared.fields.FieldsFound.{FieldsFound}
 use Rattle.scene_line.specs.declared.kind.Kind.{Kind}
-use Rattle.scene_line.specs.Line.{lineBytes, lineNumbers, fieldsFound}
-use Rattle.scene_line.specs.Kind.{place, fieldCount, firstForm, follows}
+use Rattle.scene_line.specs.Line.{lineBytes, lineEntries, fieldsFound}
+use Rattle.scene_line.specs.Kind.{rank, fieldCount, firstForm, follows}
 use Rattle.scene_line.proofs.KindLaws.{place-small}
 use Rattle.scene_reader.specs.declared.state.State.{State}
-use Rattle.scene_reader.specs.declared.state.Step.the-variants.{Next}
-use Rattle.scene_reader.specs.Reader.{Held, held, seenWith, put}
-use Rattle.scene_reader.specs.Room.{holding, stepAs, limit, Ready, Kept}
+use Rattle.scene_reader.specs.declared.state.LineStep.the-variants.{Next}
+use Rattle.scene_reader.specs.Reader.{ReaderState, held, seenWith, put}
+use Rattle.scene_reader.specs.Room.{stateHolding, stepAs, limit, Ready, Kept}
 use Rattle.scene_reader.proofs.Bounds.{fits, limit-small}
 use Rattle.scene_reader.proofs.LineRows.{Passes}
 
 module _ (s : State) (st tb : List ℕ) (k : Kind) (fs : List (List ℕ)) where
   -- the state and the lists after the line, part by part, are the line put down
-  pub is-put : (p n end m : ℕ) (t : Form) (st′ tb′ : List ℕ) → p ≡ place k → n ≡ seenWith (s .last) (s .seen) p → t ≡ firstForm k
-      → m ≡ length (lineBytes (firstForm k) fs) → end ≡ s .filled + 1 + length (lineNumbers t fs)
+  pub is-put : (p n end m : ℕ) (t : Form) (st′ tb′ : List ℕ) → p ≡ rank k → n ≡ seenWith (s .last) (s .seen) p → t ≡ firstForm k
+      → m ≡ length (lineBytes (firstForm k) fs) → end ≡ s .filled + 1 + length (lineEntries t fs)
       → st′ ≡ sets st (s .used) (lineBytes t fs)
-      → tb′ ≡ sets (set (set tb p n) (s .filled) (s .used)) (s .filled + 1) (lineNumbers t fs)
-      → holding (record { last = p; seen = n; used = s .used + m; filled = end }) st′ tb′ ≡ put (holding s st tb) k fs
+      → tb′ ≡ sets (set (set tb p n) (s .filled) (s .used)) (s .filled + 1) (lineEntries t fs)
+      → stateHolding (record { last = p; seen = n; used = s .used + m; filled = end }) st′ tb′ ≡ put (stateHolding s st tb) k fs
   unfolding put
   is-put p n end m t st′ tb′ hp hn ht hm he hs hb = rw (he, hs, hb, hm, hn, hp, ht, add-one (s .filled))
 
@@ -40,34 +40,34 @@ module _ (s : State) (st tb : List ℕ) (k : Kind) (fs : List (List ℕ)) where
   counted f hf = rw hf
 
   module _ (n : ℕ) (ready : Ready s n (length st) (length tb))
-      (shape : (place k ≡ 0 → ⊥) → (length fs ≡ fieldCount k) × (follows (s .last) (place k) ≡ true))
-      (z : Passes (holding s st tb) k fs) where
+      (shape : (rank k ≡ 0 → ⊥) → (length fs ≡ fieldCount k) × (follows (s .last) (rank k) ≡ true))
+      (z : Passes (stateHolding s st tb) k fs) where
     -- the entries in use with the line stay within the limit
-    within : s .filled + 1 + length (lineNumbers (firstForm k) fs) ≤ limit (place k) (seenWith (s .last) (s .seen) (place k))
+    within : s .filled + 1 + length (lineEntries (firstForm k) fs) ≤ limit (rank k) (seenWith (s .last) (s .seen) (rank k))
     within =
         let o = shape (z .real) in
         fits (s .last) (s .seen) (s .filled) k fs (ready .known) (ready .few) (ready .fits) (z .few) (o .0) (o .1) (z .forms)
 
     -- the table has room for the line
-    pub room : (place k < length tb) × (s .filled + 1 + length (lineNumbers (firstForm k) fs) ≤ length tb)
+    pub room : (rank k < length tb) × (s .filled + 1 + length (lineEntries (firstForm k) fs) ≤ length tb)
     room =
         let least = ready .enough in
-        let small = limit-small (place k) (seenWith (s .last) (s .seen) (place k)) (place-small k) (z .few) in
+        let small = limit-small (rank k) (seenWith (s .last) (s .seen) (rank k)) (place-small k) (z .few) in
         (omega (arith, least, place-small k), omega (arith, least, small, within))
 
     -- what the line's step gives
-    pub stepped : (r : State) (st′ tb′ : List ℕ) → holding r st′ tb′ ≡ put (holding s st tb) k fs → held (holding r st′ tb′) ≡ stepAs (holding s st tb) k fs
+    pub stepped : (r : State) (st′ tb′ : List ℕ) → stateHolding r st′ tb′ ≡ put (stateHolding s st tb) k fs → held (stateHolding r st′ tb′) ≡ stepAs (stateHolding s st tb) k fs
     stepped r st′ tb′ e = rw e (sym (z .put-down))
 
     -- the state after the line is ready
-    pub kept : (r : State) (st′ tb′ : List ℕ) → length (lineBytes (firstForm k) fs) ≤ n → holding r st′ tb′ ≡ put (holding s st tb) k fs
+    pub kept : (r : State) (st′ tb′ : List ℕ) → length (lineBytes (firstForm k) fs) ≤ n → stateHolding r st′ tb′ ≡ put (stateHolding s st tb) k fs
         → Kept s n (length st) (length tb) (Next r)
     unfolding put
     kept r st′ tb′ few e =
-        let last′ : r .last ≡ place k = ap (λ (g : Held). g .last) e in
-        let seen′ : r .seen ≡ seenWith (s .last) (s .seen) (place k) = ap (λ (g : Held). g .seen) e in
-        let used′ : r .used ≡ s .used + length (lineBytes (firstForm k) fs) = ap (λ (g : Held). g .used) e in
-        let filled′ : r .filled ≡ s .filled + 1 + length (lineNumbers (firstForm k) fs) = ap (λ (g : Held). g .filled) e in
+        let last′ : r .last ≡ rank k = ap (λ (g : ReaderState). g .last) e in
+        let seen′ : r .seen ≡ seenWith (s .last) (s .seen) (rank k) = ap (λ (g : ReaderState). g .seen) e in
+        let used′ : r .used ≡ s .used + length (lineBytes (firstForm k) fs) = ap (λ (g : ReaderState). g .used) e in
+        let filled′ : r .filled ≡ s .filled + 1 + length (lineEntries (firstForm k) fs) = ap (λ (g : ReaderState). g .filled) e in
         let small = ready .small in (
           record {
             known = rw last′ (place-small k);

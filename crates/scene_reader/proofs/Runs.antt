@@ -9,18 +9,18 @@ use Rattle.protocol.specs.Rows.{Row, decide}
 use Rattle.protocol.specs.declared.error.ProtocolError.{ProtocolError}
 use Rattle.protocol.specs.declared.check.Check.{Check}
 use Rattle.protocol.specs.declared.check.Check.the-variants.{Passed, Failed}
-use Rattle.protocol.proofs.Hold.{decide-append, decide-failed, passed-hold}
+use Rattle.protocol.proofs.AllPass.{decide-append, decide-failed, passed-all-pass}
 use Rattle.scene_reader.specs.declared.state.State.{State}
-use Rattle.scene_reader.specs.declared.state.Step.{Step}
-use Rattle.scene_reader.specs.declared.state.Step.the-variants.{Next, Refused}
+use Rattle.scene_reader.specs.declared.state.LineStep.{LineStep}
+use Rattle.scene_reader.specs.declared.state.LineStep.the-variants.{Next, Refused}
 use Rattle.scene_text.specs.Text.{pieces, before, Cut}
 use Rattle.scene_line.specs.declared.kind.Kind.{Kind}
-use Rattle.scene_line.specs.Kind.{lineKind, fieldsOf}
-use Rattle.scene_reader.specs.Reader.{Held, Outcome, held, refused, heldAfter, rowsOf, linePut, linesRows, linesPut, run, start, limitRows, sceneRows, readOf}
+use Rattle.scene_line.specs.Kind.{lineKind, lineFields}
+use Rattle.scene_reader.specs.Reader.{ReaderState, ReaderOutcome, held, refused, outcomeAfter, rowsOfLine, linePut, linesRows, linesPut, run, start, sceneLimitRows, sceneRows, readOf}
 use Rattle.scene_reader.specs.Room.{stepAs, step, finish, Kept}
 use Rattle.scene_text.proofs.Pieces.{before-none}
 
-pub kept-more : (s : State) (n m a b : ℕ) → n ≤ m → (r : Step) → Kept s n a b r → Kept s m a b r
+pub kept-more : (s : State) (n m a b : ℕ) → n ≤ m → (r : LineStep) → Kept s n a b r → Kept s m a b r
 kept-more s n m a b h (Next t) k = (k .0, omega arith)
 kept-more s n m a b h (Refused x) k = k
 
@@ -37,47 +37,47 @@ rows-on ps qs e = decide-append Passed ps qs ∙ rw e
 rows-off : (ps qs : List Row) (a : ProtocolError) → decide Passed ps ≡ Failed a → decide Passed (ps ++ qs) ≡ Failed a
 rows-off ps qs a e = decide-append Passed ps qs ∙ rw e (decide-failed qs a)
 
-module _ (h : Held) (l m : List ℕ) (ls : List (List ℕ)) where
+module _ (h : ReaderState) (l m : List ℕ) (ls : List (List ℕ)) where
   -- behind a line that its rows pass the other lines run
-  pub run-passed : decide Passed (rowsOf h l) ≡ Passed → run h (l ∷ m ∷ ls) ≡ run (linePut h l) (m ∷ ls)
+  pub run-passed : decide Passed (rowsOfLine h l) ≡ Passed → run h (l ∷ m ∷ ls) ≡ run (linePut h l) (m ∷ ls)
   unfolding run linesRows linesPut
-  run-passed e = rw (rows-on (rowsOf h l) (linesRows (linePut h l) (m ∷ ls)) e)
+  run-passed e = rw (rows-on (rowsOfLine h l) (linesRows (linePut h l) (m ∷ ls)) e)
 
   -- a line that its rows refuse decides
-  pub run-failed : (a : ProtocolError) → decide Passed (rowsOf h l) ≡ Failed a → run h (l ∷ m ∷ ls) ≡ refused a
+  pub run-failed : (a : ProtocolError) → decide Passed (rowsOfLine h l) ≡ Failed a → run h (l ∷ m ∷ ls) ≡ refused a
   unfolding run linesRows
-  run-failed a e = rw (rows-off (rowsOf h l) (linesRows (linePut h l) (m ∷ ls)) a e)
+  run-failed a e = rw (rows-off (rowsOfLine h l) (linesRows (linePut h l) (m ∷ ls)) a e)
 
 -- the end of the lines
-pub run-last : (h : Held) (l : List ℕ) (P : List (List ℕ)) → P ≡ l ∷ [] → run h P ≡ finish h l
+pub run-last : (h : ReaderState) (l : List ℕ) (P : List (List ℕ)) → P ≡ l ∷ [] → run h P ≡ finish h l
 unfolding run linesRows linesPut
 run-last h l P e = rw e
 
 -- where the reader's own rows pass, scene and table are within its limits
-pub limits-within : (scene : List ℕ) (m : ℕ) → decide Passed (limitRows scene m) ≡ Passed → (length scene ≤ 1048576) × (2048 ≤ m)
-unfolding limitRows
+pub limits-within : (scene : List ℕ) (m : ℕ) → decide Passed (sceneLimitRows scene m) ≡ Passed → (length scene ≤ 1048576) × (2048 ≤ m)
+unfolding sceneLimitRows
 limits-within scene m e =
-    let z = passed-hold (limitRows scene m) e in
+    let z = passed-all-pass (sceneLimitRows scene m) e in
     (leb-true (length scene) 1048576 (z .0), leb-true 2048 m (z .1 .0))
 
 module _ (scene : List ℕ) (n m : ℕ) where
   -- then the lines decide
-  pub limits-passed : decide Passed (limitRows scene m) ≡ Passed → readOf scene n m ≡ run (start n m) (pieces 10 scene)
+  pub limits-passed : decide Passed (sceneLimitRows scene m) ≡ Passed → readOf scene n m ≡ run (start n m) (pieces 10 scene)
   unfolding readOf sceneRows run
-  limits-passed e = rw (rows-on (limitRows scene m) (linesRows (start n m) (pieces 10 scene)) e)
+  limits-passed e = rw (rows-on (sceneLimitRows scene m) (linesRows (start n m) (pieces 10 scene)) e)
 
   -- else the row that fails
-  pub limits-failed : (a : ProtocolError) → decide Passed (limitRows scene m) ≡ Failed a → readOf scene n m ≡ refused a
+  pub limits-failed : (a : ProtocolError) → decide Passed (sceneLimitRows scene m) ≡ Failed a → readOf scene n m ≡ refused a
   unfolding readOf sceneRows
-  limits-failed a e = rw (rows-off (limitRows scene m) (linesRows (start n m) (pieces 10 scene)) a e)
+  limits-failed a e = rw (rows-off (sceneLimitRows scene m) (linesRows (start n m) (pieces 10 scene)) a e)
 
 -- something is held where the rows passed
-pub held-passed : (c : Check) (h g : Held) → heldAfter c h ≡ held g → (c ≡ Passed) × (h ≡ g)
+pub held-passed : (c : Check) (h g : ReaderState) → outcomeAfter c h ≡ held g → (c ≡ Passed) × (h ≡ g)
 held-passed Passed h g e = (refl, cc)
 held-passed (Failed a) h g e = absurd (let z : _≡_ {A = ℕ} 0 1 = cc in omega arith)
 
 -- and a refusal is the one that they found
-pub refused-failed : (c : Check) (h : Held) (a : ProtocolError) → heldAfter c h ≡ refused a → c ≡ Failed a
+pub refused-failed : (c : Check) (h : ReaderState) (a : ProtocolError) → outcomeAfter c h ≡ refused a → c ≡ Failed a
 refused-failed Passed h a e = absurd (let z : _≡_ {A = ℕ} 0 1 = cc in omega arith)
 refused-failed (Failed b) h a e = cc
 
@@ -90,9 +90,9 @@ some (p ∷ ps) e = (p, ps, refl)
 pub pieces-some : (c : ℕ) (s : List ℕ) → (m : List ℕ) × (ms : List (List ℕ)) × (pieces c s ≡ m ∷ ms)
 pieces-some c s = some (pieces c s) (before-none c s)
 
-module _ (h : Held) (l s : List ℕ) (P : List (List ℕ)) (cut : P ≡ l ∷ pieces 10 s) where
+module _ (h : ReaderState) (l s : List ℕ) (P : List (List ℕ)) (cut : P ≡ l ∷ pieces 10 s) where
   -- a line that is held, and those behind it
-  pub run-on : (g : Held) → step h l ≡ held g → run h P ≡ run g (pieces 10 s)
+  pub run-on : (g : ReaderState) → step h l ≡ held g → run h P ≡ run g (pieces 10 s)
   run-on g q =
       let k = held-passed _ _ g q in
       let z = pieces-some 10 s in
@@ -105,7 +105,7 @@ module _ (h : Held) (l s : List ℕ) (P : List (List ℕ)) (cut : P ≡ l ∷ pi
       rw (cut, z .2) (run-failed h l (z .0) (z .1) a (refused-failed _ _ a q))
 
 -- a line's step by the word before its first comma and the fields behind it
-pub step-cut : (h : Held) (line w fields : List ℕ) (e : ℕ) (k : Kind) (o : Outcome) → Cut 44 line e → e < length line → w ≡ take e line → fields ≡ drop (e + 1) line
+pub step-cut : (h : ReaderState) (line w fields : List ℕ) (e : ℕ) (k : Kind) (o : ReaderOutcome) → Cut 44 line e → e < length line → w ≡ take e line → fields ≡ drop (e + 1) line
     → k ≡ lineKind (h .last) (w ∷ pieces 44 fields) → o ≡ stepAs h k (pieces 44 fields) → o ≡ step h line
-unfolding rowsOf linePut fieldsOf
+unfolding rowsOfLine linePut lineFields
 step-cut h line w fields e k o cut more hw hf hk ho = ho ∙ rw (hk, hw, hf, cut .cut more)

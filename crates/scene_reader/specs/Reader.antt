@@ -12,12 +12,12 @@ use Rattle.protocol.specs.declared.check.Check.{Check}
 use Rattle.protocol.specs.declared.check.Check.the-variants.{Passed, Failed}
 use Rattle.scene_text.specs.Text.{pieces}
 use Rattle.scene_line.specs.declared.kind.Kind.{Kind}
-use Rattle.scene_line.specs.Line.{formsOk, lineBytes, lineNumbers}
-use Rattle.scene_line.specs.Kind.{place, firstForm, lineKind, fieldsOf}
+use Rattle.scene_line.specs.Line.{formsOk, lineBytes, lineEntries}
+use Rattle.scene_line.specs.Kind.{rank, firstForm, lineKind, lineFields}
 
 -- 01: "Lines are tested one by one": what is held between two lines. The place of the last kind and how many lines of it were
 -- read, the store with its count of bytes, the table with its count of entries
-pub record Held : Type 0 where
+pub record ReaderState : Type 0 where
   pub last : ℕ
   pub seen : ℕ
   pub used : ℕ
@@ -26,102 +26,102 @@ pub record Held : Type 0 where
   pub table : List ℕ
 
 -- a refusal, or what is held
-pub data Outcome : Type 0 where
-  refused : ProtocolError → Outcome
-  held : Held → Outcome
+pub data ReaderOutcome : Type 0 where
+  refused : ProtocolError → ReaderOutcome
+  held : ReaderState → ReaderOutcome
 
 -- how many lines of kind k were read, with this one
 abbrev pub seenWith : ℕ → ℕ → ℕ → ℕ
 seenWith last seen k = cond (eqb k last) (seen + 1) 1
 
 -- 01: "The reader puts the bytes of all hexadecimal fields end to end into a lent store, the rest into a lent u32 table": a line
--- put down. Its kind's count stands at the table's entry `place k`; behind the table's entries the place of its bytes in the
+-- put down. Its kind's count stands at the table's entry `rank k`; behind the table's entries the place of its bytes in the
 -- store and its numbers; behind the store's bytes its bytes
-unfoldable pub put : Held → Kind → List (List ℕ) → Held
+unfoldable pub put : ReaderState → Kind → List (List ℕ) → ReaderState
 put h k fs = record {
-  last = place k;
-  seen = seenWith (h .last) (h .seen) (place k);
+  last = rank k;
+  seen = seenWith (h .last) (h .seen) (rank k);
   used = h .used + length (lineBytes (firstForm k) fs);
-  filled = h .filled + 1 + length (lineNumbers (firstForm k) fs);
+  filled = h .filled + 1 + length (lineEntries (firstForm k) fs);
   store = sets (h .store) (h .used) (lineBytes (firstForm k) fs);
-  table = sets (set (h .table) (place k) (seenWith (h .last) (h .seen) (place k))) (h .filled) (h .used ∷ lineNumbers (firstForm k) fs);
+  table = sets (set (h .table) (rank k) (seenWith (h .last) (h .seen) (rank k))) (h .filled) (h .used ∷ lineEntries (firstForm k) fs);
 }
 
 -- 01, "Where each refusal is raised", the line rows, of a line of kind k with the fields fs: "kind, order, field count", 2, where
 -- the kind has no place; "65th of a kind", 4; "a field's form, or just one of TYPEHASH and TYPESCRIPT empty", 3; "store too short
 -- for the field", 6
-unfoldable pub lineRows : Held → Kind → List (List ℕ) → List Row
+unfoldable pub lineRows : ReaderState → Kind → List (List ℕ) → List Row
 lineRows h k fs =
-    row (not (eqb (place k) 0)) InvalidLine
-    ∷ row (leb (seenWith (h .last) (h .seen) (place k)) 64) TooManyLines
+    row (not (eqb (rank k) 0)) InvalidLine
+    ∷ row (leb (seenWith (h .last) (h .seen) (rank k)) 64) TooManyLines
     ∷ row (formsOk true (firstForm k) fs) InvalidField
     ∷ row (leb (h .used + length (lineBytes (firstForm k) fs)) (length (h .store))) StoreTooShort
     ∷ []
 
 -- the line rows of a line of the text, by its word and its fields
-unfoldable pub rowsOf : Held → List ℕ → List Row
-rowsOf h line = lineRows h (lineKind (h .last) (pieces 44 line)) (fieldsOf (pieces 44 line))
+unfoldable pub rowsOfLine : ReaderState → List ℕ → List Row
+rowsOfLine h line = lineRows h (lineKind (h .last) (pieces 44 line)) (lineFields (pieces 44 line))
 
 -- what is held once it is put down
-unfoldable pub linePut : Held → List ℕ → Held
-linePut h line = put h (lineKind (h .last) (pieces 44 line)) (fieldsOf (pieces 44 line))
+unfoldable pub linePut : ReaderState → List ℕ → ReaderState
+linePut h line = put h (lineKind (h .last) (pieces 44 line)) (lineFields (pieces 44 line))
 
 -- 01: "ending, or a needed line missing", 2; "A needed line is missing at the line that stands in its place, or at the end of the
 -- scene": nothing follows the last line's ending, and verdicts was read
-unfoldable pub endRows : Held → List ℕ → List Row
-endRows h rest = row (eqb (length rest) 0) InvalidLine ∷ row (eqb (h .last) 7) InvalidLine ∷ []
+unfoldable pub sceneEndRows : ReaderState → List ℕ → List Row
+sceneEndRows h rest = row (eqb (length rest) 0) InvalidLine ∷ row (eqb (h .last) 7) InvalidLine ∷ []
 
 -- 01: "Lines are tested one by one, each through the line rows below in their order, a row over all fields of the line before the
 -- next row": the rows of all lines, each line's over what is held once those before it are put down; the last piece, and a text has
 -- at least one, is what follows the last ending
-unfoldable pub linesRows : Held → List (List ℕ) → List Row
-linesRows h [] = endRows h []
-linesRows h (l ∷ []) = endRows h l
-linesRows h (l ∷ m ∷ ls) = rowsOf h l ++ linesRows (linePut h l) (m ∷ ls)
+unfoldable pub linesRows : ReaderState → List (List ℕ) → List Row
+linesRows h [] = sceneEndRows h []
+linesRows h (l ∷ []) = sceneEndRows h l
+linesRows h (l ∷ m ∷ ls) = rowsOfLine h l ++ linesRows (linePut h l) (m ∷ ls)
 
 -- what is held once all lines are put down
-unfoldable pub linesPut : Held → List (List ℕ) → Held
+unfoldable pub linesPut : ReaderState → List (List ℕ) → ReaderState
 linesPut h [] = h
 linesPut h (l ∷ []) = h
 linesPut h (l ∷ m ∷ ls) = linesPut (linePut h l) (m ∷ ls)
 
 -- the refusal that rows found, or else what is held after them
-abbrev pub heldAfter : Check → Held → Outcome
-heldAfter (Failed e) h = refused e
-heldAfter Passed h = held h
+abbrev pub outcomeAfter : Check → ReaderState → ReaderOutcome
+outcomeAfter (Failed e) h = refused e
+outcomeAfter Passed h = held h
 
 -- what the lines alone give, the reader's own two rows aside
-unfoldable pub run : Held → List (List ℕ) → Outcome
-run h ls = heldAfter (decide Passed (linesRows h ls)) (linesPut h ls)
+unfoldable pub run : ReaderState → List (List ℕ) → ReaderOutcome
+run h ls = outcomeAfter (decide Passed (linesRows h ls)) (linesPut h ls)
 
 -- 01: "both are zeroed first": a store of n bytes and a table of m entries; the table's first eight entries are for the counts
 -- of the kinds
-unfoldable pub start : ℕ → ℕ → Held
+unfoldable pub start : ℕ → ℕ → ReaderState
 start n m = record { last = 0; seen = 0; used = 0; filled = 8; store = replicate n 0; table = replicate m 0 }
 
 -- 01: "reader: above 1,048,576 bytes", 1; "reader: table below 2,048 entries", 6
-unfoldable pub limitRows : List ℕ → ℕ → List Row
-limitRows scene m = row (leb (length scene) 1048576) SceneTooLong ∷ row (leb 2048 m) StoreTooShort ∷ []
+unfoldable pub sceneLimitRows : List ℕ → ℕ → List Row
+sceneLimitRows scene m = row (leb (length scene) 1048576) SceneTooLong ∷ row (leb 2048 m) StoreTooShort ∷ []
 
 -- 01, "Where each refusal is raised": the reader rows, then the line rows
 unfoldable pub sceneRows : List ℕ → ℕ → ℕ → List Row
-sceneRows scene n m = limitRows scene m ++ linesRows (start n m) (pieces 10 scene)
+sceneRows scene n m = sceneLimitRows scene m ++ linesRows (start n m) (pieces 10 scene)
 
 -- what the reader finds, with a store of n bytes and a table of m entries: the first row that fails refuses the scene
-unfoldable pub readOf : List ℕ → ℕ → ℕ → Outcome
-readOf scene n m = heldAfter (decide Passed (sceneRows scene n m)) (linesPut (start n m) (pieces 10 scene))
+unfoldable pub readOf : List ℕ → ℕ → ℕ → ReaderOutcome
+readOf scene n m = outcomeAfter (decide Passed (sceneRows scene n m)) (linesPut (start n m) (pieces 10 scene))
 
 -- what the reader answers
-abbrev pub answerOf : Outcome → Check
-answerOf (refused e) = Failed e
-answerOf (held h) = Passed
+abbrev pub readerCheck : ReaderOutcome → Check
+readerCheck (refused e) = Failed e
+readerCheck (held h) = Passed
 
 -- 01: "both are zeroed first, and are all zero after a refusal": the store of n bytes afterwards
-abbrev pub storeOf : ℕ → Outcome → List ℕ
-storeOf n (refused e) = replicate n 0
-storeOf n (held h) = h .store
+abbrev pub readerStore : ℕ → ReaderOutcome → List ℕ
+readerStore n (refused e) = replicate n 0
+readerStore n (held h) = h .store
 
 -- the table of m entries afterwards
-abbrev pub tableOf : ℕ → Outcome → List ℕ
-tableOf m (refused e) = replicate m 0
-tableOf m (held h) = h .table
+abbrev pub readerTable : ℕ → ReaderOutcome → List ℕ
+readerTable m (refused e) = replicate m 0
+readerTable m (held h) = h .table

@@ -7,30 +7,30 @@ use Rattle.protocol.specs.Rows.{decide}
 use Rattle.protocol.specs.declared.check.Check.the-variants.{Passed}
 use Rattle.scene_line.specs.declared.kind.Kind.{Kind}
 use Rattle.scene_reader.specs.declared.state.State.{State}
-use Rattle.scene_reader.specs.declared.state.Step.{Step}
-use Rattle.scene_reader.specs.declared.state.Step.the-variants.{Next, Refused}
-use Rattle.scene_reader.specs.Reader.{Held, Outcome, refused, held, heldAfter, lineRows, rowsOf, endRows, put, linePut}
+use Rattle.scene_reader.specs.declared.state.LineStep.{LineStep}
+use Rattle.scene_reader.specs.declared.state.LineStep.the-variants.{Next, Refused}
+use Rattle.scene_reader.specs.Reader.{ReaderState, ReaderOutcome, refused, held, outcomeAfter, lineRows, rowsOfLine, sceneEndRows, put, linePut}
 
 -- the state in the code, with the store and the table
-abbrev pub holding : State → List ℕ → List ℕ → Held
-holding s store table = record { last = s .last; seen = s .seen; used = s .used; filled = s .filled; store = store; table = table }
+abbrev pub stateHolding : State → List ℕ → List ℕ → ReaderState
+stateHolding s store table = record { last = s .last; seen = s .seen; used = s .used; filled = s .filled; store = store; table = table }
 
 -- what a step of the code leaves
-abbrev pub leaves : Step → List ℕ → List ℕ → Outcome
-leaves (Next s) store table = held (holding s store table)
-leaves (Refused e) store table = refused e
+abbrev pub stepOutcome : LineStep → List ℕ → List ℕ → ReaderOutcome
+stepOutcome (Next s) store table = held (stateHolding s store table)
+stepOutcome (Refused e) store table = refused e
 
 -- a line of kind k with the fields fs: its rows, and then it is put down
-abbrev pub stepAs : Held → Kind → List (List ℕ) → Outcome
-stepAs h k fs = heldAfter (decide Passed (lineRows h k fs)) (put h k fs)
+abbrev pub stepAs : ReaderState → Kind → List (List ℕ) → ReaderOutcome
+stepAs h k fs = outcomeAfter (decide Passed (lineRows h k fs)) (put h k fs)
 
 -- a line of the text
-abbrev pub step : Held → List ℕ → Outcome
-step h line = heldAfter (decide Passed (rowsOf h line)) (linePut h line)
+abbrev pub step : ReaderState → List ℕ → ReaderOutcome
+step h line = outcomeAfter (decide Passed (rowsOfLine h line)) (linePut h line)
 
 -- what follows the last line's ending
-abbrev pub finish : Held → List ℕ → Outcome
-finish h rest = heldAfter (decide Passed (endRows h rest)) h
+abbrev pub finish : ReaderState → List ℕ → ReaderOutcome
+finish h rest = outcomeAfter (decide Passed (sceneEndRows h rest)) h
 
 -- the table's entries in use after lines up to the seen-th of the kind at place last, at most: 8 counts, 6 for each line before
 -- verdicts, 18 for verdicts
@@ -47,6 +47,6 @@ pub record Ready (s : State) (n store table : ℕ) : Type 0 where
   pub fits : s .filled ≤ limit (s .last) (s .seen)
 
 -- what a step over n bytes leaves is ready
-abbrev pub Kept : State → ℕ → ℕ → ℕ → Step → Type 0
+abbrev pub Kept : State → ℕ → ℕ → ℕ → LineStep → Type 0
 Kept s n store table (Next t) = Ready t 0 store table × (t .used ≤ s .used + n)
 Kept s n store table (Refused e) = Unit {0}

@@ -8,40 +8,40 @@ mod lines; // lines.rt
 use crate::clear::clear_bytes;
 use crate::clear::clear_words;
 use crate::lines::read_lines;
-use crate::state::Step;
+use crate::state::LineStep;
 use protocol::Check;
 use protocol::ProtocolError;
 ghost use mathlib.Core.Path.{_≡_};
 ghost use lib.ListN.{length, replicate};
-ghost use Rattle.scene_reader.specs.Reader.{readOf, answerOf, storeOf, tableOf};
-ghost use Rattle.scene_reader.specs.Room.{leaves};
+ghost use Rattle.scene_reader.specs.Reader.{readOf, readerCheck, readerStore, readerTable};
+ghost use Rattle.scene_reader.specs.Room.{stepOutcome};
 
 // The limits, then the lines, into a store and a table that are all zero.
-fn read_checked(scene: &[u8], store: &mut [u8], table: &mut [u32]) -> Step
+fn read_checked(scene: &[u8], store: &mut [u8], table: &mut [u32]) -> LineStep
     requires { ⌜ (now store ≡ replicate (length (now store)) 0) × (now table ≡ replicate (length (now table)) 0) ⌝ }
-    ensures { λ r. ⌜ leaves r (now (store .exit)) (now (table .exit)) ≡ readOf (now (scene .entry)) (length (now (store .entry))) (length (now (table .entry))) ⌝ }
+    ensures { λ r. ⌜ stepOutcome r (now (store .exit)) (now (table .exit)) ≡ readOf (now (scene .entry)) (length (now (store .entry))) (length (now (table .entry))) ⌝ }
 {
     let checked = Check::Passed
         .require(scene.len() <= 1048576, ProtocolError::SceneTooLong)
         .require(2048 <= table.len(), ProtocolError::StoreTooShort);
     match checked {
-        Check::Failed(error) => Step::Refused(error),
+        Check::Failed(error) => LineStep::Refused(error),
         Check::Passed => read_lines(scene, store, table),
     }
 }
 
 // Reads a scene into the store and the table. Both are all zero after a refusal.
 pub fn read_scene(scene: &[u8], store: &mut [u8], table: &mut [u32]) -> Check
-    ensures { λ r. ⌜ r ≡ answerOf (readOf (now (scene .entry)) (length (now (store .entry))) (length (now (table .entry)))) ⌝ }
-    ensures { λ _. ⌜ now (store .exit) ≡ storeOf (length (now (store .entry))) (readOf (now (scene .entry)) (length (now (store .entry))) (length (now (table .entry)))) ⌝ }
-    ensures { λ _. ⌜ now (table .exit) ≡ tableOf (length (now (table .entry))) (readOf (now (scene .entry)) (length (now (store .entry))) (length (now (table .entry)))) ⌝ }
+    ensures { λ r. ⌜ r ≡ readerCheck (readOf (now (scene .entry)) (length (now (store .entry))) (length (now (table .entry)))) ⌝ }
+    ensures { λ _. ⌜ now (store .exit) ≡ readerStore (length (now (store .entry))) (readOf (now (scene .entry)) (length (now (store .entry))) (length (now (table .entry)))) ⌝ }
+    ensures { λ _. ⌜ now (table .exit) ≡ readerTable (length (now (table .entry))) (readOf (now (scene .entry)) (length (now (store .entry))) (length (now (table .entry)))) ⌝ }
 {
     clear_bytes(store);
     clear_words(table);
     let step = read_checked(scene, store, table);
     match step {
-        Step::Next(_) => Check::Passed,
-        Step::Refused(error) => {
+        LineStep::Next(_) => Check::Passed,
+        LineStep::Refused(error) => {
             clear_bytes(store);
             clear_words(table);
             Check::Failed(error)

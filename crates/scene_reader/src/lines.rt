@@ -1,7 +1,7 @@
 // Lines one by one.
 use crate::put::put_line;
+use crate::state::LineStep;
 use crate::state::State;
-use crate::state::Step;
 use protocol::Check;
 use protocol::ProtocolError;
 use scene_line::FieldsFound;
@@ -9,7 +9,7 @@ use scene_line::Kind;
 use scene_line::check_fields;
 use scene_line::first_form;
 use scene_line::line_kind;
-use scene_line::place_of;
+use scene_line::rank_of;
 use scene_text::find;
 use scene_text::head;
 use scene_text::tail;
@@ -21,10 +21,10 @@ ghost use lib.ListN.{length, replicate};
 ghost use Rattle.protocol.specs.Rows.{decide};
 ghost use Rattle.protocol.specs.declared.check.Check.the-variants.{Passed};
 ghost use Rattle.scene_text.specs.Text.{pieces};
-ghost use Rattle.scene_line.specs.Kind.{place, fieldCount, firstForm, follows};
+ghost use Rattle.scene_line.specs.Kind.{rank, fieldCount, firstForm, follows};
 ghost use Rattle.scene_line.specs.Line.{fieldsFound};
 ghost use Rattle.scene_reader.specs.Reader.{seenWith, lineRows, run, start};
-ghost use Rattle.scene_reader.specs.Room.{stepAs, step, finish, Ready, Kept, holding, leaves};
+ghost use Rattle.scene_reader.specs.Room.{stepAs, step, finish, Ready, Kept, stateHolding, stepOutcome};
 
 // How many lines of the kind at place k were read, with this one.
 pub(crate) fn seen_with(last: usize, seen: usize, k: usize) -> usize
@@ -40,9 +40,9 @@ pub(crate) fn seen_with(last: usize, seen: usize, k: usize) -> usize
 // What the rows of a line of kind k find, its fields and a store of room bytes being as found.
 fn check_line(k: Kind, s: State, found: FieldsFound, room: usize) -> Check
     requires { ⌜ (s .seen ≤ 64) × (s .used + found .bytes ≤ 1048576) ⌝ }
-    ensures { λ r. ⌜ ((fs : List (List ℕ)) (store table : List ℕ) → found ≡ fieldsFound (firstForm k) fs → room ≡ length store → r ≡ decide Passed (lineRows (holding s store table) k fs)) ⌝ }
+    ensures { λ r. ⌜ ((fs : List (List ℕ)) (store table : List ℕ) → found ≡ fieldsFound (firstForm k) fs → room ≡ length store → r ≡ decide Passed (lineRows (stateHolding s store table) k fs)) ⌝ }
 {
-    let p = place_of(k);
+    let p = rank_of(k);
     let seen = seen_with(s.last, s.seen, p);
     Check::Passed
         .require(p != 0, ProtocolError::InvalidLine)
@@ -52,28 +52,28 @@ fn check_line(k: Kind, s: State, found: FieldsFound, room: usize) -> Check
 }
 
 // A line of kind k: its rows, and then it is put down.
-fn read_as(k: Kind, fields: &[u8], s: State, store: &mut [u8], table: &mut [u32]) -> Step
+fn read_as(k: Kind, fields: &[u8], s: State, store: &mut [u8], table: &mut [u32]) -> LineStep
     requires { ⌜ Ready s (length (now fields)) (length (now store)) (length (now table)) ⌝ }
-    requires { ⌜ ((place k ≡ 0 → ⊥) → (length (pieces 44 (now fields)) ≡ fieldCount k) × (follows (s .last) (place k) ≡ true)) ⌝ }
-    ensures { λ r. ⌜ leaves r (now (store .exit)) (now (table .exit)) ≡ stepAs (holding s (now (store .entry)) (now (table .entry))) k (pieces 44 (now (fields .entry))) ⌝ }
+    requires { ⌜ ((rank k ≡ 0 → ⊥) → (length (pieces 44 (now fields)) ≡ fieldCount k) × (follows (s .last) (rank k) ≡ true)) ⌝ }
+    ensures { λ r. ⌜ stepOutcome r (now (store .exit)) (now (table .exit)) ≡ stepAs (stateHolding s (now (store .entry)) (now (table .entry))) k (pieces 44 (now (fields .entry))) ⌝ }
     ensures { λ r. ⌜ Kept s (length (now (fields .entry))) (length (now (store .entry))) (length (now (table .entry))) r ⌝ }
 {
     let found = check_fields(first_form(k), fields);
     match check_line(k, s, found, store.len()) {
-        Check::Failed(error) => Step::Refused(error),
-        Check::Passed => Step::Next(put_line(k, fields, s, found.bytes, store, table)),
+        Check::Failed(error) => LineStep::Refused(error),
+        Check::Passed => LineStep::Next(put_line(k, fields, s, found.bytes, store, table)),
     }
 }
 
 // One line.
-fn read_line(line: &[u8], s: State, store: &mut [u8], table: &mut [u32]) -> Step
+fn read_line(line: &[u8], s: State, store: &mut [u8], table: &mut [u32]) -> LineStep
     requires { ⌜ Ready s (length (now line)) (length (now store)) (length (now table)) ⌝ }
-    ensures { λ r. ⌜ leaves r (now (store .exit)) (now (table .exit)) ≡ step (holding s (now (store .entry)) (now (table .entry))) (now (line .entry)) ⌝ }
+    ensures { λ r. ⌜ stepOutcome r (now (store .exit)) (now (table .exit)) ≡ step (stateHolding s (now (store .entry)) (now (table .entry))) (now (line .entry)) ⌝ }
     ensures { λ r. ⌜ Kept s (length (now (line .entry))) (length (now (store .entry))) (length (now (table .entry))) r ⌝ }
 {
     let e = find(line, 44);
     if e == line.len() {
-        return Step::Refused(ProtocolError::InvalidLine);
+        return LineStep::Refused(ProtocolError::InvalidLine);
     }
     let fields = tail(line, e);
     let k = line_kind(head(line, e), fields, s.last);
@@ -81,23 +81,23 @@ fn read_line(line: &[u8], s: State, store: &mut [u8], table: &mut [u32]) -> Step
 }
 
 // The end of a scene: what follows the last line's ending.
-fn finish_at(s: State, rest: &[u8]) -> Step
-    ensures { λ r. ⌜ ((store table : List ℕ) → leaves r store table ≡ finish (holding s store table) (now (rest .entry))) ⌝ }
+fn finish_at(s: State, rest: &[u8]) -> LineStep
+    ensures { λ r. ⌜ ((store table : List ℕ) → stepOutcome r store table ≡ finish (stateHolding s store table) (now (rest .entry))) ⌝ }
 {
     let checked = Check::Passed
         .require(rest.len() == 0, ProtocolError::InvalidLine)
         .require(s.last == 7, ProtocolError::InvalidLine);
     match checked {
-        Check::Failed(error) => Step::Refused(error),
-        Check::Passed => Step::Next(s),
+        Check::Failed(error) => LineStep::Refused(error),
+        Check::Passed => LineStep::Next(s),
     }
 }
 
 // All lines, into a store and a table that are all zero.
-pub(crate) fn read_lines(scene: &[u8], store: &mut [u8], table: &mut [u32]) -> Step
+pub(crate) fn read_lines(scene: &[u8], store: &mut [u8], table: &mut [u32]) -> LineStep
     requires { ⌜ (length (now scene) ≤ 1048576) × (2048 ≤ length (now table)) ⌝ }
     requires { ⌜ (now store ≡ replicate (length (now store)) 0) × (now table ≡ replicate (length (now table)) 0) ⌝ }
-    ensures { λ r. ⌜ leaves r (now (store .exit)) (now (table .exit)) ≡ run (start (length (now (store .entry))) (length (now (table .entry)))) (pieces 10 (now (scene .entry))) ⌝ }
+    ensures { λ r. ⌜ stepOutcome r (now (store .exit)) (now (table .exit)) ≡ run (start (length (now (store .entry))) (length (now (table .entry)))) (pieces 10 (now (scene .entry))) ⌝ }
 {
     let mut rest = scene;
     let mut s = State {
@@ -112,7 +112,7 @@ pub(crate) fn read_lines(scene: &[u8], store: &mut [u8], table: &mut [u32]) -> S
             return finish_at(s, rest);
         }
         let step = read_line(head(rest, e), s, store, table);
-        let Step::Next(after) = step else {
+        let LineStep::Next(after) = step else {
             return step;
         };
         s = after;

@@ -1,6 +1,6 @@
 // The numbers of fields, put into the table.
 use scene_line::Form;
-use scene_text::Number;
+use scene_text::Decimal;
 use scene_text::hex_value;
 use scene_text::since;
 ghost use mathlib.Core.Path.{_≡_};
@@ -9,7 +9,7 @@ ghost use mathlib.Core.List.{_∷_, map};
 ghost use lib.ListN.{length, getD};
 ghost use lib.Seq.{sets};
 ghost use Rattle.scene_text.specs.Text.{hexVal, sinceOf};
-ghost use Rattle.scene_line.specs.Line.{halves, fieldNumbers};
+ghost use Rattle.scene_line.specs.Line.{sinceHalves, fieldEntries};
 
 // The value of the first digit of f.
 fn digit(f: &[u8]) -> u8
@@ -24,14 +24,14 @@ fn digit(f: &[u8]) -> u8
 // Puts the halves of the number that f is into the table at `at`.
 fn put_since(f: &[u8], table: &mut [u32], at: usize)
     requires { ⌜ at + 2 ≤ length (now table) ⌝ }
-    ensures { λ _. ⌜ now (table .exit) ≡ sets (now (table .entry)) at (halves (sinceOf (now (f .entry)))) ⌝ }
+    ensures { λ _. ⌜ now (table .exit) ≡ sets (now (table .entry)) at (sinceHalves (sinceOf (now (f .entry)))) ⌝ }
 {
     match since(f) {
-        Number::Is(v) => {
+        Decimal::Value(v) => {
             table[at] = (v % 4294967296) as u32;
             table[at + 1] = (v / 4294967296) as u32;
         }
-        Number::Bad => {
+        Decimal::Invalid => {
             table[at] = 0;
             table[at + 1] = 0;
         }
@@ -54,10 +54,10 @@ fn put_digits(f: &[u8], table: &mut [u32], at: usize)
 
 // Puts the numbers of a field into the table from at on, and says how many they are.
 pub(crate) fn put_number(t: Form, f: &[u8], table: &mut [u32], at: usize) -> usize
-    requires { ⌜ at + length (fieldNumbers t (now f)) ≤ length (now table) ⌝ }
+    requires { ⌜ at + length (fieldEntries t (now f)) ≤ length (now table) ⌝ }
     requires { ⌜ length (now f) ≤ 1048576 ⌝ }
-    ensures { λ r. ⌜ r ≡ length (fieldNumbers t (now (f .entry))) ⌝ }
-    ensures { λ _. ⌜ now (table .exit) ≡ sets (now (table .entry)) at (fieldNumbers t (now (f .entry))) ⌝ }
+    ensures { λ r. ⌜ r ≡ length (fieldEntries t (now (f .entry))) ⌝ }
+    ensures { λ _. ⌜ now (table .exit) ≡ sets (now (table .entry)) at (fieldEntries t (now (f .entry))) ⌝ }
 {
     match t {
         Form::Group => {

@@ -7,7 +7,7 @@ use scene_line::Kind;
 use scene_line::first_form;
 use scene_line::hex_form;
 use scene_line::next_form;
-use scene_line::place_of;
+use scene_line::rank_of;
 use scene_text::decode;
 use scene_text::find;
 use scene_text::head;
@@ -17,10 +17,10 @@ ghost use Prim.Native.Nat.{_+_, _<_, _≤_};
 ghost use lib.ListN.{length};
 ghost use lib.Seq.{sets};
 ghost use Rattle.scene_text.specs.Text.{pieces};
-ghost use Rattle.scene_line.specs.Line.{fieldBytes, lineBytes, lineNumbers};
-ghost use Rattle.scene_line.specs.Kind.{place, firstForm};
+ghost use Rattle.scene_line.specs.Line.{fieldBytes, lineBytes, lineEntries};
+ghost use Rattle.scene_line.specs.Kind.{rank, firstForm};
 ghost use Rattle.scene_reader.specs.Reader.{put};
-ghost use Rattle.scene_reader.specs.Room.{holding};
+ghost use Rattle.scene_reader.specs.Room.{stateHolding};
 
 // Puts the bytes of a field into the store from at on, and says how many they are.
 fn put_bytes(t: Form, f: &[u8], store: &mut [u8], at: usize) -> usize
@@ -45,10 +45,10 @@ fn put_fields(
     filled: usize,
 ) -> usize
     requires { ⌜ (length (now fields) ≤ 1048576) × (used ≤ 1048576) ⌝ }
-    requires { ⌜ filled + length (lineNumbers first (pieces 44 (now fields))) ≤ length (now table) ⌝ }
-    ensures { λ r. ⌜ r ≡ filled + length (lineNumbers first (pieces 44 (now (fields .entry)))) ⌝ }
+    requires { ⌜ filled + length (lineEntries first (pieces 44 (now fields))) ≤ length (now table) ⌝ }
+    ensures { λ r. ⌜ r ≡ filled + length (lineEntries first (pieces 44 (now (fields .entry)))) ⌝ }
     ensures { λ _. ⌜ now (store .exit) ≡ sets (now (store .entry)) used (lineBytes first (pieces 44 (now (fields .entry)))) ⌝ }
-    ensures { λ _. ⌜ now (table .exit) ≡ sets (now (table .entry)) filled (lineNumbers first (pieces 44 (now (fields .entry)))) ⌝ }
+    ensures { λ _. ⌜ now (table .exit) ≡ sets (now (table .entry)) filled (lineEntries first (pieces 44 (now (fields .entry)))) ⌝ }
 {
     let mut rest = fields;
     let mut t = first;
@@ -80,10 +80,10 @@ pub(crate) fn put_line(
     requires { ⌜ n ≡ length (lineBytes (firstForm k) (pieces 44 (now fields))) ⌝ }
     requires { ⌜ s .used + n ≤ length (now store) ⌝ }
     requires { ⌜ (length (now fields) ≤ 1048576) × (s .used ≤ 1048576) × (s .seen ≤ 64) ⌝ }
-    requires { ⌜ (place k < length (now table)) × (s .filled + 1 + length (lineNumbers (firstForm k) (pieces 44 (now fields))) ≤ length (now table)) ⌝ }
-    ensures { λ r. ⌜ holding r (now (store .exit)) (now (table .exit)) ≡ put (holding s (now (store .entry)) (now (table .entry))) k (pieces 44 (now (fields .entry))) ⌝ }
+    requires { ⌜ (rank k < length (now table)) × (s .filled + 1 + length (lineEntries (firstForm k) (pieces 44 (now fields))) ≤ length (now table)) ⌝ }
+    ensures { λ r. ⌜ stateHolding r (now (store .exit)) (now (table .exit)) ≡ put (stateHolding s (now (store .entry)) (now (table .entry))) k (pieces 44 (now (fields .entry))) ⌝ }
 {
-    let p = place_of(k);
+    let p = rank_of(k);
     let used = s.used;
     let filled = s.filled;
     let seen = seen_with(s.last, s.seen, p);

@@ -11,7 +11,7 @@ pub(crate) struct State {
 }
 
 // What one line gives.
-pub(crate) enum Step {
+pub(crate) enum LineStep {
     Next(State),
     Refused(ProtocolError),
 }

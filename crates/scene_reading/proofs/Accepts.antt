@@ -9,10 +9,10 @@ use native.Mathlib.Omega.{arith}
 use lib.ListN.{length, replicate, length-append, length-replicate}
 use Rattle.octets.specs.Lists.{joined}
 use Rattle.scene_text.specs.Text.{pieces}
-use Rattle.scene_line.specs.Kind.{place}
-use Rattle.scene_reader.specs.Reader.{Held, held, seenWith, run, start}
+use Rattle.scene_line.specs.Kind.{rank}
+use Rattle.scene_reader.specs.Reader.{ReaderState, held, seenWith, run, start}
 use Rattle.scene_table.specs.Valid.{every}
-use Rattle.scene_reading.specs.Lines.{Passes, kindOfLine, countOk, formOk, bytesOfLine}
+use Rattle.scene_reading.specs.Lines.{LinesAccepted, kindOfLine, countOk, formOk, bytesOfLine}
 use Rattle.scene_table.proofs.Truth.{and-both, both-and}
 use Rattle.scene_reading.proofs.Order.{Order}
 use Rattle.scene_reading.proofs.Ordered.{order-kinds, kinds-order}
@@ -29,7 +29,7 @@ together : (ls : List (List ℕ)) (last seen used size : ℕ) → used ≤ size 
 unfolding LinesPass Order every joined
 together [] last seen used size h p = record { order = p; counts = refl; forms = refl; room = omega arith }
 together (l ∷ ls) last seen used size h p =
-    let t = together ls (place (kindOfLine l)) (seenWith last seen (place (kindOfLine l))) (used + length (bytesOfLine l)) size (p .0 .room) (p .1) in
+    let t = together ls (rank (kindOfLine l)) (seenWith last seen (rank (kindOfLine l))) (used + length (bytesOfLine l)) size (p .0 .room) (p .1) in
     let n : length (bytesOfLine l ++ joined (map bytesOfLine ls)) ≡ length (bytesOfLine l) + length (joined (map bytesOfLine ls)) = length-append (bytesOfLine l) _ in
     record {
       order = (p .0 .order, (p .0 .few, t .order));
@@ -46,13 +46,13 @@ apart (l ∷ ls) last seen used size t =
     let c = and-both (countOk l) _ (t .counts) in
     let f = and-both (formOk l) _ (t .forms) in (
       record { order = t .order .0; count = c .0; few = t .order .1 .0; form = f .0; room = omega (arith, t .room) },
-      apart ls (place (kindOfLine l)) (seenWith last seen (place (kindOfLine l))) (used + length (bytesOfLine l)) size
+      apart ls (rank (kindOfLine l)) (seenWith last seen (rank (kindOfLine l))) (used + length (bytesOfLine l)) size
           (record { order = t .order .1 .1; counts = c .1; forms = f .1; room = omega (arith, t .room) }),
     )
 
 module _ (text : List ℕ) (n m : ℕ) where
   -- a text that the run accepts is refused by no row
-  pub accepted-passes : (g : Held) → run (start n m) (pieces 10 text) ≡ held g → Passes text n
+  pub accepted-passes : (g : ReaderState) → run (start n m) (pieces 10 text) ≡ held g → LinesAccepted text n
   unfolding start
   accepted-passes g e =
       let r : Ran (start n m) g (pieces 10 text) = run-text text (start n m) g e in
@@ -76,7 +76,7 @@ module _ (text : List ℕ) (n m : ℕ) where
       }
 
   -- a text that no row refuses is accepted, and its lines are put down
-  pub passes-run : (p : Passes text n) → run (start n m) (pieces 10 text) ≡ held (putLines (start n m) (p .lines))
+  pub passes-run : (p : LinesAccepted text n) → run (start n m) (pieces 10 text) ≡ held (putLines (start n m) (p .lines))
   unfolding start
   passes-run p =
       let order : Order 0 0 (map kindOfLine (p .lines)) =
@@ -87,5 +87,5 @@ module _ (text : List ℕ) (n m : ℕ) where
       (apart (p .lines) 0 0 0 (length (replicate n 0))
       (record { order = order; counts = p .counted; forms = p .formed; room = rw (zero-add, length-replicate {A = ℕ} n 0) (p .room) })))
 
-  pub passes-accepted : Passes text n → (g : Held) × (run (start n m) (pieces 10 text) ≡ held g)
+  pub passes-accepted : LinesAccepted text n → (g : ReaderState) × (run (start n m) (pieces 10 text) ≡ held g)
   passes-accepted p = (putLines (start n m) (p .lines), passes-run p)

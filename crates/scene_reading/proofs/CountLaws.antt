@@ -10,7 +10,7 @@ use lib.ListN.{set, replicate}
 use lib.Seq.{sets, set-set, set-comm}
 use Rattle.scene_line.specs.declared.kind.Kind.{Kind}
 use Rattle.scene_line.specs.declared.kind.Kind.the-variants.{Input, Output, Dep, Witness, Verdicts}
-use Rattle.scene_line.specs.Kind.{place}
+use Rattle.scene_line.specs.Kind.{rank}
 use Rattle.scene_reader.specs.Reader.{seenWith}
 use Rattle.scene_reading.specs.Lines.{times, kindsOf}
 use Rattle.scene_line.proofs.KindLaws.{place-small}
@@ -20,47 +20,47 @@ use Rattle.scene_reading.proofs.Ordered.{bodyKinds, body-right}
 unfoldable pub counted : List ℕ → ℕ → ℕ → List Kind → List ℕ
 counted table last seen [] = table
 counted table last seen (k ∷ ks) =
-    counted (set table (place k) (seenWith last seen (place k))) (place k) (seenWith last seen (place k)) ks
+    counted (set table (rank k) (seenWith last seen (rank k))) (rank k) (seenWith last seen (rank k)) ks
 
 -- a store before a run of stores
 set-sets : (vs t : List ℕ) (i x at : ℕ) → i < at → set (sets t at vs) i x ≡ sets (set t i x) at vs
 set-sets [] t i x at h = refl
 set-sets (v ∷ vs) t i x at h = set-sets vs (set t at v) i x (suc at) (omega arith) ∙ rw (set-comm t at i v x (λ e. omega arith))
 
--- counts and a row behind them, in either order
+-- counts and a record behind them, in either order
 pub counted-behind : (ks : List Kind) (t : List ℕ) (last seen at : ℕ) (vs : List ℕ) → 8 ≤ at → counted (sets t at vs) last seen ks ≡ sets (counted t last seen ks) at vs
 unfolding counted
 counted-behind [] t last seen at vs h = refl
 counted-behind (k ∷ ks) t last seen at vs h =
-    let p : place k < 8 = place-small k in
-    let s = seenWith last seen (place k) in
-    rw (set-sets vs t (place k) s at (omega arith)) (counted-behind ks (set t (place k) s) (place k) s at vs h)
+    let p : rank k < 8 = place-small k in
+    let s = seenWith last seen (rank k) in
+    rw (set-sets vs t (rank k) s at (omega arith)) (counted-behind ks (set t (rank k) s) (rank k) s at vs h)
 
 -- a run of n lines of a kind, before others
 module _ (k : Kind) (ks : List Kind) (result : List ℕ) where
-  one-more : (n last seen s : ℕ) (t : List ℕ) → seenWith last seen (place k) ≡ s
-      → counted t last seen (times (suc n) k ++ ks) ≡ counted (set t (place k) s) (place k) s (times n k ++ ks)
+  one-more : (n last seen s : ℕ) (t : List ℕ) → seenWith last seen (rank k) ≡ s
+      → counted t last seen (times (suc n) k ++ ks) ≡ counted (set t (rank k) s) (rank k) s (times n k ++ ks)
   unfolding counted times
-  one-more n last seen s t e = ap (λ (x : ℕ). counted (set t (place k) x) (place k) x (times n k ++ ks)) e
+  one-more n last seen s t e = ap (λ (x : ℕ). counted (set t (rank k) x) (rank k) x (times n k ++ ks)) e
 
-  counted-same : (n seen : ℕ) (t : List ℕ) → set t (place k) seen ≡ t → ((l s : ℕ) → l ≤ place k → counted (set t (place k) (seen + n)) l s ks ≡ result)
-      → counted t (place k) seen (times n k ++ ks) ≡ result
+  counted-same : (n seen : ℕ) (t : List ℕ) → set t (rank k) seen ≡ t → ((l s : ℕ) → l ≤ rank k → counted (set t (rank k) (seen + n)) l s ks ≡ result)
+      → counted t (rank k) seen (times n k ++ ks) ≡ result
   unfolding counted times
-  counted-same zero seen t e next = rw (add-zero seen, e) at (next (place k) seen (le-refl (place k)))
+  counted-same zero seen t e next = rw (add-zero seen, e) at (next (rank k) seen (le-refl (rank k)))
   counted-same (suc n) seen t e next =
       let m : seen + 1 + n ≡ seen + suc n = omega arith in
-      one-more n (place k) seen (seen + 1) t (rw (eq-eqb (place k) (place k) refl))
-      ∙ (counted-same n (seen + 1) (set t (place k) (seen + 1)) (set-set t (place k) (seen + 1) (seen + 1))
-      (λ l s h. rw (set-set t (place k) (seen + 1) (seen + 1 + n), m) (next l s h)))
+      one-more n (rank k) seen (seen + 1) t (rw (eq-eqb (rank k) (rank k) refl))
+      ∙ (counted-same n (seen + 1) (set t (rank k) (seen + 1)) (set-set t (rank k) (seen + 1) (seen + 1))
+      (λ l s h. rw (set-set t (rank k) (seen + 1) (seen + 1 + n), m) (next l s h)))
 
-  counted-run : (n last seen : ℕ) (t : List ℕ) → last < place k → set t (place k) 0 ≡ t → ((l s : ℕ) → l ≤ place k → counted (set t (place k) n) l s ks ≡ result)
+  counted-run : (n last seen : ℕ) (t : List ℕ) → last < rank k → set t (rank k) 0 ≡ t → ((l s : ℕ) → l ≤ rank k → counted (set t (rank k) n) l s ks ≡ result)
       → counted t last seen (times n k ++ ks) ≡ result
   unfolding counted times
   counted-run zero last seen t h e next = rw e at (next last seen (omega arith))
   counted-run (suc n) last seen t h e next =
       let m : 1 + n ≡ suc n = omega arith in
-      one-more n last seen 1 t (rw (ne-eqb (place k) last (λ q. omega arith)))
-      ∙ (counted-same n 1 (set t (place k) 1) (set-set t (place k) 1 1) (λ l s h. rw (set-set t (place k) 1 (1 + n), m) (next l s h)))
+      one-more n last seen 1 t (rw (ne-eqb (rank k) last (λ q. omega arith)))
+      ∙ (counted-same n 1 (set t (rank k) 1) (set-set t (rank k) 1 1) (λ l s h. rw (set-set t (rank k) 1 (1 + n), m) (next l s h)))
 
 -- the counts of a whole text
 module _ (a b c d : ℕ) (r : List ℕ) where

@@ -11,12 +11,12 @@ use Rattle.octets.specs.Lists.{joined}
 use Rattle.octets.proofs.Stores.{sets-append, sets-front}
 use Rattle.scene_text.specs.Text.{pieces}
 use Rattle.scene_line.specs.declared.kind.Kind.{Kind}
-use Rattle.scene_line.specs.Kind.{place, firstForm}
-use Rattle.scene_line.specs.Line.{lineNumbers}
-use Rattle.scene_reader.specs.Reader.{Held, held, seenWith, put, run, start}
-use Rattle.scene_table.specs.Scene.{Scene, linesOf, countsOf, rowsFrom, sceneBytes, sceneNumbers, padded, storeOf, tableOf}
-use Rattle.scene_reading.specs.Lines.{Passes, kindsOf, kindOfLine, fieldsOfLine, bytesOfLine}
-use Rattle.scene_reading.specs.Reading.{readingOf}
+use Rattle.scene_line.specs.Kind.{rank, firstForm}
+use Rattle.scene_line.specs.Line.{lineEntries}
+use Rattle.scene_reader.specs.Reader.{ReaderState, held, seenWith, put, run, start}
+use Rattle.scene_table.specs.Scene.{Scene, linesOf, countsOf, recordsFrom, sceneBytes, sceneNumbers, padded, sceneStore, sceneTable}
+use Rattle.scene_reading.specs.Lines.{LinesAccepted, kindsOf, kindOfLine, fieldsOfLine, bytesOfLine}
+use Rattle.scene_reading.specs.Reading.{sceneOf}
 use Rattle.scene_table.proofs.SceneBack.{sayable}
 use Rattle.scene_reading.proofs.Run.{putLine, putLines, held-same}
 use Rattle.scene_reading.proofs.Accepts.{passes-run}
@@ -28,7 +28,7 @@ use Rattle.scene_reading.proofs.CountLaws.{counted, counted-behind, cou
 
 -- ---- what the lines put down, one behind another
 
-module _ (h : Held) (l : List ℕ) where
+module _ (h : ReaderState) (l : List ℕ) where
   store-line : (bs : List ℕ) → sets (putLine h l .store) (putLine h l .used) bs ≡ sets (h .store) (h .used) (bytesOfLine l ++ bs)
   unfolding putLine put bytesOfLine
   store-line bs = sets-append (h .store) (h .used) (bytesOfLine l) bs _ refl
@@ -39,32 +39,32 @@ module _ (h : Held) (l : List ℕ) where
   unfolding putLine put counted rowOf lineIn
   table-line ks rs e =
       let k = kindOfLine l in
-      let s = seenWith (h .last) (h .seen) (place k) in
-      let t = set (h .table) (place k) s in
-      let v = h .used ∷ lineNumbers (firstForm k) (fieldsOfLine l) in
-      ap (λ (x : List ℕ). sets x (h .filled + 1 + length (lineNumbers (firstForm k) (fieldsOfLine l))) rs) (counted-behind ks t (place k) s (h .filled) v e)
-      ∙ sets-append (counted t (place k) s ks) (h .filled) v rs _ (omega arith)
+      let s = seenWith (h .last) (h .seen) (rank k) in
+      let t = set (h .table) (rank k) s in
+      let v = h .used ∷ lineEntries (firstForm k) (fieldsOfLine l) in
+      ap (λ (x : List ℕ). sets x (h .filled + 1 + length (lineEntries (firstForm k) (fieldsOfLine l))) rs) (counted-behind ks t (rank k) s (h .filled) v e)
+      ∙ sets-append (counted t (rank k) s ks) (h .filled) v rs _ (omega arith)
 
   behind-counts : 8 ≤ h .filled → 8 ≤ putLine h l .filled
   unfolding putLine put
   behind-counts e = omega arith
 
-store-lines : (ls : List (List ℕ)) (h : Held) → putLines h ls .store ≡ sets (h .store) (h .used) (joined (map bytesOfLine ls))
+store-lines : (ls : List (List ℕ)) (h : ReaderState) → putLines h ls .store ≡ sets (h .store) (h .used) (joined (map bytesOfLine ls))
 unfolding putLines joined
 store-lines [] h = refl
 store-lines (l ∷ ls) h = store-lines ls (putLine h l) ∙ store-line h l (joined (map bytesOfLine ls))
 
-used-line : (h : Held) (l : List ℕ) → putLine h l .used ≡ h .used + length (rowOf l .bytes)
+used-line : (h : ReaderState) (l : List ℕ) → putLine h l .used ≡ h .used + length (rowOf l .bytes)
 unfolding putLine put rowOf lineIn
 used-line h l = refl
 
-table-lines : (ls : List (List ℕ)) (h : Held) → 8 ≤ h .filled
-    → putLines h ls .table ≡ sets (counted (h .table) (h .last) (h .seen) (map kindOfLine ls)) (h .filled) (rowsFrom (h .used) (map rowOf ls))
-unfolding putLines counted rowsFrom
+table-lines : (ls : List (List ℕ)) (h : ReaderState) → 8 ≤ h .filled
+    → putLines h ls .table ≡ sets (counted (h .table) (h .last) (h .seen) (map kindOfLine ls)) (h .filled) (recordsFrom (h .used) (map rowOf ls))
+unfolding putLines counted recordsFrom
 table-lines [] h e = refl
 table-lines (l ∷ ls) h e =
     table-lines ls (putLine h l) (behind-counts h l e)
-    ∙ (table-line h l (map kindOfLine ls) (rowsFrom (putLine h l .used) (map rowOf ls)) e ∙ rw (used-line h l))
+    ∙ (table-line h l (map kindOfLine ls) (recordsFrom (putLine h l .used) (map rowOf ls)) e ∙ rw (used-line h l))
 
 -- ---- zeros behind
 
@@ -79,10 +79,10 @@ front-padded xs n h = sets-front (replicate n 0) xs (rw (length-replicate {A = �
 
 -- ---- a whole text
 
-module _ (text : List ℕ) (n : ℕ) (p : Passes text n) where
+module _ (text : List ℕ) (n : ℕ) (p : LinesAccepted text n) where
   -- what the text says
   scene : Scene
-  scene = readingOf (p .lines)
+  scene = sceneOf (p .lines)
 
   -- the lines are those of the scene that they say
   said : Rows (p .lines) (kindsOf (length (scene .inputs)) (length (scene .outputs)) (length (scene .deps)) (length (scene .witnesses))) (linesOf scene)
@@ -95,19 +95,19 @@ module _ (text : List ℕ) (n : ℕ) (p : Passes text n) where
   bytes-said = rw (row-bytes (p .lines), said .rows)
 
   -- and their rows
-  numbers-said : countsOf scene ++ rowsFrom 0 (map rowOf (p .lines)) ≡ sceneNumbers scene
+  numbers-said : countsOf scene ++ recordsFrom 0 (map rowOf (p .lines)) ≡ sceneNumbers scene
   unfolding sceneNumbers
   numbers-said = rw (said .rows)
 
   -- the store holds the scene's bytes
-  pub bytes-fit : length (sceneBytes (readingOf (p .lines))) ≤ n
+  pub bytes-fit : length (sceneBytes (sceneOf (p .lines))) ≤ n
   unfolding scene
   bytes-fit = rw bytes-said at (p .room)
 
   module _ (m : ℕ) where
     -- the store that they leave
-    store-left : putLines (start n m) (p .lines) .store ≡ storeOf (readingOf (p .lines)) n
-    unfolding start storeOf scene
+    store-left : putLines (start n m) (p .lines) .store ≡ sceneStore (sceneOf (p .lines)) n
+    unfolding start sceneStore scene
     store-left = store-lines (p .lines) (start n m) ∙ rw bytes-said (front-padded (sceneBytes scene) n bytes-fit)
 
     -- the counts that they leave in the table
@@ -121,18 +121,18 @@ module _ (text : List ℕ) (n : ℕ) (p : Passes text n) where
     counts-room h = let e = ap length numbers-said in omega arith
 
     -- the table that they leave
-    table-left : length (sceneNumbers scene) ≤ m → putLines (start n m) (p .lines) .table ≡ tableOf scene m
-    unfolding start tableOf countsOf
+    table-left : length (sceneNumbers scene) ≤ m → putLines (start n m) (p .lines) .table ≡ sceneTable scene m
+    unfolding start sceneTable countsOf
     table-left h =
         table-lines (p .lines) (start n m) (omega arith)
-        ∙ (ap (λ (t : List ℕ). sets t 8 (rowsFrom 0 (map rowOf (p .lines)))) (counts-left (counts-room h))
-        ∙ (sets-append (replicate m 0) 0 (countsOf scene) (rowsFrom 0 (map rowOf (p .lines))) 8 refl
+        ∙ (ap (λ (t : List ℕ). sets t 8 (recordsFrom 0 (map rowOf (p .lines)))) (counts-left (counts-room h))
+        ∙ (sets-append (replicate m 0) 0 (countsOf scene) (recordsFrom 0 (map rowOf (p .lines))) 8 refl
         ∙ rw numbers-said (front-padded (sceneNumbers scene) m h)))
 
     -- what the run holds at the end
-    pub passes-leaves : (g : Held) → run (start n m) (pieces 10 text) ≡ held g
-        → (g .store ≡ storeOf (readingOf (p .lines)) n)
-        × (length (sceneNumbers (readingOf (p .lines))) ≤ m → g .table ≡ tableOf (readingOf (p .lines)) m)
+    pub passes-leaves : (g : ReaderState) → run (start n m) (pieces 10 text) ≡ held g
+        → (g .store ≡ sceneStore (sceneOf (p .lines)) n)
+        × (length (sceneNumbers (sceneOf (p .lines))) ≤ m → g .table ≡ sceneTable (sceneOf (p .lines)) m)
     unfolding scene
     passes-leaves g e =
         let same : g ≡ putLines (start n m) (p .lines) = held-same g _ (sym e ∙ passes-run text n m p) in

@@ -4,21 +4,21 @@ use Prim.Native.Nat.{ℕ, _/_, _%_, _^_}
 use mathlib.Core.Path.{_≡_, refl}
 use mathlib.Core.List.{List, [], _∷_, map, append-assoc, append-nil}
 use lib.ListN.{length-map}
-use Rattle.scene_text.specs.declared.decimal.Number.{Number}
-use Rattle.scene_text.specs.declared.decimal.Number.the-variants.{Is, Bad}
+use Rattle.scene_text.specs.declared.decimal.Decimal.{Decimal}
+use Rattle.scene_text.specs.declared.decimal.Decimal.the-variants.{Value, Invalid}
 use Rattle.scene_text.specs.Text.{hexVal, hexBytes}
 use Rattle.scene_text.proofs.HexLaws.{hex-length}
 use Rattle.scene_line.specs.declared.form.Form.{Form}
 use Rattle.scene_line.specs.declared.form.Form.the-variants.{Group, TypeHash, Hash, Hex, Digits}
 use Rattle.scene_line.specs.Kind.{firstForm}
-use Rattle.scene_line.specs.Line.{halves, fieldBytes, lineBytes, lineNumbers}
+use Rattle.scene_line.specs.Line.{sinceHalves, fieldBytes, lineBytes, lineEntries}
 use Rattle.scene_table.specs.Scene.{Line, cellBytes, cellLengths, bytesLine, hashLine, inputLine, cellLine, digitsLine}
 use Rattle.scene_reading.specs.Lines.{kindOfLine, fieldsOfLine}
 use Rattle.scene_reading.specs.Reading.{fieldAt, numberIn, cellOf, inputOf}
 
 -- what the reader puts down of fields, the first of them of a form
 unfoldable pub lineIn : Form → List (List ℕ) → Line
-lineIn t fs = record { bytes = lineBytes t fs; numbers = lineNumbers t fs }
+lineIn t fs = record { bytes = lineBytes t fs; numbers = lineEntries t fs }
 
 -- what it puts down of a line of the text
 unfoldable pub rowOf : List ℕ → Line
@@ -27,29 +27,29 @@ rowOf l = lineIn (firstForm (kindOfLine l)) (fieldsOfLine l)
 -- a line with one field: bytes, a hash, digits
 module _ (f : List ℕ) where
   pub hex-row : lineIn Hex (f ∷ []) ≡ bytesLine (hexBytes f)
-  unfolding lineIn lineBytes lineNumbers fieldBytes bytesLine
+  unfolding lineIn lineBytes lineEntries fieldBytes bytesLine
   hex-row = simp (append-nil, hex-length)
 
   pub hash-row : lineIn Hash (f ∷ []) ≡ hashLine (hexBytes f)
-  unfolding lineIn lineBytes lineNumbers fieldBytes hashLine
+  unfolding lineIn lineBytes lineEntries fieldBytes hashLine
   hash-row = simp append-nil
 
   pub digits-row : lineIn Digits (f ∷ []) ≡ digitsLine (map hexVal f)
-  unfolding lineIn lineBytes lineNumbers fieldBytes digitsLine
+  unfolding lineIn lineBytes lineEntries fieldBytes digitsLine
   digits-row = simp (append-nil, length-map)
 
 -- the halves of SINCE
-halves-number : (n : Number) → halves n ≡ numberIn n % 2 ^ 32 ∷ numberIn n / 2 ^ 32 ∷ []
+halves-number : (n : Decimal) → sinceHalves n ≡ numberIn n % 2 ^ 32 ∷ numberIn n / 2 ^ 32 ∷ []
 unfolding numberIn
-halves-number (Is v) = refl
-halves-number Bad = refl
+halves-number (Value v) = refl
+halves-number Invalid = refl
 
 -- a line with the fields of a cell, and with those of an input
 module _ (a b c d : List ℕ) where
   pub cell-row : lineIn TypeHash (a ∷ b ∷ c ∷ d ∷ []) ≡ cellLine (cellOf 0 (a ∷ b ∷ c ∷ d ∷ []))
-  unfolding lineIn lineBytes lineNumbers fieldBytes cellLine cellBytes cellLengths cellOf fieldAt
+  unfolding lineIn lineBytes lineEntries fieldBytes cellLine cellBytes cellLengths cellOf fieldAt
   cell-row = simp (append-assoc, append-nil, hex-length)
 
   pub input-row : (g t : List ℕ) → lineIn Group (g ∷ t ∷ a ∷ b ∷ c ∷ d ∷ []) ≡ inputLine (inputOf (g ∷ t ∷ a ∷ b ∷ c ∷ d ∷ []))
-  unfolding lineIn lineBytes lineNumbers fieldBytes inputLine cellBytes cellLengths inputOf cellOf fieldAt
+  unfolding lineIn lineBytes lineEntries fieldBytes inputLine cellBytes cellLengths inputOf cellOf fieldAt
   input-row g t = simp (append-assoc, append-nil, hex-length, halves-number)

@@ -8,7 +8,7 @@ use native.Mathlib.Omega.{arith}
 use lib.Dec.{ltb, leb, eqb}
 use borrow.Author.Tests.{leb-true, eqb-true, eqb-false, le-leb, le-ltb, eq-eqb, ne-eqb, not-true}
 use Rattle.scene_line.specs.declared.kind.Kind.{Kind}
-use Rattle.scene_line.specs.Kind.{place, follows}
+use Rattle.scene_line.specs.Kind.{rank, follows}
 use Rattle.scene_reader.specs.Reader.{seenWith}
 use Rattle.scene_table.proofs.Truth.{and-both}
 
@@ -16,7 +16,7 @@ use Rattle.scene_table.proofs.Truth.{and-both}
 unfoldable pub Order : ℕ → ℕ → List Kind → Type 0
 Order last seen [] = last ≡ 7
 Order last seen (k ∷ ks) =
-    (follows last (place k) ≡ true) × ((seenWith last seen (place k) ≤ 64) × Order (place k) (seenWith last seen (place k)) ks)
+    (follows last (rank k) ≡ true) × ((seenWith last seen (rank k) ≤ 64) × Order (rank k) (seenWith last seen (rank k)) ks)
 
 -- how many more lines of the kind at place p may come
 unfoldable pub left : ℕ → ℕ → ℕ → ℕ

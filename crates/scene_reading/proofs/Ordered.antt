@@ -10,7 +10,7 @@ use lib.Dec.{eqb}
 use borrow.Author.Tests.{lt-ltb, ne-eqb, eqb-true, eqb-false}
 use Rattle.scene_line.specs.declared.kind.Kind.{Kind}
 use Rattle.scene_line.specs.declared.kind.Kind.the-variants.{Script, Tx, Input, Output, Dep, Witness, Verdicts, Unknown}
-use Rattle.scene_line.specs.Kind.{place, follows}
+use Rattle.scene_line.specs.Kind.{rank, follows}
 use Rattle.scene_line.proofs.KindLaws.{place-small}
 use Rattle.scene_reader.specs.Reader.{seenWith}
 use Rattle.scene_table.proofs.Lines.{right-nested}
@@ -33,7 +33,7 @@ kindAt p =
     (cond (eqb p 2) Tx
     (cond (eqb p 3) Input (cond (eqb p 4) Output (cond (eqb p 5) Dep (cond (eqb p 6) Witness (cond (eqb p 7) Verdicts Unknown))))))
 
-kind-at : (k : Kind) → kindAt (place k) ≡ k
+kind-at : (k : Kind) → kindAt (rank k) ≡ k
 unfolding kindAt
 kind-at Script = refl
 kind-at Tx = refl
@@ -44,7 +44,7 @@ kind-at Witness = refl
 kind-at Verdicts = refl
 kind-at Unknown = refl
 
-same-place : (j k : Kind) → place j ≡ place k → j ≡ k
+same-place : (j k : Kind) → rank j ≡ rank k → j ≡ k
 same-place j k e = sym (kind-at j) ∙ (ap kindAt e ∙ kind-at k)
 
 -- ---- kinds in order: a run of each
@@ -52,29 +52,29 @@ same-place j k e = sym (kind-at j) ∙ (ap kindAt e ∙ kind-at k)
 -- the first of the kinds stands at place p or behind it
 From : ℕ → List Kind → Type 0
 From p [] = Unit {0}
-From p (k ∷ ks) = p ≤ place k
+From p (k ∷ ks) = p ≤ rank k
 
 order-from : (p last seen : ℕ) (ks : List Kind) → 2 ≤ last → ((q : ℕ) → 3 ≤ q → last ≤ q → p ≤ q) → Order last seen ks → From p ks
 unfolding Order From
 order-from p last seen [] h f r = tt
-order-from p last seen (k ∷ ks) h f r = let b = follows-body last (place k) h (r .0) in f (place k) (b .0) (b .1 .0)
+order-from p last seen (k ∷ ks) h f r = let b = follows-body last (rank k) h (r .0) in f (rank k) (b .0) (b .1 .0)
 
 -- the lines of kind k at the front, as many as may come, and what is behind them
 record Peeled (k : Kind) (last seen : ℕ) (ks : List Kind) : Type 0 where
   count : ℕ
   rest : List Kind
   these : ks ≡ times count k ++ rest
-  few : count ≤ left last seen (place k)
+  few : count ≤ left last seen (rank k)
   last-behind : ℕ
   seen-behind : ℕ
   low : 2 ≤ last-behind
-  high : last-behind ≤ place k
+  high : last-behind ≤ rank k
   order : Order last-behind seen-behind rest
-  from : From (suc (place k)) rest
+  from : From (suc (rank k)) rest
 
-module _ (k : Kind) (last seen : ℕ) (h : 2 ≤ last) (a : last ≤ place k) (b : place k < 7) where
+module _ (k : Kind) (last seen : ℕ) (h : 2 ≤ last) (a : last ≤ rank k) (b : rank k < 7) where
   -- none of them
-  peel-none : (j : Kind) (ks : List Kind) → (place j ≡ place k → ⊥) → place k ≤ place j → Order last seen (j ∷ ks) → Peeled k last seen (j ∷ ks)
+  peel-none : (j : Kind) (ks : List Kind) → (rank j ≡ rank k → ⊥) → rank k ≤ rank j → Order last seen (j ∷ ks) → Peeled k last seen (j ∷ ks)
   unfolding times From
   peel-none j ks n f r =
       record {
@@ -91,14 +91,14 @@ module _ (k : Kind) (last seen : ℕ) (h : 2 ≤ last) (a : last ≤ place k) (b
       }
 
   -- one more
-  peel-one : (ks : List Kind) → seenWith last seen (place k) ≤ 64 → Peeled k (place k) (seenWith last seen (place k)) ks → Peeled k last seen (k ∷ ks)
+  peel-one : (ks : List Kind) → seenWith last seen (rank k) ≤ 64 → Peeled k (rank k) (seenWith last seen (rank k)) ks → Peeled k last seen (k ∷ ks)
   unfolding times
   peel-one ks m p =
       record {
         count = suc (p .count);
         rest = p .rest;
         these = ap (λ (t : List Kind). k ∷ t) (p .these);
-        few = left-before last seen (place k) (p .count) a m (p .few);
+        few = left-before last seen (rank k) (p .count) a m (p .few);
         last-behind = p .last-behind;
         seen-behind = p .seen-behind;
         low = p .low;
@@ -107,35 +107,35 @@ module _ (k : Kind) (last seen : ℕ) (h : 2 ≤ last) (a : last ≤ place k) (b
         from = p .from;
       }
 
-peel : (k : Kind) (ks : List Kind) (last seen : ℕ) → 2 ≤ last → last ≤ place k → place k < 7 → From (place k) ks → Order last seen ks → Peeled k last seen ks
+peel : (k : Kind) (ks : List Kind) (last seen : ℕ) → 2 ≤ last → last ≤ rank k → rank k < 7 → From (rank k) ks → Order last seen ks → Peeled k last seen ks
 unfolding Order From
 peel k [] last seen h a b f r = absurd (omega arith)
-peel k (j ∷ ks) last seen h a b f r = by (eqb (place j) (place k)) refl (λ c d e g. peel k ks (place k) (seenWith last seen (place k)) c d b e g)
+peel k (j ∷ ks) last seen h a b f r = by (eqb (rank j) (rank k)) refl (λ c d e g. peel k ks (rank k) (seenWith last seen (rank k)) c d b e g)
   where
-    by : (t : Bool) → eqb (place j) (place k) ≡ t
-        → (2 ≤ place k → place k ≤ place k → From (place k) ks → Order (place k) (seenWith last seen (place k)) ks → Peeled k (place k) (seenWith last seen (place k)) ks)
+    by : (t : Bool) → eqb (rank j) (rank k) ≡ t
+        → (2 ≤ rank k → rank k ≤ rank k → From (rank k) ks → Order (rank k) (seenWith last seen (rank k)) ks → Peeled k (rank k) (seenWith last seen (rank k)) ks)
         → Peeled k last seen (j ∷ ks)
     by true e rec =
-        let q : place j ≡ place k = eqb-true (place j) (place k) e in
-        let o : Order (place k) (seenWith last seen (place k)) ks = rw q at (r .1 .1) in
-        let c : 2 ≤ place k = omega arith in
+        let q : rank j ≡ rank k = eqb-true (rank j) (rank k) e in
+        let o : Order (rank k) (seenWith last seen (rank k)) ks = rw q at (r .1 .1) in
+        let c : 2 ≤ rank k = omega arith in
         rw (same-place j k q)
         (peel-one k last seen h a b ks (rw q at (r .1 .0))
-        (rec c (le-refl (place k)) (order-from (place k) (place k) (seenWith last seen (place k)) ks c (λ q x y. y) o) o))
-    by false e rec = peel-none k last seen h a b j ks (eqb-false (place j) (place k) e) f r
+        (rec c (le-refl (rank k)) (order-from (rank k) (rank k) (seenWith last seen (rank k)) ks c (λ q x y. y) o) o))
+    by false e rec = peel-none k last seen h a b j ks (eqb-false (rank j) (rank k) e) f r
 
 -- nothing follows verdicts, and verdicts are last
 nothing-behind : (s : ℕ) (ks : List Kind) → Order 7 s ks → ks ≡ []
 unfolding Order
 nothing-behind s [] r = refl
-nothing-behind s (k ∷ ks) r = absurd (follows-body 7 (place k) (omega arith) (r .0) .1 .1 refl)
+nothing-behind s (k ∷ ks) r = absurd (follows-body 7 (rank k) (omega arith) (r .0) .1 .1 refl)
 
 verdicts-alone : (ks : List Kind) (last seen : ℕ) → last ≤ 6 → From 7 ks → Order last seen ks → ks ≡ Verdicts ∷ []
 unfolding Order From
 verdicts-alone [] last seen h f r = absurd (omega arith)
 verdicts-alone (k ∷ ks) last seen h f r =
-    let m : place k < 8 = place-small k in
-    let q : place k ≡ 7 = omega arith in
+    let m : rank k < 8 = place-small k in
+    let q : rank k ≡ 7 = omega arith in
     let e : k ≡ Verdicts = same-place k Verdicts q in
     let o : ks ≡ [] = nothing-behind (seenWith last seen 7) ks (rw q at (r .1 .1)) in
     cc
@@ -153,15 +153,15 @@ pub record Kinds (ks : List Kind) : Type 0 where
   pub few-witnesses : witnesses ≤ 64
 
 -- a line at the place behind `last`, one of the first two
-next-line : (k : Kind) (ks : List Kind) (last seen : ℕ) → last < 2 → Order last seen (k ∷ ks) → (place k ≡ last + 1) × Order (last + 1) 1 ks
+next-line : (k : Kind) (ks : List Kind) (last seen : ℕ) → last < 2 → Order last seen (k ∷ ks) → (rank k ≡ last + 1) × Order (last + 1) 1 ks
 unfolding Order follows
 next-line k ks last seen h r =
-    let p : place k ≡ last + 1 = eqb-true (place k) (last + 1) (rw (lt-ltb last 2 h) at (r .0)) in
+    let p : rank k ≡ last + 1 = eqb-true (rank k) (last + 1) (rw (lt-ltb last 2 h) at (r .0)) in
     let s : seenWith last seen (last + 1) ≡ 1 = rw (ne-eqb (last + 1) last (λ e. omega arith)) in
     (p, rw (p, s) at (r .1 .1))
 
 -- the run behind a run
-peel-next : (j k : Kind) → place k ≡ suc (place j) → place k < 7 → (last seen : ℕ) (ks : List Kind) (p : Peeled j last seen ks)
+peel-next : (j k : Kind) → rank k ≡ suc (rank j) → rank k < 7 → (last seen : ℕ) (ks : List Kind) (p : Peeled j last seen ks)
     → Peeled k (p .last-behind) (p .seen-behind) (p .rest)
 peel-next j k e h last seen ks p =
     peel k (p .rest) (p .last-behind) (p .seen-behind) (p .low) (omega (arith, p .high)) h (rw e (p .from)) (p .order)
@@ -214,15 +214,15 @@ order-kinds (k ∷ j ∷ ks) r =
     (peel Input ks 2 1 (omega arith) (omega arith) (omega arith) (order-from 3 2 1 ks (omega arith) (λ q x y. x) (t .1)) (t .1))
 
 -- a run of n lines of a kind, before lines that may follow it
-order-run : (k : Kind) (ks : List Kind) (n last seen : ℕ) → 2 ≤ last → last ≤ place k → 3 ≤ place k → place k < 7 → n ≤ left last seen (place k)
-    → ((l s : ℕ) → 2 ≤ l → l ≤ place k → Order l s ks) → Order last seen (times n k ++ ks)
+order-run : (k : Kind) (ks : List Kind) (n last seen : ℕ) → 2 ≤ last → last ≤ rank k → 3 ≤ rank k → rank k < 7 → n ≤ left last seen (rank k)
+    → ((l s : ℕ) → 2 ≤ l → l ≤ rank k → Order l s ks) → Order last seen (times n k ++ ks)
 unfolding Order times
 order-run k ks zero last seen h a b c m next = next last seen h a
 order-run k ks (suc n) last seen h a b c m next =
-    let p = left-behind last seen (place k) n a m in
+    let p = left-behind last seen (rank k) n a m in
     let d : last < 7 = omega arith in
-    let e : 2 ≤ place k = omega arith in
-    (body-follows last (place k) h b a d, (p .0, order-run k ks n (place k) (seenWith last seen (place k)) e (le-refl (place k)) b c (p .1) next))
+    let e : 2 ≤ rank k = omega arith in
+    (body-follows last (rank k) h b a d, (p .0, order-run k ks n (rank k) (seenWith last seen (rank k)) e (le-refl (rank k)) b c (p .1) next))
 
 verdicts-last : (l s : ℕ) → 2 ≤ l → l ≤ 6 → Order l s (Verdicts ∷ [])
 unfolding Order

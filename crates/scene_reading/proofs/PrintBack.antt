@@ -12,10 +12,10 @@ use Rattle.scene_line.specs.declared.kind.Kind.{Kind}
 use Rattle.scene_line.specs.declared.kind.Kind.the-variants as kind
 use Rattle.scene_line.specs.Kind.{script, tx, output, dep, witness, verdicts}
 use Rattle.scene_table.specs.Scene.{Input, Scene}
-use Rattle.scene_table.specs.Valid.{every, bytesOk, hashOk, cellOk, inputOk, fewOf, digitsOk, sceneOk}
-use Rattle.scene_reading.specs.Lines.{Passes, kindsOf, times, kindOfLine, countOk, formOk}
+use Rattle.scene_table.specs.Valid.{every, bytesOk, hashBytesOk, cellOk, inputOk, fewOf, digitsOk, sceneOk}
+use Rattle.scene_reading.specs.Lines.{LinesAccepted, kindsOf, times, kindOfLine, countOk, formOk}
 use Rattle.scene_reading.specs.Print.{lineText, digitsText, inputText, cellText, bytesText, textLines, textOf}
-use Rattle.scene_reading.specs.Reading.{readingOf}
+use Rattle.scene_reading.specs.Reading.{sceneOf}
 use Rattle.scene_reading.proofs.PrintBackLines.{text-back, PrintOf, LinePasses, script-line, tx-line, input-line, output-line, dep-line, witness-line, verdicts-line}
 use Rattle.scene_reading.proofs.Printed.{printed-pieces, printed-reading}
 
@@ -91,7 +91,7 @@ record Front (ls : List (List ℕ)) : Type 0 where
   bytes : List ℕ
   hash : List ℕ
   bytes-fit : bytesOk bytes ≡ true
-  hash-fits : hashOk hash ≡ true
+  hash-fits : hashBytesOk hash ≡ true
   print : bytesText script bytes ∷ bytesText tx hash ∷ [] ≡ ls
 
 front : {ls : List (List ℕ)} → EachPasses ls (kind.Script ∷ kind.Tx ∷ []) → Front ls
@@ -143,7 +143,7 @@ said-by v w d o i =
       print = join (lineText verdicts (digitsText (end .digits) ∷ []) ∷ []) witnesses (rw (end .print) (v .whole));
     }
 
-said : (text : List ℕ) (n : ℕ) (p : Passes text n) → Said (p .lines)
+said : (text : List ℕ) (n : ℕ) (p : LinesAccepted text n) → Said (p .lines)
 unfolding kindsOf
 said text n p =
     let K₀ = kind.Script ∷ kind.Tx ∷ [] in
@@ -159,23 +159,23 @@ said text n p =
     said-by v w d o i
 
 -- what an accepted text says is a scene that a text can say
-pub reading-ok : (text : List ℕ) (n : ℕ) (p : Passes text n) → sceneOk (readingOf (p .lines)) ≡ true
+pub reading-ok : (text : List ℕ) (n : ℕ) (p : LinesAccepted text n) → sceneOk (sceneOf (p .lines)) ≡ true
 reading-ok text n p =
     let s = said text n p in
     rw (← s .print, printed-reading (s .scene) (s .fits)) (s .fits)
 
 -- its lines are the lines of that scene's print
-pub lines-back : (text : List ℕ) (n : ℕ) (p : Passes text n) → textLines (readingOf (p .lines)) ≡ p .lines
+pub lines-back : (text : List ℕ) (n : ℕ) (p : LinesAccepted text n) → textLines (sceneOf (p .lines)) ≡ p .lines
 lines-back text n p =
     let s = said text n p in
     rw (← s .print, printed-reading (s .scene) (s .fits))
 
-pub print-back : (text : List ℕ) (n : ℕ) (p : Passes text n) → textOf (readingOf (p .lines)) ≡ text
+pub print-back : (text : List ℕ) (n : ℕ) (p : LinesAccepted text n) → textOf (sceneOf (p .lines)) ≡ text
 unfolding textOf
 print-back text n p = rw (lines-back text n p) (text-back text (p .lines) (p .ended))
 
 -- and it is the only scene whose print the text is
-pub scene-one : (text : List ℕ) (n : ℕ) (p : Passes text n) (s : Scene) → sceneOk s ≡ true → textOf s ≡ text → s ≡ readingOf (p .lines)
+pub scene-one : (text : List ℕ) (n : ℕ) (p : LinesAccepted text n) (s : Scene) → sceneOk s ≡ true → textOf s ≡ text → s ≡ sceneOf (p .lines)
 scene-one text n p s ok e =
     let same : textLines s ++ ([] ∷ []) ≡ p .lines ++ ([] ∷ []) = sym (printed-pieces s ok) ∙ (rw e (p .ended)) in
-    sym (printed-reading s ok) ∙ ap readingOf (append-cancel-right (textLines s) (p .lines) ([] ∷ []) same)
+    sym (printed-reading s ok) ∙ ap sceneOf (append-cancel-right (textLines s) (p .lines) ([] ∷ []) same)

@@ -8,8 +8,8 @@ use native.Mathlib.Omega.{arith}
 use borrow.Author.Tests.{ltb-true, eqb-true, eqb-false, not-true, lt-ltb, le-ltb}
 use lib.ListN.{length}
 use lib.Dec.{ltb, eqb}
-use Rattle.scene_text.specs.declared.decimal.Number.the-variants.{Is, Bad}
-use Rattle.scene_text.specs.Text.{all, between, isHex, hexVal, hexOk, hexBytes, decimal, plain, numberOf, sinceOf}
+use Rattle.scene_text.specs.declared.decimal.Decimal.the-variants.{Value, Invalid}
+use Rattle.scene_text.specs.Text.{all, inRange, isHex, hexVal, hexOk, hexBytes, decimal, plain, numberOf, sinceOf}
 use Rattle.scene_text.proofs.Tests.{and-left, and-right, between-yes, between-low, between-high}
 use Rattle.scene_line.specs.Line.{isNumber}
 use Rattle.scene_table.specs.Valid.{every, bytesOk}
@@ -25,7 +25,7 @@ record DigitPrint (x : ℕ) : Type 0 where
 
 hex-digit : (x : ℕ) → isHex x ≡ true → DigitPrint x
 unfolding hexVal digitText
-hex-digit x h = go (between 48 57 x) refl h
+hex-digit x h = go (inRange 48 57 x) refl h
   where
     low : 48 ≤ x → x ≤ 57 → DigitPrint x
     low a b =
@@ -33,13 +33,13 @@ hex-digit x h = go (between 48 57 x) refl h
         let v : hexVal x ≡ x - 48 = rw (between-yes 48 57 x a b) in
         record { small = rw v (omega arith); text = rw (v, lt-ltb (x - 48) 10 (omega arith), e) }
 
-    letter : between 48 57 x ≡ false → 97 ≤ x → x ≤ 102 → DigitPrint x
+    letter : inRange 48 57 x ≡ false → 97 ≤ x → x ≤ 102 → DigitPrint x
     letter n a b =
         let e : 87 + (x - 87) ≡ x = omega arith in
         let v : hexVal x ≡ x - 87 = rw (n, between-yes 97 102 x a b) in
         record { small = rw v (omega arith); text = rw (v, le-ltb (x - 87) 10 (omega arith), e) }
 
-    go : (b : Bool) → between 48 57 x ≡ b → (b || between 97 102 x) ≡ true → DigitPrint x
+    go : (b : Bool) → inRange 48 57 x ≡ b → (b || inRange 97 102 x) ≡ true → DigitPrint x
     go true e h = low (between-low 48 57 x e) (between-high 48 57 x e)
     go false e h = letter e (between-low 97 102 x h) (between-high 97 102 x h)
 
@@ -80,16 +80,16 @@ unfolding decimal
 decimal-grows v [] = omega arith
 decimal-grows v (x ∷ s) = let h = decimal-grows (v * 10 + (x - 48)) s in omega arith
 
-decimal-positive : (s : List ℕ) → all (between 48 57) s ≡ true → Leads s → 0 < decimal 0 s
+decimal-positive : (s : List ℕ) → all (inRange 48 57) s ≡ true → Leads s → 0 < decimal 0 s
 unfolding decimal all
 decimal-positive [] d l = l .some
 decimal-positive (x ∷ s) d l =
     let g = decimal-grows (0 * 10 + (x - 48)) s in
     let n : x ≡ 48 → ⊥ = l .lead in
-    let a = between-low 48 57 x (and-left (between 48 57 x) (all (between 48 57) s) d) in
+    let a = between-low 48 57 x (and-left (inRange 48 57 x) (all (inRange 48 57) s) d) in
     omega arith
 
-module _ (n y : ℕ) (digit : between 48 57 y ≡ true) where
+module _ (n y : ℕ) (digit : inRange 48 57 y ≡ true) where
   one-digit : decimalText (suc n) (decimal 0 (y ∷ [])) ≡ y ∷ []
   unfolding decimalText decimal
   one-digit =
@@ -109,19 +109,19 @@ module _ (n y : ℕ) (digit : between 48 57 y ≡ true) where
       rw (decimal-append 0 t y, le-ltb (v * 10 + (y - 48)) 10 (omega arith), e, m, h)
 
 -- a number's digits are its text where n digits are enough, by the digits before the last
-module _ (n : ℕ) (again : (s : List ℕ) → all (between 48 57) s ≡ true → Leads s → decimal 0 s < 10 ^ n → decimalText n (decimal 0 s) ≡ s) where
-  decimal-step : (t : List ℕ) (y : ℕ) → all (between 48 57) (t ++ (y ∷ [])) ≡ true → Leads (t ++ (y ∷ [])) → decimal 0 (t ++ (y ∷ [])) < 10 ^ suc n
+module _ (n : ℕ) (again : (s : List ℕ) → all (inRange 48 57) s ≡ true → Leads s → decimal 0 s < 10 ^ n → decimalText n (decimal 0 s) ≡ s) where
+  decimal-step : (t : List ℕ) (y : ℕ) → all (inRange 48 57) (t ++ (y ∷ [])) ≡ true → Leads (t ++ (y ∷ [])) → decimal 0 (t ++ (y ∷ [])) < 10 ^ suc n
       → decimalText (suc n) (decimal 0 (t ++ (y ∷ []))) ≡ t ++ (y ∷ [])
   unfolding all
-  decimal-step [] y d l h = one-digit n y (and-left (between 48 57 y) true d)
+  decimal-step [] y d l h = one-digit n y (and-left (inRange 48 57 y) true d)
   decimal-step (z ∷ t) y d l h =
-      let dz = all-left (between 48 57) (z ∷ t) (y ∷ []) d in
-      let dy = and-left (between 48 57 y) true (all-right (between 48 57) (z ∷ t) (y ∷ []) d) in
+      let dz = all-left (inRange 48 57) (z ∷ t) (y ∷ []) d in
+      let dy = and-left (inRange 48 57 y) true (all-right (inRange 48 57) (z ∷ t) (y ∷ []) d) in
       let first : Leads (z ∷ t) = record { some = omega arith; lead = l .lead } in
       let k = tenth n (decimal 0 (z ∷ t) * 10 + (y - 48)) (rw (decimal-append 0 (z ∷ t) y) at h) in
       more-digits n y dy (z ∷ t) (decimal-positive (z ∷ t) dz first) (again (z ∷ t) dz first (omega arith))
 
-decimal-print : (n : ℕ) (s : List ℕ) → all (between 48 57) s ≡ true → Leads s → decimal 0 s < 10 ^ n → decimalText n (decimal 0 s) ≡ s
+decimal-print : (n : ℕ) (s : List ℕ) → all (inRange 48 57) s ≡ true → Leads s → decimal 0 s < 10 ^ n → decimalText n (decimal 0 s) ≡ s
 decimal-print zero s d l h = let p = decimal-positive s d l in absurd (omega arith)
 decimal-print (suc n) [] d l h = absurd (let p = l .some in omega arith)
 decimal-print (suc n) (x ∷ r) d l h =
@@ -132,21 +132,21 @@ decimal-print (suc n) (x ∷ r) d l h =
 plain-print : (n : ℕ) (s : List ℕ) → plain s ≡ true → decimal 0 s < 10 ^ suc n → decimalText (suc n) (decimal 0 s) ≡ s
 unfolding all
 plain-print n [] p h = absurd (false≢true p)
-plain-print n (x ∷ s) p h = go s (eqb (length (x ∷ s)) 1) refl d (and-right (all (between 48 57) (x ∷ s)) _ p₁) h
+plain-print n (x ∷ s) p h = go s (eqb (length (x ∷ s)) 1) refl d (and-right (all (inRange 48 57) (x ∷ s)) _ p₁) h
   where
     lone : Bool
     lone = eqb (length (x ∷ s)) 1 || not (eqb x 48)
 
-    p₁ : (all (between 48 57) (x ∷ s) && lone) ≡ true
-    p₁ = and-right (ltb 0 (length (x ∷ s))) (all (between 48 57) (x ∷ s) && lone) p
+    p₁ : (all (inRange 48 57) (x ∷ s) && lone) ≡ true
+    p₁ = and-right (ltb 0 (length (x ∷ s))) (all (inRange 48 57) (x ∷ s) && lone) p
 
-    d : all (between 48 57) (x ∷ s) ≡ true
-    d = and-left (all (between 48 57) (x ∷ s)) lone p₁
+    d : all (inRange 48 57) (x ∷ s) ≡ true
+    d = and-left (all (inRange 48 57) (x ∷ s)) lone p₁
 
-    go : (s : List ℕ) (b : Bool) → eqb (length (x ∷ s)) 1 ≡ b → all (between 48 57) (x ∷ s) ≡ true → (b || not (eqb x 48)) ≡ true → decimal 0 (x ∷ s) < 10 ^ suc n
+    go : (s : List ℕ) (b : Bool) → eqb (length (x ∷ s)) 1 ≡ b → all (inRange 48 57) (x ∷ s) ≡ true → (b || not (eqb x 48)) ≡ true → decimal 0 (x ∷ s) < 10 ^ suc n
         → decimalText (suc n) (decimal 0 (x ∷ s)) ≡ x ∷ s
     go s false e d o h = decimal-print (suc n) (x ∷ s) d (record { some = omega arith; lead = eqb-false x 48 (not-true (eqb x 48) o) }) h
-    go [] true e d o h = one-digit n x (and-left (between 48 57 x) true d)
+    go [] true e d o h = one-digit n x (and-left (inRange 48 57 x) true d)
     go (y ∷ s) true e d o h = let z = eqb-true (length (x ∷ y ∷ s)) 1 e in absurd (omega arith)
 
 -- a SINCE is the text of its number
@@ -158,7 +158,7 @@ pub since-print : (f : List ℕ) → isNumber (sinceOf f) ≡ true → SincePrin
 unfolding sinceOf numberOf numberIn
 since-print f h = go (plain f) refl (ltb (decimal 0 f) (2 ^ 64)) refl h
   where
-    go : (a : Bool) → plain f ≡ a → (b : Bool) → ltb (decimal 0 f) (2 ^ 64) ≡ b → isNumber (cond a (cond b (Is (decimal 0 f)) Bad) Bad) ≡ true → SincePrint f
+    go : (a : Bool) → plain f ≡ a → (b : Bool) → ltb (decimal 0 f) (2 ^ 64) ≡ b → isNumber (cond a (cond b (Value (decimal 0 f)) Invalid) Invalid) ≡ true → SincePrint f
     go true p true l h =
         let k = ltb-true (decimal 0 f) (2 ^ 64) l in
         let e : numberIn (sinceOf f) ≡ decimal 0 f = rw (p, l) in
@@ -171,14 +171,14 @@ pub record DigitsPrint (m : ℕ) (f : List ℕ) : Type 0 where
   pub each : every (λ (d : ℕ). ltb d m) (map hexVal f) ≡ true
   pub text : digitsText (map hexVal f) ≡ f
 
-pub digits-print : (m : ℕ) → m ≤ 10 → (f : List ℕ) → all (between 48 (47 + m)) f ≡ true → DigitsPrint m f
+pub digits-print : (m : ℕ) → m ≤ 10 → (f : List ℕ) → all (inRange 48 (47 + m)) f ≡ true → DigitsPrint m f
 unfolding all every digitsText hexVal
 digits-print m small [] h = record { each = refl; text = refl }
 digits-print m small (x ∷ f) h =
-    let y = and-left (between 48 (47 + m) x) (all (between 48 (47 + m)) f) h in
+    let y = and-left (inRange 48 (47 + m) x) (all (inRange 48 (47 + m)) f) h in
     let a = between-low 48 (47 + m) x y in
     let b = between-high 48 (47 + m) x y in
     let v : hexVal x ≡ x - 48 = rw (between-yes 48 57 x a (omega arith)) in
     let e : 48 + (x - 48) ≡ x = omega arith in
-    let rest = digits-print m small f (and-right (between 48 (47 + m) x) (all (between 48 (47 + m)) f) h) in
+    let rest = digits-print m small f (and-right (inRange 48 (47 + m) x) (all (inRange 48 (47 + m)) f) h) in
     record { each = rw (v, lt-ltb (x - 48) m (omega arith)) (rest .each); text = rw (v, e, rest .text) }

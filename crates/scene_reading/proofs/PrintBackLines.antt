@@ -10,16 +10,16 @@ use lib.ListN.{length, length-map}
 use lib.Dec.{lit<, eqb, leb}
 use Rattle.octets.specs.Lists.{same}
 use Rattle.octets.proofs.Same.{same-eq}
-use Rattle.scene_text.specs.Text.{all, between, before, pieces, hexOk, hexVal, hexBytes}
+use Rattle.scene_text.specs.Text.{all, inRange, before, pieces, hexOk, hexVal, hexBytes}
 use Rattle.scene_text.proofs.Tests.{and-left, and-right}
 use Rattle.scene_text.proofs.Pieces.{before-none}
 use Rattle.scene_line.specs.declared.kind.Kind.{Kind}
 use Rattle.scene_line.specs.declared.kind.Kind.the-variants as kind
 use Rattle.scene_line.specs.declared.form.Form.the-variants.{TypeHash, Hex}
-use Rattle.scene_line.specs.Kind.{place, kindOf, fieldCount, firstForm, fieldsOf, script, tx, input, output, dep, witness, verdicts}
+use Rattle.scene_line.specs.Kind.{rank, kindOf, fieldCount, firstForm, lineFields, script, tx, input, output, dep, witness, verdicts}
 use Rattle.scene_line.specs.Line.{formsOk}
 use Rattle.scene_table.specs.Scene.{Input}
-use Rattle.scene_table.specs.Valid.{bytesOk, hashOk, cellOk, inputOk, digitsOk}
+use Rattle.scene_table.specs.Valid.{bytesOk, hashBytesOk, cellOk, inputOk, digitsOk}
 use Rattle.scene_reading.specs.Lines.{wordOf, kindOfLine, fieldsOfLine, countOk, formOk}
 use Rattle.scene_reading.specs.Print.{commaed, lineText, digitsText, cellFields, inputFields, inputText, cellText, bytesText, endedLines}
 use Rattle.scene_reading.specs.Reading.{cellOf, inputOf, fieldAt}
@@ -71,8 +71,8 @@ unfolding commaed parted
 commaed-parted [] = refl
 commaed-parted (f ∷ fs) = rw (commaed-parted fs)
 
-line-rejoined : (ps : List (List ℕ)) → lineText (wordOf ps) (fieldsOf ps) ≡ rejoined 44 ps
-unfolding lineText wordOf fieldsOf rejoined commaed
+line-rejoined : (ps : List (List ℕ)) → lineText (wordOf ps) (lineFields ps) ≡ rejoined 44 ps
+unfolding lineText wordOf lineFields rejoined commaed
 line-rejoined [] = refl
 line-rejoined (w ∷ fs) = rw (commaed-parted fs)
 
@@ -80,7 +80,7 @@ line-rejoined (w ∷ fs) = rw (commaed-parted fs)
 module _ (w : List ℕ) where
   -- w is the word of a kind, if that has one
   abbrev Named : Kind → Type 0
-  Named k = 0 < place k → w ≡ kindWord k
+  Named k = 0 < rank k → w ≡ kindWord k
 
   -- one word tested
   pick : (b : Bool) (k other : Kind) → (b ≡ true → w ≡ kindWord k) → Named other → Named (cond b k other)
@@ -111,7 +111,7 @@ pub record LinePasses (l : List ℕ) (k : Kind) : Type 0 where
   pub formed : formOk l ≡ true
 
 module _ (l : List ℕ) (k : Kind) (p : LinePasses l k) where
-  named : 0 < place k → wordOf (pieces 44 l) ≡ kindWord k
+  named : 0 < rank k → wordOf (pieces 44 l) ≡ kindWord k
   unfolding kindOfLine
   named = rw (p .is) at (kind-named (wordOf (pieces 44 l)))
 
@@ -150,7 +150,7 @@ module _ (l : List ℕ) where
   pub script-line : LinePasses l kind.Script → PrintOf bytesOk (bytesText script) l
   script-line p = bytes-line l kind.Script p script (named l kind.Script p (lit< tt)) refl refl
 
-  pub tx-line : LinePasses l kind.Tx → PrintOf hashOk (bytesText tx) l
+  pub tx-line : LinePasses l kind.Tx → PrintOf hashBytesOk (bytesText tx) l
   unfolding bytesText formsOk
   tx-line p =
       let e = one-field l kind.Tx p refl in
@@ -184,7 +184,7 @@ module _ (l : List ℕ) where
       let e = one-field l kind.Verdicts p refl in
       let field = fieldAt (fieldsOfLine l) 0 in
       let few = leb (length field) 16 in
-      let digits = all (between 48 50) field in
+      let digits = all (inRange 48 50) field in
       let h : (few && digits && true) ≡ true = rw e at (field-forms l kind.Verdicts p) in
       let h₁ = and-left (few && digits) true h in
       let x = digits-print 3 (omega arith) field (and-right few digits h₁) in

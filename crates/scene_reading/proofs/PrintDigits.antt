@@ -9,8 +9,8 @@ use native.Mathlib.Omega.{arith}
 use borrow.Author.Tests.{ltb-true, ltb-false, lt-ltb, le-leb, lt-leb, ne-eqb}
 use lib.ListN.{length, getD, length-append, length-map, List·getD-append}
 use lib.Dec.{ltb, leb, eqb}
-use Rattle.scene_text.specs.declared.decimal.Number.the-variants.{Is}
-use Rattle.scene_text.specs.Text.{all, between, isHex, hexVal, hexOk, hexBytes, decimal, plain, numberOf, sinceOf}
+use Rattle.scene_text.specs.declared.decimal.Decimal.the-variants.{Value}
+use Rattle.scene_text.specs.Text.{all, inRange, isHex, hexVal, hexOk, hexBytes, decimal, plain, numberOf, sinceOf}
 use Rattle.scene_text.proofs.Tests.{and-left, and-right, between-yes}
 use Rattle.scene_table.specs.Valid.{every, bytesOk}
 use Rattle.scene_reading.specs.Print.{digitText, hexText, decimalText, digitsText}
@@ -88,15 +88,15 @@ unfolding decimal
 decimal-append v [] x = refl
 decimal-append v (y ∷ s) x = decimal-append (v * 10 + (y - 48)) s x
 
-decimal-digits : (n v : ℕ) → all (between 48 57) (decimalText n v) ≡ true
+decimal-digits : (n v : ℕ) → all (inRange 48 57) (decimalText n v) ≡ true
 unfolding decimalText all
 decimal-digits zero v = refl
 decimal-digits (suc n) v = go (ltb v 10) refl (decimal-digits n (v / 10))
   where
-    go : (b : Bool) → ltb v 10 ≡ b → all (between 48 57) (decimalText n (v / 10)) ≡ true
-        → all (between 48 57) (cond b ((48 + v) ∷ []) (decimalText n (v / 10) ++ ((48 + v % 10) ∷ []))) ≡ true
+    go : (b : Bool) → ltb v 10 ≡ b → all (inRange 48 57) (decimalText n (v / 10)) ≡ true
+        → all (inRange 48 57) (cond b ((48 + v) ∷ []) (decimalText n (v / 10) ++ ((48 + v % 10) ∷ []))) ≡ true
     go true e r = let l = ltb-true v 10 e in rw (between-yes 48 57 (48 + v) (omega arith) (omega arith))
-    go false e r = all-append (between 48 57) (decimalText n (v / 10)) ((48 + v % 10) ∷ []) r (rw (between-yes 48 57 (48 + v % 10) (omega arith) (omega arith)))
+    go false e r = all-append (inRange 48 57) (decimalText n (v / 10)) ((48 + v % 10) ∷ []) r (rw (between-yes 48 57 (48 + v % 10) (omega arith) (omega arith)))
 
 -- n digits are enough for a number below 10 ^ n
 pub tenth : (n v : ℕ) → v < 10 ^ suc n → v / 10 < 10 ^ n
@@ -135,34 +135,34 @@ or-true : (a : Bool) → (a || true) ≡ true
 or-true true = refl
 or-true false = refl
 
-leads-plain : (s : List ℕ) → all (between 48 57) s ≡ true → Leads s → plain s ≡ true
+leads-plain : (s : List ℕ) → all (inRange 48 57) s ≡ true → Leads s → plain s ≡ true
 leads-plain s h l = rw (lt-ltb 0 (length s) (l .some), h, ne-eqb (getD s 0 0) 48 (l .lead)) (or-true (eqb (length s) 1))
 
 decimal-plain : (n v : ℕ) → v < 10 ^ suc n → plain (decimalText (suc n) v) ≡ true
 unfolding decimalText
 decimal-plain n v h = go (ltb v 10) refl (decimal-digits (suc n) v)
   where
-    go : (b : Bool) → ltb v 10 ≡ b → all (between 48 57) (decimalText (suc n) v) ≡ true → plain (cond b ((48 + v) ∷ []) (decimalText n (v / 10) ++ ((48 + v % 10) ∷ []))) ≡ true
+    go : (b : Bool) → ltb v 10 ≡ b → all (inRange 48 57) (decimalText (suc n) v) ≡ true → plain (cond b ((48 + v) ∷ []) (decimalText n (v / 10) ++ ((48 + v % 10) ∷ []))) ≡ true
     go true e r = rw (rw e at r)
     go false e r =
         let l = ltb-false v 10 e in
         leads-plain _ (rw e at r) (leads-append (decimalText n (v / 10)) ((48 + v % 10) ∷ []) (decimal-leads n (v / 10) (omega arith) (tenth n v h)))
 
-pub decimal-back : (v : ℕ) → v < 2 ^ 64 → sinceOf (decimalText 20 v) ≡ Is v
+pub decimal-back : (v : ℕ) → v < 2 ^ 64 → sinceOf (decimalText 20 v) ≡ Value v
 unfolding sinceOf numberOf
 decimal-back v h =
     let k : v < 10 ^ 20 = omega arith in
     rw (decimal-plain 19 v k, decimal-value 20 v k, lt-ltb v (2 ^ 64) h)
 
-between-high : (l h : ℕ) (s : List ℕ) → all (between l h) s ≡ true → all (leb l) s ≡ true
-between-high l h s e = all-more (between l h) (leb l) (λ x. and-left (leb l x) (leb x h)) s e
+between-high : (l h : ℕ) (s : List ℕ) → all (inRange l h) s ≡ true → all (leb l) s ≡ true
+between-high l h s e = all-more (inRange l h) (leb l) (λ x. and-left (leb l x) (leb x h)) s e
 
 pub decimal-high : (n v : ℕ) → all (leb 48) (decimalText n v) ≡ true
 decimal-high n v = between-high 48 57 (decimalText n v) (decimal-digits n v)
 
 -- digits below m: DIGITS and GROUP
 module _ (m : ℕ) (small : m ≤ 10) where
-  pub digits-form : (ds : List ℕ) → every (λ (d : ℕ). ltb d m) ds ≡ true → all (between 48 (47 + m)) (digitsText ds) ≡ true
+  pub digits-form : (ds : List ℕ) → every (λ (d : ℕ). ltb d m) ds ≡ true → all (inRange 48 (47 + m)) (digitsText ds) ≡ true
   unfolding every digitsText all
   digits-form [] h = refl
   digits-form (d ∷ ds) h =

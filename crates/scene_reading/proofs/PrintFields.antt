@@ -13,7 +13,7 @@ use Rattle.scene_text.proofs.Tests.{and-left, and-right}
 use Rattle.scene_line.specs.declared.form.Form.the-variants.{Group, TypeHash}
 use Rattle.scene_line.specs.Line.{formsOk}
 use Rattle.scene_table.specs.Scene.{Cell, Input}
-use Rattle.scene_table.specs.Valid.{every, bytesOk, hashOk, cellOk, inputOk}
+use Rattle.scene_table.specs.Valid.{every, bytesOk, hashBytesOk, cellOk, inputOk}
 use Rattle.scene_reading.specs.Print.{hexText, digitsText, cellFields, inputFields}
 use Rattle.scene_reading.specs.Reading.{cellOf, inputOf, fieldAt, numberIn}
 use Rattle.scene_reading.proofs.PrintDigits.{hex-back, hex-ok, hex-high, hex-length, decimal-back, decimal-high, digits-form, digits-high, digits-back}
@@ -23,8 +23,8 @@ pub record HashHolds (hash : List ℕ) : Type 0 where
   pub long : length hash ≡ 32
   pub bytes : bytesOk hash ≡ true
 
-pub hash-holds : (hash : List ℕ) → hashOk hash ≡ true → HashHolds hash
-unfolding hashOk
+pub hash-holds : (hash : List ℕ) → hashBytesOk hash ≡ true → HashHolds hash
+unfolding hashBytesOk
 hash-holds hash h = record { long = eqb-true (length hash) 32 (and-left (eqb (length hash) 32) (bytesOk hash) h); bytes = and-right (eqb (length hash) 32) (bytesOk hash) h }
 
 -- its text has 64 digits
@@ -44,20 +44,20 @@ pub record CellHolds (c : Cell) : Type 0 where
   pub script : bytesOk (c .typeScript) ≡ true
   pub content : bytesOk (c .content) ≡ true
 
-type-holds : (hash script : List ℕ) (b : Bool) → eqb (length script) 0 ≡ b → cond b (eqb (length hash) 0) (hashOk hash) ≡ true → Typed hash script
+type-holds : (hash script : List ℕ) (b : Bool) → eqb (length script) 0 ≡ b → cond b (eqb (length hash) 0) (hashBytesOk hash) ≡ true → Typed hash script
 type-holds hash script true e h = bare (eqb-true (length hash) 0 h) (eqb-true (length script) 0 e)
 type-holds hash script false e h = typed (hash-holds hash h) (let z : length script ≡ 0 → ⊥ = eqb-false (length script) 0 e in omega arith)
 
 pub cell-holds : (c : Cell) → cellOk c ≡ true → CellHolds c
 unfolding cellOk
 cell-holds c h =
-    let t = cond (eqb (length (c .typeScript)) 0) (eqb (length (c .typeHash)) 0) (hashOk (c .typeHash)) in
+    let t = cond (eqb (length (c .typeScript)) 0) (eqb (length (c .typeHash)) 0) (hashBytesOk (c .typeHash)) in
     let b = bytesOk (c .typeScript) && bytesOk (c .content) in
-    let h₁ = and-right t (hashOk (c .dataHash) && b) h in
-    let h₂ = and-right (hashOk (c .dataHash)) b h₁ in
+    let h₁ = and-right t (hashBytesOk (c .dataHash) && b) h in
+    let h₂ = and-right (hashBytesOk (c .dataHash)) b h₁ in
     record {
-      type = type-holds (c .typeHash) (c .typeScript) (eqb (length (c .typeScript)) 0) refl (and-left t (hashOk (c .dataHash) && b) h);
-      hash = hash-holds (c .dataHash) (and-left (hashOk (c .dataHash)) b h₁);
+      type = type-holds (c .typeHash) (c .typeScript) (eqb (length (c .typeScript)) 0) refl (and-left t (hashBytesOk (c .dataHash) && b) h);
+      hash = hash-holds (c .dataHash) (and-left (hashBytesOk (c .dataHash)) b h₁);
       script = and-left (bytesOk (c .typeScript)) (bytesOk (c .content)) h₂;
       content = and-right (bytesOk (c .typeScript)) (bytesOk (c .content)) h₂;
     }

@@ -14,7 +14,7 @@ use Rattle.scene_text.proofs.Tests.{and-left, and-right}
 use Rattle.scene_line.specs.declared.form.Form.the-variants.{TypeHash, Hex}
 use Rattle.scene_line.specs.declared.kind.Kind.{Kind}
 use Rattle.scene_line.specs.declared.kind.Kind.the-variants as kind
-use Rattle.scene_line.specs.Kind.{kindOf, fieldCount, firstForm, fieldsOf, script, tx, input, output, dep, witness, verdicts}
+use Rattle.scene_line.specs.Kind.{kindOf, fieldCount, firstForm, lineFields, script, tx, input, output, dep, witness, verdicts}
 use Rattle.scene_line.specs.Line.{formsOk}
 use Rattle.scene_table.specs.Scene.{Cell, Input, Line, bytesLine, hashLine, inputLine, cellLine, digitsLine}
 use Rattle.scene_table.specs.Valid.{every, bytesOk}
@@ -77,7 +77,7 @@ word-of kind.Unknown = (refl, refl)
 
 -- a line has the kind of its word, and its fields
 line-says : (k : Kind) (fs : List (List ℕ)) → every (all (leb 48)) fs ≡ true → Says (lineText (kindWord k) fs) k fs
-unfolding kindOfLine fieldsOfLine wordOf fieldsOf
+unfolding kindOfLine fieldsOfLine wordOf lineFields
 line-says k fs h =
     let w = word-of k in
     let e = line-pieces (kindWord k) fs (high-without 44 (omega arith) (kindWord k) (w .1)) (fields-without 44 (omega arith) fs h) in

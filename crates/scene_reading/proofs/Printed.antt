@@ -11,12 +11,12 @@ use Rattle.scene_text.specs.Text.{pieces, hexBytes, hexVal}
 use Rattle.scene_text.proofs.Tests.{and-left, and-right}
 use Rattle.scene_line.specs.declared.kind.Kind.{Kind}
 use Rattle.scene_line.specs.declared.kind.Kind.the-variants as kind
-use Rattle.scene_line.specs.Kind.{place, output, dep, witness}
+use Rattle.scene_line.specs.Kind.{rank, output, dep, witness}
 use Rattle.scene_table.specs.Scene.{Cell, Scene, Line, bytesLine, inputLine, cellLine, linesOf, sceneBytes}
 use Rattle.scene_table.specs.Valid.{every, bytesOk, cellOk, inputOk, sceneOk}
-use Rattle.scene_reading.specs.Lines.{kindsOf, bytesOfLine, Passes}
+use Rattle.scene_reading.specs.Lines.{kindsOf, bytesOfLine, LinesAccepted}
 use Rattle.scene_reading.specs.Print.{hexText, digitsText, cellFields, inputFields, inputText, cellText, bytesText, textLines, textOf}
-use Rattle.scene_reading.specs.Reading.{fieldAt, cellOf, inputOf, bytesOf, fieldsOfKind, onlyField, readingOf}
+use Rattle.scene_reading.specs.Reading.{fieldAt, cellOf, inputOf, bytesField, fieldsOfKind, onlyField, sceneOf}
 use Rattle.scene_reading.proofs.LineRows.{lineIn, rowOf}
 use Rattle.scene_table.proofs.Lines.{right-nested}
 use Rattle.scene_table.proofs.SceneBack.{Sayable, sayable}
@@ -50,7 +50,7 @@ unfolding textOf
 printed-pieces s ok = lines-pieces (textLines s) (each-rows (scene-prints s (sayable s ok)) .ended)
 
 -- no line row refuses it
-unfoldable pub printed-passes : (s : Scene) (n : ℕ) → sceneOk s ≡ true → length (sceneBytes s) ≤ n → Passes (textOf s) n
+unfoldable pub printed-passes : (s : Scene) (n : ℕ) → sceneOk s ≡ true → length (sceneBytes s) ≤ n → LinesAccepted (textOf s) n
 unfolding sceneBytes
 printed-passes s n ok room =
     let h = sayable s ok in
@@ -79,14 +79,14 @@ printed-lines s n ok room = refl
 
 -- the fields of lines of kind j, where those of kind k are asked for
 given : Kind → Kind → List (List (List ℕ)) → List (List (List ℕ))
-given j k fss = cond (eqb (place j) (place k)) fss []
+given j k fss = cond (eqb (rank j) (rank k)) fss []
 
 module _ (k : Kind) where
   -- a line gives its fields to its kind
   line-gives : (l : List ℕ) (j : Kind) (fs : List (List ℕ)) (ls : List (List ℕ)) → Says l j fs
       → fieldsOfKind k (l ∷ ls) ≡ given j k (fs ∷ []) ++ fieldsOfKind k ls
   unfolding fieldsOfKind given
-  line-gives l j fs ls says = rw (says .kind, says .fields) (go (eqb (place j) (place k)) (fieldsOfKind k ls))
+  line-gives l j fs ls says = rw (says .kind, says .fields) (go (eqb (rank j) (rank k)) (fieldsOfKind k ls))
     where
       go : (b : Bool) (rest : List (List (List ℕ))) → cond b (fs ∷ rest) rest ≡ cond b (fs ∷ []) [] ++ rest
       go true rest = refl
@@ -96,14 +96,14 @@ module _ (k : Kind) where
   lines-give : {A : Type 0} (ok : A → Bool) (text : A → List ℕ) (j : Kind) (fields : A → List (List ℕ)) → ((x : A) → ok x ≡ true → Says (text x) j (fields x))
       → (xs : List A) → every ok xs ≡ true → (ls : List (List ℕ)) → fieldsOfKind k (map text xs ++ ls) ≡ given j k (map fields xs) ++ fieldsOfKind k ls
   unfolding every given
-  lines-give ok text j fields says [] h ls = none-given (eqb (place j) (place k))
+  lines-give ok text j fields says [] h ls = none-given (eqb (rank j) (rank k))
     where
       none-given : (b : Bool) → fieldsOfKind k ls ≡ cond b [] [] ++ fieldsOfKind k ls
       none-given true = refl
       none-given false = refl
   lines-give ok text j fields says (x ∷ xs) h ls =
       line-gives (text x) j (fields x) (map text xs ++ ls) (says x (and-left (ok x) (every ok xs) h))
-      ∙ rw (lines-give ok text j fields says xs (and-right (ok x) (every ok xs) h) ls) (go (eqb (place j) (place k)))
+      ∙ rw (lines-give ok text j fields says xs (and-right (ok x) (every ok xs) h) ls) (go (eqb (rank j) (rank k)))
     where
       go : (b : Bool) → cond b (fields x ∷ []) [] ++ (cond b (map fields xs) [] ++ fieldsOfKind k ls) ≡ cond b (fields x ∷ map fields xs) [] ++ fieldsOfKind k ls
       go true = refl
@@ -147,8 +147,8 @@ cells-back : (cs : List Cell) → every cellOk cs ≡ true → map (cellOf 0) (m
 cells-back = values-back cellOk cellFields (cellOf 0) (λ c e. cell-back c (cell-holds c e))
 
 -- and it says the scene, part by part
-pub printed-reading : (s : Scene) → sceneOk s ≡ true → readingOf (textLines s) ≡ s
-unfolding readingOf given onlyField bytesOf bytesFields fieldAt
+pub printed-reading : (s : Scene) → sceneOk s ≡ true → sceneOf (textLines s) ≡ s
+unfolding sceneOf given onlyField bytesField bytesFields fieldAt
 printed-reading s ok =
     let h = sayable s ok in
     let fields = printed-fields s h in
@@ -157,7 +157,7 @@ printed-reading s ok =
     let inputs = ap (map inputOf) (fields kind.Input) ∙ values-back inputOk inputFields inputOf (λ i e. input-back i (input-holds i e)) (s .inputs) (h .inputs) in
     let outputs = ap (map (cellOf 0)) (fields kind.Output) ∙ cells-back (s .outputs) (h .outputs) in
     let deps = ap (map (cellOf 0)) (fields kind.Dep) ∙ cells-back (s .deps) (h .deps) in
-    let witnesses = ap (map bytesOf) (fields kind.Witness) ∙ values-back bytesOk bytesFields bytesOf hex-back (s .witnesses) (h .witnesses) in
+    let witnesses = ap (map bytesField) (fields kind.Witness) ∙ values-back bytesOk bytesFields bytesField hex-back (s .witnesses) (h .witnesses) in
     let digits = ap (λ (f : List (List (List ℕ))). map hexVal (onlyField f)) (fields kind.Verdicts) ∙ digits-back 3 (omega arith) (s .digits) (h .digits) in
     λ i. record {
       script = script i;

@@ -9,55 +9,55 @@ use native.Mathlib.Omega.{arith}
 use lib.ListN.{length}
 use borrow.Author.Tests.{le-leb}
 use Rattle.protocol.specs.declared.check.Check.the-variants.{Passed}
-use Rattle.protocol.proofs.Hold.{hold-passed, hold-split}
+use Rattle.protocol.proofs.AllPass.{all-pass-passed, all-pass-split}
 use Rattle.scene_text.specs.Text.{pieces}
-use Rattle.scene_reader.specs.Reader.{Held, Outcome, refused, held, run, start, limitRows, sceneRows, readOf, answerOf}
+use Rattle.scene_reader.specs.Reader.{ReaderState, ReaderOutcome, refused, held, run, start, sceneLimitRows, sceneRows, readOf, readerCheck}
 use Rattle.scene_reader.proofs.Runs.{limits-within, limits-passed}
 use Rattle.scene_reader.proofs.Theorem as rows
 use Rattle.scene_table.specs.Scene.{sceneNumbers}
-use Rattle.scene_reading.specs.Lines.{Passes}
-use Rattle.scene_reading.specs.Reading.{readingOf}
-use Rattle.scene_reading.specs.Left.{Leaves}
+use Rattle.scene_reading.specs.Lines.{LinesAccepted}
+use Rattle.scene_reading.specs.Reading.{sceneOf}
+use Rattle.scene_reading.specs.Left.{Encodes}
 use Rattle.scene_reading.proofs.Accepts.{accepted-passes, passes-accepted}
 use Rattle.scene_reading.proofs.Leaves.{bytes-fit, passes-leaves}
 use Rattle.scene_reading.proofs.PrintBack.{reading-ok}
 use Rattle.scene_table.proofs.SceneBack.{numbers-few}
 
 -- an outcome that passes holds something
-passed-held : (o : Outcome) → answerOf o ≡ Passed → (g : Held) × (o ≡ held g)
+passed-held : (o : ReaderOutcome) → readerCheck o ≡ Passed → (g : ReaderState) × (o ≡ held g)
 passed-held (refused e) h = absurd (let z : _≡_ {A = ℕ} 0 1 = cc in omega arith)
 passed-held (held g) h = (g, refl)
 
 module _ (text : List ℕ) (n m : ℕ) where
-  accepted : answerOf (readOf text n m) ≡ Passed → (length text ≤ 1048576) × ((2048 ≤ m) × Passes text n)
+  accepted : readerCheck (readOf text n m) ≡ Passed → (length text ≤ 1048576) × ((2048 ≤ m) × LinesAccepted text n)
   unfolding sceneRows
   accepted e =
-      let l = hold-passed _ (hold-split (limitRows text m) _ (rows.reader-accepts text n m .0 e) .0) in
+      let l = all-pass-passed _ (all-pass-split (sceneLimitRows text m) _ (rows.scene-passes-rows text n m .0 e) .0) in
       let w = limits-within text m l in
       let h = passed-held (readOf text n m) e in
       (w .0, (w .1, accepted-passes text n m (h .0) (sym (limits-passed text n m l) ∙ h .1)))
 
   -- within the limits the run decides
   within-limits : length text ≤ 1048576 → 2048 ≤ m → readOf text n m ≡ run (start n m) (pieces 10 text)
-  unfolding limitRows
-  within-limits a b = limits-passed text n m (hold-passed (limitRows text m) (le-leb (length text) 1048576 a, (le-leb 2048 m b, tt)))
+  unfolding sceneLimitRows
+  within-limits a b = limits-passed text n m (all-pass-passed (sceneLimitRows text m) (le-leb (length text) 1048576 a, (le-leb 2048 m b, tt)))
 
-  accepting : (length text ≤ 1048576) × ((2048 ≤ m) × Passes text n) → answerOf (readOf text n m) ≡ Passed
+  accepting : (length text ≤ 1048576) × ((2048 ≤ m) × LinesAccepted text n) → readerCheck (readOf text n m) ≡ Passed
   accepting h = rw (within-limits (h .0) (h .1 .0), passes-accepted text n m (h .1 .1) .1)
 
   -- accepted exactly where no reader or line row refuses
-  pub reader-accepts : (answerOf (readOf text n m) ≡ Passed) ↔ ((length text ≤ 1048576) × ((2048 ≤ m) × Passes text n))
-  reader-accepts = (accepted, accepting)
+  pub scene-accepts : (readerCheck (readOf text n m) ≡ Passed) ↔ ((length text ≤ 1048576) × ((2048 ≤ m) × LinesAccepted text n))
+  scene-accepts = (accepted, accepting)
 
   -- the store and the table after an accepted text are those of the scene that its lines say
-  pub reader-leaves : answerOf (readOf text n m) ≡ Passed → (p : Passes text n) → Leaves text n m (readingOf (p .lines))
-  reader-leaves e p =
+  pub scene-encodes : readerCheck (readOf text n m) ≡ Passed → (p : LinesAccepted text n) → Encodes text n m (sceneOf (p .lines))
+  scene-encodes e p =
       let h = accepted e in
       let r = passes-accepted text n m p in
       let l = passes-leaves text n p m (r .0) (r .1) in
       let k = reading-ok text n p in
-      let w : length (sceneNumbers (readingOf (p .lines))) ≤ 925 = numbers-few (readingOf (p .lines)) k in
-      let f : length (sceneNumbers (readingOf (p .lines))) ≤ m = omega (arith, h .1 .0) in
+      let w : length (sceneNumbers (sceneOf (p .lines))) ≤ 925 = numbers-few (sceneOf (p .lines)) k in
+      let f : length (sceneNumbers (sceneOf (p .lines))) ≤ m = omega (arith, h .1 .0) in
       record {
         store = rw (within-limits (h .0) (h .1 .0), r .1) (l .0);
         table = rw (within-limits (h .0) (h .1 .0), r .1) (l .1 f);
@@ -67,5 +67,5 @@ module _ (text : List ℕ) (n m : ℕ) where
       }
 
 -- the lines are those of the text, whatever the store
-pub lines-one : (text : List ℕ) (n m : ℕ) (p : Passes text n) (q : Passes text m) → p .lines ≡ q .lines
+pub lines-one : (text : List ℕ) (n m : ℕ) (p : LinesAccepted text n) (q : LinesAccepted text m) → p .lines ≡ q .lines
 lines-one text n m p q = append-cancel-right (p .lines) (q .lines) ([] ∷ []) (sym (p .ended) ∙ q .ended)

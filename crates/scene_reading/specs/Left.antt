@@ -6,23 +6,23 @@ use mathlib.Core.List.{List}
 use lib.ListN.{length}
 use Rattle.scene_text.specs.Text.{pieces}
 use Rattle.scene_reader.specs.Reader as reader
-use Rattle.scene_reader.specs.Reader.{Held, held, run, start, readOf}
-use Rattle.scene_table.specs.Scene.{Scene, sceneBytes, sceneNumbers, storeOf, tableOf}
+use Rattle.scene_reader.specs.Reader.{ReaderState, held, run, start, readOf}
+use Rattle.scene_table.specs.Scene.{Scene, sceneBytes, sceneNumbers, sceneStore, sceneTable}
 use Rattle.scene_table.specs.Valid.{sceneOk}
 
 -- 01: "The reader puts the bytes of all hexadecimal fields end to end into a lent store, the rest into a lent u32 table": a store
 -- of n bytes and a table of m entries that hold the scene
-pub record Leaves (text : List ℕ) (n m : ℕ) (s : Scene) : Type 0 where
-  pub store : reader.storeOf n (readOf text n m) ≡ storeOf s n
-  pub table : reader.tableOf m (readOf text n m) ≡ tableOf s m
+pub record Encodes (text : List ℕ) (n m : ℕ) (s : Scene) : Type 0 where
+  pub store : reader.readerStore n (readOf text n m) ≡ sceneStore s n
+  pub table : reader.readerTable m (readOf text n m) ≡ sceneTable s m
   pub ok : sceneOk s ≡ true
   pub fits : length (sceneBytes s) ≤ n
   pub few : length (sceneNumbers s) ≤ m
 
 -- 01: "a table that the reader, scene length aside, leaves for no accepted scene with a store this long": here a text whose lines
 -- pass leaves the table, with a store of n bytes
-pub record LeftBy (table : List ℕ) (n : ℕ) : Type 0 where
+pub record Reachable (table : List ℕ) (n : ℕ) : Type 0 where
   pub text : List ℕ
-  pub left : Held
+  pub left : ReaderState
   pub ran : run (start n (length table)) (pieces 10 text) ≡ held left
   pub same : left .table ≡ table

@@ -10,7 +10,7 @@ use Rattle.octets.specs.Lists.{joined}
 use Rattle.scene_text.specs.Text.{pieces}
 use Rattle.scene_line.specs.declared.kind.Kind.{Kind}
 use Rattle.scene_line.specs.declared.kind.Kind.the-variants.{Script, Tx, Input, Output, Dep, Witness, Verdicts}
-use Rattle.scene_line.specs.Kind.{kindOf, fieldCount, firstForm, fieldsOf}
+use Rattle.scene_line.specs.Kind.{kindOf, fieldCount, firstForm, lineFields}
 use Rattle.scene_line.specs.Line.{formsOk, lineBytes}
 use Rattle.scene_table.specs.Valid.{every}
 
@@ -23,7 +23,7 @@ unfoldable pub kindOfLine : List ℕ → Kind
 kindOfLine l = kindOf (wordOf (pieces 44 l))
 
 unfoldable pub fieldsOfLine : List ℕ → List (List ℕ)
-fieldsOfLine l = fieldsOf (pieces 44 l)
+fieldsOfLine l = lineFields (pieces 44 l)
 
 -- n times x
 unfoldable pub times : {A : Type 0} → ℕ → A → List A
@@ -54,7 +54,7 @@ unfoldable pub bytesOfLine : List ℕ → List ℕ
 bytesOfLine l = lineBytes (firstForm (kindOfLine l)) (fieldsOfLine l)
 
 -- no line row refuses the text, with a store of n bytes
-pub record Passes (text : List ℕ) (n : ℕ) : Type 0 where
+pub record LinesAccepted (text : List ℕ) (n : ℕ) : Type 0 where
   pub lines : List (List ℕ)
   pub inputs : ℕ
   pub outputs : ℕ

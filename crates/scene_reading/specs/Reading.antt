@@ -4,12 +4,12 @@ use mathlib.Core.Bool.{cond}
 use mathlib.Core.List.{List, [], _∷_, map}
 use lib.ListN.{getD}
 use lib.Dec.{eqb}
-use Rattle.scene_text.specs.declared.decimal.Number.{Number}
-use Rattle.scene_text.specs.declared.decimal.Number.the-variants.{Is, Bad}
+use Rattle.scene_text.specs.declared.decimal.Decimal.{Decimal}
+use Rattle.scene_text.specs.declared.decimal.Decimal.the-variants.{Value, Invalid}
 use Rattle.scene_text.specs.Text.{hexBytes, hexVal, sinceOf}
 use Rattle.scene_line.specs.declared.kind.Kind.{Kind}
 use Rattle.scene_line.specs.declared.kind.Kind.the-variants as kind
-use Rattle.scene_line.specs.Kind.{place}
+use Rattle.scene_line.specs.Kind.{rank}
 use Rattle.scene_table.specs.Scene.{Cell, Input, Scene}
 use Rattle.scene_reading.specs.Lines.{kindOfLine, fieldsOfLine}
 
@@ -20,9 +20,9 @@ fieldAt (f ∷ fs) zero = f
 fieldAt (f ∷ fs) (suc i) = fieldAt fs i
 
 -- the number of a SINCE, 0 where it has none
-unfoldable pub numberIn : Number → ℕ
-numberIn (Is v) = v
-numberIn Bad = 0
+unfoldable pub numberIn : Decimal → ℕ
+numberIn (Value v) = v
+numberIn Invalid = 0
 
 -- "TYPEHASH,DATAHASH,TYPESCRIPT,DATA", the first of them at a place
 unfoldable pub cellOf : ℕ → List (List ℕ) → Cell
@@ -42,13 +42,13 @@ inputOf fs = record {
 }
 
 -- "`witness,HEX`"
-unfoldable pub bytesOf : List (List ℕ) → List ℕ
-bytesOf fs = hexBytes (fieldAt fs 0)
+unfoldable pub bytesField : List (List ℕ) → List ℕ
+bytesField fs = hexBytes (fieldAt fs 0)
 
 -- the fields of the lines of a kind, line by line
 unfoldable pub fieldsOfKind : Kind → List (List ℕ) → List (List (List ℕ))
 fieldsOfKind k [] = []
-fieldsOfKind k (l ∷ ls) = cond (eqb (place (kindOfLine l)) (place k)) (fieldsOfLine l ∷ fieldsOfKind k ls) (fieldsOfKind k ls)
+fieldsOfKind k (l ∷ ls) = cond (eqb (rank (kindOfLine l)) (rank k)) (fieldsOfLine l ∷ fieldsOfKind k ls) (fieldsOfKind k ls)
 
 -- the field of the only line of a kind: the first of the first line, nothing where there is no line
 unfoldable pub onlyField : List (List (List ℕ)) → List ℕ
@@ -57,13 +57,13 @@ onlyField (fs ∷ more) = fieldAt fs 0
 
 -- "`script,HEX`; `tx,HASH`; `input,..`; `output,` and `dep,` each with the last four; `witness,HEX`; `verdicts,DIGITS`"; "Script,
 -- tx and verdicts stand once"
-unfoldable pub readingOf : List (List ℕ) → Scene
-readingOf ls = record {
+unfoldable pub sceneOf : List (List ℕ) → Scene
+sceneOf ls = record {
   script = hexBytes (onlyField (fieldsOfKind kind.Script ls));
   transaction = hexBytes (onlyField (fieldsOfKind kind.Tx ls));
   inputs = map inputOf (fieldsOfKind kind.Input ls);
   outputs = map (cellOf 0) (fieldsOfKind kind.Output ls);
   deps = map (cellOf 0) (fieldsOfKind kind.Dep ls);
-  witnesses = map bytesOf (fieldsOfKind kind.Witness ls);
+  witnesses = map bytesField (fieldsOfKind kind.Witness ls);
   digits = map hexVal (onlyField (fieldsOfKind kind.Verdicts ls));
 }

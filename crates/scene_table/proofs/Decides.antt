@@ -11,8 +11,8 @@ use lib.ListN.{length, take, drop, getD, replicate, length-append, length-drop, 
 use lib.Seq.{drop-at, take-add}
 use Rattle.octets.proofs.Same.{same-eq, eq-same}
 use Rattle.octets.proofs.Parts.{part-back}
-use Rattle.scene_table.specs.Scene.{linesOf, rowsFrom, countsOf, sceneBytes, sceneNumbers, padded, tableOf}
-use Rattle.scene_table.specs.Lent.{entryAt, inputsAt, outputsAt, depsAt, witnessesAt, verdictsAt, rowsAt, inputFrom, cellRowFrom, bytesFrom, sceneFrom, blankScene}
+use Rattle.scene_table.specs.Scene.{linesOf, recordsFrom, countsOf, sceneBytes, sceneNumbers, padded, sceneTable}
+use Rattle.scene_table.specs.Lent.{tableEntry, inputsAt, outputsAt, depsAt, witnessesAt, verdictsAt, recordsAt, inputFrom, cellRecordFrom, bytesFrom, sceneFrom, blankScene}
 use Rattle.scene_table.specs.Places.{digitCount}
 use Rattle.scene_table.specs.Valid.{every, validTable}
 use Rattle.scene_table.specs.Walk.{startWalk, walkLines, countsOk, zerosBehind, restOk}
@@ -37,37 +37,37 @@ pass-zeros (x ∷ xs) h =
 
 -- the first eight entries
 cut-entries : (table : List ℕ) → cut table 8 0
-    ≡ entryAt table 0 ∷ entryAt table 1 ∷ entryAt table 2 ∷ entryAt table 3 ∷ entryAt table 4 ∷ entryAt table 5 ∷ entryAt table 6 ∷ entryAt table 7 ∷ []
-unfolding cut rowsAt
+    ≡ tableEntry table 0 ∷ tableEntry table 1 ∷ tableEntry table 2 ∷ tableEntry table 3 ∷ tableEntry table 4 ∷ tableEntry table 5 ∷ tableEntry table 6 ∷ tableEntry table 7 ∷ []
+unfolding cut recordsAt
 cut-entries table = refl
 
 module _ (table : List ℕ) where
   -- the counts that the table says
-  said-counts : countsOf (blankScene table) ≡ 0 ∷ 1 ∷ 1 ∷ entryAt table 3 ∷ entryAt table 4 ∷ entryAt table 5 ∷ entryAt table 6 ∷ 1 ∷ []
+  said-counts : countsOf (blankScene table) ≡ 0 ∷ 1 ∷ 1 ∷ tableEntry table 3 ∷ tableEntry table 4 ∷ tableEntry table 5 ∷ tableEntry table 6 ∷ 1 ∷ []
   unfolding countsOf blankScene sceneFrom
   said-counts =
       rw (
-        length-rows (inputFrom blank table) 6 (entryAt table 3) inputsAt,
-        length-rows (cellRowFrom blank table) 3 (entryAt table 4) (outputsAt table),
-        length-rows (cellRowFrom blank table) 3 (entryAt table 5) (depsAt table),
-        length-rows (bytesFrom blank table) 2 (entryAt table 6) (witnessesAt table),
+        length-rows (inputFrom blank table) 6 (tableEntry table 3) inputsAt,
+        length-rows (cellRecordFrom blank table) 3 (tableEntry table 4) (outputsAt table),
+        length-rows (cellRecordFrom blank table) 3 (tableEntry table 5) (depsAt table),
+        length-rows (bytesFrom blank table) 2 (tableEntry table 6) (witnessesAt table),
       )
 
-  -- the rows end behind the last digit
+  -- the records end behind the last digit
   ends : 8 + span table ≡ verdictsAt table + 2 + digitCount table
   unfolding span verdictsAt witnessesAt depsAt outputsAt inputsAt
   ends = omega arith
 
   -- what it takes to be the table of the scene that it says
   pub record Own : Type 0 where
-    pub zeroth : entryAt table 0 ≡ 0
-    pub scripts : entryAt table 1 ≡ 1
-    pub transactions : entryAt table 2 ≡ 1
-    pub verdicts : entryAt table 7 ≡ 1
-    pub rows : rowsFrom 0 (linesOf (blankScene table)) ≡ cut table (span table) 8
+    pub zeroth : tableEntry table 0 ≡ 0
+    pub scripts : tableEntry table 1 ≡ 1
+    pub transactions : tableEntry table 2 ≡ 1
+    pub verdicts : tableEntry table 7 ≡ 1
+    pub rows : recordsFrom 0 (linesOf (blankScene table)) ≡ cut table (span table) 8
     pub behind : zerosBehind table ≡ true
 
-  module _ (long : length (rowsFrom 0 (linesOf (blankScene table))) ≡ span table) (room : 8 + span table ≤ length table) where
+  module _ (long : length (recordsFrom 0 (linesOf (blankScene table))) ≡ span table) (room : 8 + span table ≤ length table) where
     own-counts : Own → cut table 8 0 ≡ countsOf (blankScene table)
     own-counts o = rw (cut-entries table, said-counts, o .zeroth, o .scripts, o .transactions, o .verdicts)
 
@@ -75,21 +75,21 @@ module _ (table : List ℕ) where
     unfolding sceneNumbers
     numbers-long = rw (length-append, said-counts, long)
 
-    pub own-table : Own → table ≡ tableOf (blankScene table) (length table)
-    unfolding tableOf padded sceneNumbers zerosBehind
+    pub own-table : Own → table ≡ sceneTable (blankScene table) (length table)
+    unfolding sceneTable padded sceneNumbers zerosBehind
     own-table o =
         let k = 8 + span table in
-        let front : take k table ≡ countsOf (blankScene table) ++ rowsFrom 0 (linesOf (blankScene table)) =
+        let front : take k table ≡ countsOf (blankScene table) ++ recordsFrom 0 (linesOf (blankScene table)) =
         take-add 8 (span table) table
         ∙ ap₂ (λ (x y : List ℕ). x ++ y) (sym (cut-take table 8 0 (omega arith)) ∙ own-counts o) (sym (cut-take table (span table) 8 room) ∙ sym (o .rows)) in
         let back : drop k table ≡ replicate (length table - k) 0 = rw (length-drop k table) at (pass-zeros (drop k table) (rw ends (o .behind))) in
         sym (take-append-drop k table) ∙ (ap₂ (λ (x y : List ℕ). x ++ y) front back ∙ rw numbers-long)
 
-    pub table-own : table ≡ tableOf (blankScene table) (length table) → Own
-    unfolding tableOf padded sceneNumbers zerosBehind
+    pub table-own : table ≡ sceneTable (blankScene table) (length table) → Own
+    unfolding sceneTable padded sceneNumbers zerosBehind
     table-own e =
         let c = countsOf (blankScene table) in
-        let r = rowsFrom 0 (linesOf (blankScene table)) in
+        let r = recordsFrom 0 (linesOf (blankScene table)) in
         let z : List ℕ = replicate (length table - length (c ++ r)) 0 in
         let f : table ≡ c ++ (r ++ z) = e ∙ append-assoc c r z in
         let eight : length c ≡ 8 = rw said-counts in
@@ -108,10 +108,10 @@ module _ (table : List ℕ) where
   -- the counts in range
   pub record Few : Type 0 where
     pub enough : 2048 ≤ length table
-    pub inputs : entryAt table 3 ≤ 64
-    pub outputs : entryAt table 4 ≤ 64
-    pub deps : entryAt table 5 ≤ 64
-    pub witnesses : entryAt table 6 ≤ 64
+    pub inputs : tableEntry table 3 ≤ 64
+    pub outputs : tableEntry table 4 ≤ 64
+    pub deps : tableEntry table 5 ≤ 64
+    pub witnesses : tableEntry table 6 ≤ 64
     pub digits : digitCount table ≤ 16
 
   room-for : Few → 8 + span table ≤ length table
@@ -120,10 +120,10 @@ module _ (table : List ℕ) where
 
   record Counted : Type 0 where
     few : Few
-    zeroth : entryAt table 0 ≡ 0
-    scripts : entryAt table 1 ≡ 1
-    transactions : entryAt table 2 ≡ 1
-    verdicts : entryAt table 7 ≡ 1
+    zeroth : tableEntry table 0 ≡ 0
+    scripts : tableEntry table 1 ≡ 1
+    transactions : tableEntry table 2 ≡ 1
+    verdicts : tableEntry table 7 ≡ 1
 
   counted : countsOk table ≡ true → Counted
   unfolding countsOk
@@ -140,16 +140,16 @@ module _ (table : List ℕ) where
       record {
         few = record {
           enough = leb-true 2048 (length table) (j .0);
-          inputs = leb-true (entryAt table 3) 64 (f .1);
-          outputs = leb-true (entryAt table 4) 64 (e .1);
-          deps = leb-true (entryAt table 5) 64 (d .1);
-          witnesses = leb-true (entryAt table 6) 64 (c .1);
+          inputs = leb-true (tableEntry table 3) 64 (f .1);
+          outputs = leb-true (tableEntry table 4) 64 (e .1);
+          deps = leb-true (tableEntry table 5) 64 (d .1);
+          witnesses = leb-true (tableEntry table 6) 64 (c .1);
           digits = leb-true (digitCount table) 16 (a .1);
         };
-        zeroth = eqb-true (entryAt table 0) 0 (j .1);
-        scripts = eqb-true (entryAt table 1) 1 (i .1);
-        transactions = eqb-true (entryAt table 2) 1 (g .1);
-        verdicts = eqb-true (entryAt table 7) 1 (b .1);
+        zeroth = eqb-true (tableEntry table 0) 0 (j .1);
+        scripts = eqb-true (tableEntry table 1) 1 (i .1);
+        transactions = eqb-true (tableEntry table 2) 1 (g .1);
+        verdicts = eqb-true (tableEntry table 7) 1 (b .1);
       }
 
   counts-pass : Counted → countsOk table ≡ true
@@ -157,14 +157,14 @@ module _ (table : List ℕ) where
   counts-pass c =
       rw (
         le-leb 2048 (length table) (c .few .enough),
-        eq-eqb (entryAt table 0) 0 (c .zeroth),
-        eq-eqb (entryAt table 1) 1 (c .scripts),
-        eq-eqb (entryAt table 2) 1 (c .transactions),
-        le-leb (entryAt table 3) 64 (c .few .inputs),
-        le-leb (entryAt table 4) 64 (c .few .outputs),
-        le-leb (entryAt table 5) 64 (c .few .deps),
-        le-leb (entryAt table 6) 64 (c .few .witnesses),
-        eq-eqb (entryAt table 7) 1 (c .verdicts),
+        eq-eqb (tableEntry table 0) 0 (c .zeroth),
+        eq-eqb (tableEntry table 1) 1 (c .scripts),
+        eq-eqb (tableEntry table 2) 1 (c .transactions),
+        le-leb (tableEntry table 3) 64 (c .few .inputs),
+        le-leb (tableEntry table 4) 64 (c .few .outputs),
+        le-leb (tableEntry table 5) 64 (c .few .deps),
+        le-leb (tableEntry table 6) 64 (c .few .witnesses),
+        eq-eqb (tableEntry table 7) 1 (c .verdicts),
         le-leb (digitCount table) 16 (c .few .digits),
       )
 
@@ -172,7 +172,7 @@ module _ (table : List ℕ) where
   unfolding sceneBytes
   bytes-total = total-joined (linesOf (blankScene table))
 
-  module _ (small : (i : ℕ) → entryAt table i < 2 ^ 32) (n : ℕ) where
+  module _ (small : (i : ℕ) → tableEntry table i < 2 ^ 32) (n : ℕ) where
     walk-valid : countsOk table ≡ true → restOk table n ≡ true → validTable table n ≡ true
     unfolding restOk validTable startWalk Groups
     walk-valid h g =
@@ -187,11 +187,11 @@ module _ (table : List ℕ) where
         rw (
           le-leb 2048 (length table) (c .few .enough),
           blank-ok table small,
-          le-leb (entryAt table 3) 64 (c .few .inputs),
+          le-leb (tableEntry table 3) 64 (c .few .inputs),
           t .1,
-          le-leb (entryAt table 4) 64 (c .few .outputs),
-          le-leb (entryAt table 5) 64 (c .few .deps),
-          le-leb (entryAt table 6) 64 (c .few .witnesses),
+          le-leb (tableEntry table 4) 64 (c .few .outputs),
+          le-leb (tableEntry table 5) 64 (c .few .deps),
+          le-leb (tableEntry table 6) 64 (c .few .witnesses),
           le-leb (digitCount table) 16 (c .few .digits),
           d .1,
           bytes-total,
@@ -214,16 +214,16 @@ module _ (table : List ℕ) where
         let digits = and-both _ _ (witnesses .1) in
         let few : Few = record {
           enough = leb-true 2048 (length table) (a .0);
-          inputs = leb-true (entryAt table 3) 64 (inputs .0);
-          outputs = leb-true (entryAt table 4) 64 (outputs .0);
-          deps = leb-true (entryAt table 5) 64 (deps .0);
-          witnesses = leb-true (entryAt table 6) 64 (witnesses .0);
+          inputs = leb-true (tableEntry table 3) 64 (inputs .0);
+          outputs = leb-true (tableEntry table 4) 64 (outputs .0);
+          deps = leb-true (tableEntry table 5) 64 (deps .0);
+          witnesses = leb-true (tableEntry table 6) 64 (witnesses .0);
           digits = leb-true (digitCount table) 16 (digits .0);
         } in
         let below : every (λ (d : ℕ). ltb d 3) (blankScene table .digits) ≡ true = digits .1 in
         let fits : leb (length (sceneBytes (blankScene table))) n ≡ true = c .0 in
         let w = whole table small in
-        let own = table-own (w .long 0) (room-for few) (same-eq table (tableOf (blankScene table) (length table)) (c .1)) in
+        let own = table-own (w .long 0) (room-for few) (same-eq table (sceneTable (blankScene table) (length table)) (c .1)) in
         let good = w .back refl (inputs .1) (own .rows) in
         let u : walkLines table .used ≡ length (sceneBytes (blankScene table)) = omega (arith, w .there good .3, bytes-total) in (
           counts-pass record { few = few; zeroth = own .zeroth; scripts = own .scripts; transactions = own .transactions; verdicts = own .verdicts },

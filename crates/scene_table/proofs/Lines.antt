@@ -1,4 +1,4 @@
--- Lines and their rows: how many bytes, one list of lines behind another, the entries of a table as a list, and a scene's
+-- Lines and their records: how many bytes, one list of lines behind another, the entries of a table as a list, and a scene's
 -- lines kind by kind.
 -- Assumes nothing.
 use mathlib.Core.Path.{_≡_, refl, sym, ap, _∙_}
@@ -10,8 +10,8 @@ use native.Mathlib.Omega.{arith}
 use lib.ListN.{length, take, drop, length-append}
 use lib.Seq.{drop-cons, take-at, drop-at}
 use Rattle.octets.specs.Lists.{joined}
-use Rattle.scene_table.specs.Scene.{Scene, Line, bytesLine, hashLine, inputLine, cellLine, digitsLine, linesOf, rowsFrom}
-use Rattle.scene_table.specs.Lent.{entryAt, rowsAt}
+use Rattle.scene_table.specs.Scene.{Scene, Line, bytesLine, hashLine, inputLine, cellLine, digitsLine, linesOf, recordsFrom}
+use Rattle.scene_table.specs.Lent.{tableEntry, recordsAt}
 use Rattle.scene_table.proofs.Rows.{length-rows}
 
 -- the bytes of lines
@@ -25,8 +25,8 @@ total-joined [] = refl
 total-joined (l ∷ ls) = rw (length-append, total-joined ls)
 
 -- one list of lines behind another
-pub rows-append : (used : ℕ) (ls ms : List Line) → rowsFrom used (ls ++ ms) ≡ rowsFrom used ls ++ rowsFrom (used + total ls) ms
-unfolding rowsFrom total
+pub rows-append : (used : ℕ) (ls ms : List Line) → recordsFrom used (ls ++ ms) ≡ recordsFrom used ls ++ recordsFrom (used + total ls) ms
+unfolding recordsFrom total
 rows-append used [] ms = rw add-zero
 rows-append used (l ∷ ls) ms =
     rw (rows-append (used + length (l .bytes)) ls ms, add-assoc) (sym (append-assoc (used ∷ l .numbers) _ _))
@@ -43,10 +43,10 @@ append-parts xs ys us vs n p q e =
 
 -- n entries of a table from `at` on
 unfoldable pub cut : List ℕ → ℕ → ℕ → List ℕ
-cut table n at = rowsAt (entryAt table) 1 n at
+cut table n at = recordsAt (tableEntry table) 1 n at
 
-rows-parts : (read : ℕ → ℕ) (n m at : ℕ) → rowsAt read 1 (n + m) at ≡ rowsAt read 1 n at ++ rowsAt read 1 m (at + n)
-unfolding rowsAt
+rows-parts : (read : ℕ → ℕ) (n m at : ℕ) → recordsAt read 1 (n + m) at ≡ recordsAt read 1 n at ++ recordsAt read 1 m (at + n)
+unfolding recordsAt
 rows-parts read zero m at = rw (zero-add, add-zero)
 rows-parts read (suc n) m at =
     let e : at + suc n ≡ at + 1 + n = omega arith in
@@ -54,15 +54,15 @@ rows-parts read (suc n) m at =
 
 pub cut-parts : (table : List ℕ) (n m at : ℕ) → cut table (n + m) at ≡ cut table n at ++ cut table m (at + n)
 unfolding cut
-cut-parts table n m at = rows-parts (entryAt table) n m at
+cut-parts table n m at = rows-parts (tableEntry table) n m at
 
 pub length-cut : (table : List ℕ) (n at : ℕ) → length (cut table n at) ≡ n
 unfolding cut
-length-cut table n at = length-rows (entryAt table) 1 n at
+length-cut table n at = length-rows (tableEntry table) 1 n at
 
 -- entries that the table has
 pub cut-take : (table : List ℕ) (n at : ℕ) → at + n ≤ length table → cut table n at ≡ take n (drop at table)
-unfolding cut rowsAt entryAt
+unfolding cut recordsAt tableEntry
 cut-take table zero at h = refl
 cut-take table (suc n) at h =
     let l : at < length table = omega arith in

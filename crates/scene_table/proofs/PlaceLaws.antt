@@ -7,16 +7,16 @@ use lib.Dec.{eqb}
 use lib.ListN.{length}
 use Rattle.octets.specs.Places as octets
 use Rattle.scene_table.specs.Scene.{Input, Scene}
-use Rattle.scene_table.specs.Lent.{entryAt, inputsAt, outputsAt, depsAt, witnessesAt, verdictsAt, cellFrom, inputFrom, cellRowFrom, bytesFrom, sceneFrom, bytesAt, lentScene, blankScene}
-use Rattle.scene_table.specs.Places.{placeOf, cellPlaces, bytesPlace, rowPlaces, scriptPlace, transactionPlace, digitCount, inputAt, inputGroup, inputSince, inputPlaces, outputPlaces, depPlaces, witnessPlace, verdictAt, verdictOf, cellAt}
+use Rattle.scene_table.specs.Lent.{tableEntry, inputsAt, outputsAt, depsAt, witnessesAt, verdictsAt, cellFrom, inputFrom, cellRecordFrom, bytesFrom, sceneFrom, storeBytes, sceneIn, blankScene}
+use Rattle.scene_table.specs.Places.{placeAt, cellFieldPlaces, bytesPlace, recordPlaces, scriptPlace, transactionPlace, digitCount, inputAt, inputGroup, inputSince, inputPlaces, outputPlaces, depPlaces, witnessPlace, verdictAt, verdictOf, cellIn}
 use Rattle.scene_table.proofs.Rows.{Listed, length-rows, rows-listed}
 
 -- input i of a table and a store
 unfoldable pub lentInput : List ℕ → List ℕ → ℕ → Input
 lentInput table store i = record {
-  group = entryAt table (inputAt i + 1);
+  group = tableEntry table (inputAt i + 1);
   since = inputSince table i;
-  cell = cellAt store (inputPlaces table i);
+  cell = cellIn store (inputPlaces table i);
 }
 
 -- its group is the one that `input_group` tests
@@ -28,22 +28,22 @@ lent-group table store i = refl
 pub record Given (table store : List ℕ) (s : Scene) : Type 0 where
   pub script : s .script ≡ octets.bytesAt store (scriptPlace table)
   pub transaction : s .transaction ≡ octets.bytesAt store (transactionPlace table)
-  pub inputs : Listed (s .inputs) (entryAt table 3) (lentInput table store)
-  pub outputs : Listed (s .outputs) (entryAt table 4) (λ i. cellAt store (outputPlaces table i))
-  pub deps : Listed (s .deps) (entryAt table 5) (λ i. cellAt store (depPlaces table i))
-  pub witnesses : Listed (s .witnesses) (entryAt table 6) (λ i. octets.bytesAt store (witnessPlace table i))
+  pub inputs : Listed (s .inputs) (tableEntry table 3) (lentInput table store)
+  pub outputs : Listed (s .outputs) (tableEntry table 4) (λ i. cellIn store (outputPlaces table i))
+  pub deps : Listed (s .deps) (tableEntry table 5) (λ i. cellIn store (depPlaces table i))
+  pub witnesses : Listed (s .witnesses) (tableEntry table 6) (λ i. octets.bytesAt store (witnessPlace table i))
   pub digits : length (s .digits) ≡ digitCount table
   pub verdicts : (i : ℕ) → verdictAt (s .digits) i ≡ verdictOf table i
 
-pub lent-given : (table store : List ℕ) → Given table store (lentScene table store)
-unfolding lentScene blankScene sceneFrom lentInput inputAt inputSince inputPlaces outputPlaces depPlaces witnessPlace scriptPlace transactionPlace bytesPlace rowPlaces cellAt octets.bytesAt cellPlaces placeOf inputFrom cellRowFrom cellFrom bytesFrom bytesAt digitCount verdictOf
+pub lent-given : (table store : List ℕ) → Given table store (sceneIn table store)
+unfolding sceneIn blankScene sceneFrom lentInput inputAt inputSince inputPlaces outputPlaces depPlaces witnessPlace scriptPlace transactionPlace bytesPlace recordPlaces cellIn octets.bytesAt cellFieldPlaces placeAt inputFrom cellRecordFrom cellFrom bytesFrom storeBytes digitCount verdictOf
 lent-given table store = record {
   script = refl;
   transaction = refl;
-  inputs = rows-listed (inputFrom (bytesAt store) table) 6 (entryAt table 3) inputsAt;
-  outputs = rows-listed (cellRowFrom (bytesAt store) table) 3 (entryAt table 4) (outputsAt table);
-  deps = rows-listed (cellRowFrom (bytesAt store) table) 3 (entryAt table 5) (depsAt table);
-  witnesses = rows-listed (bytesFrom (bytesAt store) table) 2 (entryAt table 6) (witnessesAt table);
-  digits = length-rows (entryAt table) 1 (entryAt table (verdictsAt table + 1)) (verdictsAt table + 2);
+  inputs = rows-listed (inputFrom (storeBytes store) table) 6 (tableEntry table 3) inputsAt;
+  outputs = rows-listed (cellRecordFrom (storeBytes store) table) 3 (tableEntry table 4) (outputsAt table);
+  deps = rows-listed (cellRecordFrom (storeBytes store) table) 3 (tableEntry table 5) (depsAt table);
+  witnesses = rows-listed (bytesFrom (storeBytes store) table) 2 (tableEntry table 6) (witnessesAt table);
+  digits = length-rows (tableEntry table) 1 (tableEntry table (verdictsAt table + 1)) (verdictsAt table + 2);
   verdicts = λ i. refl;
 }

@@ -9,8 +9,8 @@ use borrow.Author.Tests.{eqb-true}
 use lib.Dec.{lit<, ltb, eqb}
 use lib.ListN.{length, length-append}
 use Rattle.scene_table.specs.Scene.{Cell, Input, Scene, cellBytes, cellLengths, bytesLine, hashLine, inputLine, cellLine}
-use Rattle.scene_table.specs.Lent.{entryAt, hashLength, cellFrom, inputFrom, cellRowFrom, bytesFrom}
-use Rattle.scene_table.specs.Valid.{bytesOk, hashOk, cellOk, inputOk}
+use Rattle.scene_table.specs.Lent.{tableEntry, hashLength, cellFrom, inputFrom, cellRecordFrom, bytesFrom}
+use Rattle.scene_table.specs.Valid.{bytesOk, hashBytesOk, cellOk, inputOk}
 use Rattle.scene_table.proofs.Truth.{and-both}
 use Rattle.scene_table.proofs.Stands.{Stands, row-first, row-entry, row-bytes}
 
@@ -41,23 +41,23 @@ sceneWith g s = record {
 abbrev pub Gives : (ℕ → ℕ → List ℕ) → (List ℕ → List ℕ) → List ℕ → Type 0
 Gives from g store = (p q r : List ℕ) (at n : ℕ) → store ≡ p ++ (q ++ r) → length p ≡ at → length q ≡ n → from at n ≡ g q
 
-type-hash : (b : Bool) (hash : List ℕ) → cond b (eqb (length hash) 0) (hashOk hash) ≡ true → cond b 0 32 ≡ length hash
-unfolding hashOk
+type-hash : (b : Bool) (hash : List ℕ) → cond b (eqb (length hash) 0) (hashBytesOk hash) ≡ true → cond b 0 32 ≡ length hash
+unfolding hashBytesOk
 type-hash true hash h = sym (eqb-true (length hash) 0 h)
 type-hash false hash h = sym (eqb-true (length hash) 32 (and-both (eqb (length hash) 32) (bytesOk hash) h .0))
 
-pub hash-long : (hash : List ℕ) → hashOk hash ≡ true → length hash ≡ 32
-unfolding hashOk
+pub hash-long : (hash : List ℕ) → hashBytesOk hash ≡ true → length hash ≡ 32
+unfolding hashBytesOk
 hash-long hash h = eqb-true (length hash) 32 (and-both (eqb (length hash) 32) (bytesOk hash) h .0)
 
 -- the hashes of a cell have the lengths that the table says
 pub cell-hashes : (c : Cell) → cellOk c ≡ true → (hashLength (length (c .typeScript)) ≡ length (c .typeHash)) × (length (c .dataHash) ≡ 32)
 unfolding cellOk hashLength
 cell-hashes c h =
-    let first = cond (eqb (length (c .typeScript)) 0) (eqb (length (c .typeHash)) 0) (hashOk (c .typeHash)) in
+    let first = cond (eqb (length (c .typeScript)) 0) (eqb (length (c .typeHash)) 0) (hashBytesOk (c .typeHash)) in
     let last = bytesOk (c .typeScript) && bytesOk (c .content) in
-    let ok = and-both first (hashOk (c .dataHash) && last) h in
-    (type-hash (eqb (length (c .typeScript)) 0) (c .typeHash) (ok .0), hash-long (c .dataHash) (and-both (hashOk (c .dataHash)) last (ok .1) .0))
+    let ok = and-both first (hashBytesOk (c .dataHash) && last) h in
+    (type-hash (eqb (length (c .typeScript)) 0) (c .typeHash) (ok .0), hash-long (c .dataHash) (and-both (hashBytesOk (c .dataHash)) last (ok .1) .0))
 
 module _ (from : ℕ → ℕ → List ℕ) (g : List ℕ → List ℕ) (table store : List ℕ) (gives : Gives from g store) where
   cell-back : (c : Cell) (front back : List ℕ) (used : ℕ) → cellOk c ≡ true → store ≡ front ++ (cellBytes c ++ back) → length front ≡ used
@@ -92,13 +92,13 @@ module _ (from : ℕ → ℕ → List ℕ) (g : List ℕ → List ℕ) (table st
       (row-first table store s, row-entry table store {l = bytesLine bs} 0 (lit< tt) s)
       (gives (s .front) bs (s .back) used (length bs) (row-bytes table store s) (s .start) refl)
 
-  pub hash-back : (hash : List ℕ) (at used : ℕ) → hashOk hash ≡ true → Stands table store at used (hashLine hash ∷ []) → from (entryAt table at) 32 ≡ g hash
+  pub hash-back : (hash : List ℕ) (at used : ℕ) → hashBytesOk hash ≡ true → Stands table store at used (hashLine hash ∷ []) → from (tableEntry table at) 32 ≡ g hash
   unfolding hashLine
   hash-back hash at used h s =
       rw (row-first table store s) (gives (s .front) hash (s .back) used 32 (row-bytes table store s) (s .start) (hash-long hash h))
 
-  pub row-back : (c : Cell) (at used : ℕ) → cellOk c ≡ true → Stands table store at used (cellLine c ∷ []) → cellRowFrom from table at ≡ cellWith g c
-  unfolding cellRowFrom cellLine cellLengths
+  pub row-back : (c : Cell) (at used : ℕ) → cellOk c ≡ true → Stands table store at used (cellLine c ∷ []) → cellRecordFrom from table at ≡ cellWith g c
+  unfolding cellRecordFrom cellLine cellLengths
   row-back c at used h s =
       rw
       (row-first table store s, row-entry table store {l = cellLine c} 0 (lit< tt) s, row-entry table store {l = cellLine c} 1 (lit< tt) s)

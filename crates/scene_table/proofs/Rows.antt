@@ -8,7 +8,7 @@ use native.Mathlib.Omega.{arith}
 use native.Mathlib.Numerals.{add-one}
 use lib.ListN.{length, drop, getD, drop-of-length-le}
 use lib.Seq.{drop-cons}
-use Rattle.scene_table.specs.Lent.{rowsAt}
+use Rattle.scene_table.specs.Lent.{recordsAt}
 
 -- l is f 0, f 1, .. f (n - 1): its elements, and what is left of it at each turn of a loop
 pub record Listed {A : Type 0} (l : List A) (n : ℕ) (f : ℕ → A) : Type 0 where
@@ -26,34 +26,34 @@ listed l n f long nth = record {
 }
 
 module _ {A : Type 0} (read : ℕ → A) (w : ℕ) where
-  -- the next row
+  -- the next record
   next-row : (at i : ℕ) → at + w + w * i ≡ at + w * suc i
   next-row at i = rw mul-suc (omega arith)
 
-  pub length-rows : (n at : ℕ) → length (rowsAt read w n at) ≡ n
-  unfolding rowsAt
+  pub length-rows : (n at : ℕ) → length (recordsAt read w n at) ≡ n
+  unfolding recordsAt
   length-rows zero at = refl
   length-rows (suc n) at = ap suc (length-rows n (at + w))
 
-  -- row i
-  pub row-nth : (n at i : ℕ) (d : A) → i < n → getD (rowsAt read w n at) i d ≡ read (at + w * i)
-  unfolding rowsAt
+  -- record i
+  pub row-nth : (n at i : ℕ) (d : A) → i < n → getD (recordsAt read w n at) i d ≡ read (at + w * i)
+  unfolding recordsAt
   row-nth zero at i d h = absurd (not-suc-le-zero h)
   row-nth (suc n) at zero d h = ap read (rw mul-zero (omega arith))
   row-nth (suc n) at (suc i) d h = row-nth n (at + w) i d (le-of-suc-le-suc h) ∙ ap read (next-row at i)
 
-  -- no row
-  pub row-past : (n at i : ℕ) (d : A) → n ≤ i → getD (rowsAt read w n at) i d ≡ d
-  unfolding rowsAt
+  -- no record
+  pub row-past : (n at i : ℕ) (d : A) → n ≤ i → getD (recordsAt read w n at) i d ≡ d
+  unfolding recordsAt
   row-past zero at i d h = refl
   row-past (suc n) at zero d h = absurd (not-suc-le-zero h)
   row-past (suc n) at (suc i) d h = row-past n (at + w) i d (le-of-suc-le-suc h)
 
   -- after the last turn nothing is left
-  pub rows-end : (n at i : ℕ) → n ≤ i → rowsAt read w (n - i) at ≡ []
-  unfolding rowsAt
+  pub rows-end : (n at i : ℕ) → n ≤ i → recordsAt read w (n - i) at ≡ []
+  unfolding recordsAt
   rows-end n at i h = let e : n - i ≡ 0 = omega arith in rw e
 
-  -- the rows as a list
-  pub rows-listed : (n at : ℕ) → Listed (rowsAt read w n at) n (λ i. read (at + w * i))
-  rows-listed n at = listed (rowsAt read w n at) n (λ i. read (at + w * i)) (length-rows n at) (row-nth n at)
+  -- the records as a list
+  pub rows-listed : (n at : ℕ) → Listed (recordsAt read w n at) n (λ i. read (at + w * i))
+  rows-listed n at = listed (recordsAt read w n at) n (λ i. read (at + w * i)) (length-rows n at) (row-nth n at)

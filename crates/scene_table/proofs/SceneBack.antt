@@ -10,9 +10,9 @@ use borrow.Author.Tests.{leb-true}
 use lib.Dec.{leb, ltb}
 use lib.ListN.{length, replicate, length-append}
 use Rattle.octets.proofs.Parts.{part-back}
-use Rattle.scene_table.specs.Scene.{Cell, Input, Scene, Line, cellLengths, bytesLine, hashLine, inputLine, cellLine, digitsLine, linesOf, sceneBytes, countsOf, rowsFrom, sceneNumbers, padded, tableOf}
-use Rattle.scene_table.specs.Lent.{entryAt, inputsAt, outputsAt, depsAt, witnessesAt, verdictsAt, rowsAt, inputFrom, cellRowFrom, bytesFrom, sceneFrom}
-use Rattle.scene_table.specs.Valid.{every, bytesOk, hashOk, cellOk, inputOk, fewOf, digitsOk, sceneOk}
+use Rattle.scene_table.specs.Scene.{Cell, Input, Scene, Line, cellLengths, bytesLine, hashLine, inputLine, cellLine, digitsLine, linesOf, sceneBytes, countsOf, recordsFrom, sceneNumbers, padded, sceneTable}
+use Rattle.scene_table.specs.Lent.{tableEntry, inputsAt, outputsAt, depsAt, witnessesAt, verdictsAt, recordsAt, inputFrom, cellRecordFrom, bytesFrom, sceneFrom}
+use Rattle.scene_table.specs.Valid.{every, bytesOk, hashBytesOk, cellOk, inputOk, fewOf, digitsOk, sceneOk}
 use Rattle.scene_table.proofs.Lines.{total, rows-append, cut, cut-take, fromInputs, fromOutputs, fromDeps, fromWitnesses, lines-by-kind}
 use Rattle.scene_table.proofs.Truth.{and-both}
 use Rattle.scene_table.proofs.Stands.{Stands, bytesOf, stands-left, stands-right, row-entry, rows-long, rows-back}
@@ -21,7 +21,7 @@ use Rattle.scene_table.proofs.ReadBack.{cellWith, inputWith, sceneWith,
 -- what a scene that a text can say has
 pub record Sayable (s : Scene) : Type 0 where
   pub script : bytesOk (s .script) ≡ true
-  pub transaction : hashOk (s .transaction) ≡ true
+  pub transaction : hashBytesOk (s .transaction) ≡ true
   pub fewInputs : length (s .inputs) ≤ 64
   pub inputs : every inputOk (s .inputs) ≡ true
   pub fewOutputs : length (s .outputs) ≤ 64
@@ -78,17 +78,17 @@ bytes-wide : (bs : List ℕ) → suc (length (bytesLine bs .numbers)) ≡ 2
 unfolding bytesLine
 bytes-wide bs = refl
 
-hash-wide : (hash : List ℕ) (used : ℕ) → length (rowsFrom used (hashLine hash ∷ [])) ≡ 1
-unfolding rowsFrom hashLine
+hash-wide : (hash : List ℕ) (used : ℕ) → length (recordsFrom used (hashLine hash ∷ [])) ≡ 1
+unfolding recordsFrom hashLine
 hash-wide hash used = refl
 
 -- the digits are read back
 digits-back : (table store digits : List ℕ) (at used : ℕ) → Stands table store at used (digitsLine digits ∷ [])
-    → rowsAt (entryAt table) 1 (entryAt table (at + 1)) (at + 2) ≡ digits
-unfolding digitsLine rowsFrom cut
+    → recordsAt (tableEntry table) 1 (tableEntry table (at + 1)) (at + 2) ≡ digits
+unfolding digitsLine recordsFrom cut
 digits-back table store digits at used s =
     let head = s .before ++ (used ∷ length digits ∷ []) in
-    let n : entryAt table (at + 1) ≡ length digits = row-entry table store {l = digitsLine digits} 0 (zero-lt-suc (length digits)) s in
+    let n : tableEntry table (at + 1) ≡ length digits = row-entry table store {l = digitsLine digits} 0 (zero-lt-suc (length digits)) s in
     let e : table ≡ head ++ (digits ++ s .after) =
     s .rows
     ∙ (ap (λ (r : List ℕ). s .before ++ (r ++ s .after)) (append-nil (used ∷ length digits ∷ digits))
@@ -102,11 +102,11 @@ unfolding countsOf
 counts-long s = refl
 
 -- one list of lines behind another: how many entries
-both-long : (used : ℕ) (ls ms : List Line) (n m : ℕ) → length (rowsFrom used ls) ≡ n → length (rowsFrom (used + total ls) ms) ≡ m → length (rowsFrom used (ls ++ ms)) ≡ n + m
+both-long : (used : ℕ) (ls ms : List Line) (n m : ℕ) → length (recordsFrom used ls) ≡ n → length (recordsFrom (used + total ls) ms) ≡ m → length (recordsFrom used (ls ++ ms)) ≡ n + m
 both-long used ls ms n m p q = rw (rows-append used ls ms, length-append, p, q)
 
-digits-wide : (digits : List ℕ) (used : ℕ) → length (rowsFrom used (digitsLine digits ∷ [])) ≡ 2 + length digits
-unfolding rowsFrom digitsLine
+digits-wide : (digits : List ℕ) (used : ℕ) → length (recordsFrom used (digitsLine digits ∷ [])) ≡ 2 + length digits
+unfolding recordsFrom digitsLine
 digits-wide digits used = ap length (append-nil (used ∷ length digits ∷ digits)) ∙ omega arith
 
 -- how many entries a scene fills
@@ -114,7 +114,7 @@ pub numbers-long : (s : Scene) → length (sceneNumbers s)
     ≡ 8 + (2 + (1 + (6 * length (s .inputs) + (3 * length (s .outputs) + (3 * length (s .deps) + (2 * length (s .witnesses) + (2 + length (s .digits))))))))
 unfolding sceneNumbers fromInputs fromOutputs fromDeps fromWitnesses
 numbers-long s =
-    length-append (countsOf s) (rowsFrom 0 (linesOf s))
+    length-append (countsOf s) (recordsFrom 0 (linesOf s))
     ∙ rw (
       counts-long s,
       lines-by-kind s,
@@ -133,49 +133,49 @@ numbers-few s h = let ok = sayable s h in omega (arith, numbers-long s, ok)
 
 module _ (s : Scene) (m : ℕ) where
   -- the counts in the table
-  counts : (entryAt (tableOf s m) 3 ≡ length (s .inputs)) × (entryAt (tableOf s m) 4 ≡ length (s .outputs)) × (entryAt (tableOf s m) 5 ≡ length (s .deps)) × (entryAt (tableOf s m) 6 ≡ length (s .witnesses))
-  unfolding entryAt tableOf padded sceneNumbers countsOf
+  counts : (tableEntry (sceneTable s m) 3 ≡ length (s .inputs)) × (tableEntry (sceneTable s m) 4 ≡ length (s .outputs)) × (tableEntry (sceneTable s m) 5 ≡ length (s .deps)) × (tableEntry (sceneTable s m) 6 ≡ length (s .witnesses))
+  unfolding tableEntry sceneTable padded sceneNumbers countsOf
   counts = (refl, refl, refl, refl)
 
-  all-stand : Stands (tableOf s m) (sceneBytes s) 8 0 (bytesLine (s .script) ∷ hashLine (s .transaction) ∷ fromInputs s)
-  unfolding tableOf padded sceneNumbers sceneBytes bytesOf
+  all-stand : Stands (sceneTable s m) (sceneBytes s) 8 0 (bytesLine (s .script) ∷ hashLine (s .transaction) ∷ fromInputs s)
+  unfolding sceneTable padded sceneNumbers sceneBytes bytesOf
   all-stand = record {
     before = countsOf s;
     after = replicate (m - length (sceneNumbers s)) 0;
     front = [];
     back = [];
-    rows = ap (λ (ls : List Line). (countsOf s ++ rowsFrom 0 ls) ++ replicate (m - length (sceneNumbers s)) 0) (lines-by-kind s) ∙ append-assoc (countsOf s) _ _;
+    rows = ap (λ (ls : List Line). (countsOf s ++ recordsFrom 0 ls) ++ replicate (m - length (sceneNumbers s)) 0) (lines-by-kind s) ∙ append-assoc (countsOf s) _ _;
     place = counts-long s;
     bytes = ap bytesOf (lines-by-kind s) ∙ sym (append-nil _);
     start = refl;
   }
 
-  -- where the rows of each kind begin
-  outputs-place : outputsAt (tableOf s m) ≡ 11 + 6 * length (s .inputs)
+  -- where the records of each kind begin
+  outputs-place : outputsAt (sceneTable s m) ≡ 11 + 6 * length (s .inputs)
   unfolding outputsAt inputsAt
   outputs-place = rw (counts .0)
 
-  deps-place : depsAt (tableOf s m) ≡ 11 + 6 * length (s .inputs) + 3 * length (s .outputs)
+  deps-place : depsAt (sceneTable s m) ≡ 11 + 6 * length (s .inputs) + 3 * length (s .outputs)
   unfolding depsAt
   deps-place = rw (outputs-place, counts .1)
 
-  witnesses-place : witnessesAt (tableOf s m) ≡ 11 + 6 * length (s .inputs) + 3 * length (s .outputs) + 3 * length (s .deps)
+  witnesses-place : witnessesAt (sceneTable s m) ≡ 11 + 6 * length (s .inputs) + 3 * length (s .outputs) + 3 * length (s .deps)
   unfolding witnessesAt
   witnesses-place = rw (deps-place, counts .2)
 
-  verdicts-place : verdictsAt (tableOf s m) ≡ 11 + 6 * length (s .inputs) + 3 * length (s .outputs) + 3 * length (s .deps) + 2 * length (s .witnesses)
+  verdicts-place : verdictsAt (sceneTable s m) ≡ 11 + 6 * length (s .inputs) + 3 * length (s .outputs) + 3 * length (s .deps) + 2 * length (s .witnesses)
   unfolding verdictsAt
   verdicts-place = rw (witnesses-place, counts .3)
 
   module _ (from : ℕ → ℕ → List ℕ) (g : List ℕ → List ℕ) (gives : Gives from g (sceneBytes s)) (ok : Sayable s) where
     T : List ℕ
-    T = tableOf s m
+    T = sceneTable s m
 
     B : List ℕ
     B = sceneBytes s
 
     -- a scene's table read back
-    pub scene-back : sceneFrom from (tableOf s m) ≡ sceneWith g s
+    pub scene-back : sceneFrom from (sceneTable s m) ≡ sceneWith g s
     unfolding sceneFrom sceneWith fromInputs fromOutputs fromDeps fromWitnesses inputsAt T B
     scene-back =
         let i = s .inputs in
@@ -202,8 +202,8 @@ module _ (s : Scene) (m : ℕ) where
           bytes-back from g T B gives (s .script) 8 0 (ok .script) (stands-left T B script (hash ++ fromInputs s) all-stand),
           hash-back from g T B gives (s .transaction) 10 _ (ok .transaction) (stands-left T B hash (fromInputs s) behind),
           rows-back inputLine 6 input-wide T B (inputFrom from T) (inputWith g) inputOk (input-back from g T B gives) i 11 _ (ok .inputs) (stands-left T B (map inputLine i) (fromOutputs s) inputs),
-          rows-back cellLine 3 cell-wide T B (cellRowFrom from T) (cellWith g) cellOk (row-back from g T B gives) o _ _ (ok .outputs) (stands-left T B (map cellLine o) (fromDeps s) outputs),
-          rows-back cellLine 3 cell-wide T B (cellRowFrom from T) (cellWith g) cellOk (row-back from g T B gives) d _ _ (ok .deps) (stands-left T B (map cellLine d) (fromWitnesses s) deps),
+          rows-back cellLine 3 cell-wide T B (cellRecordFrom from T) (cellWith g) cellOk (row-back from g T B gives) o _ _ (ok .outputs) (stands-left T B (map cellLine o) (fromDeps s) outputs),
+          rows-back cellLine 3 cell-wide T B (cellRecordFrom from T) (cellWith g) cellOk (row-back from g T B gives) d _ _ (ok .deps) (stands-left T B (map cellLine d) (fromWitnesses s) deps),
           rows-back bytesLine 2 bytes-wide T B (bytesFrom from T) g bytesOk (bytes-back from g T B gives) w _ _ (ok .witnesses) (stands-left T B (map bytesLine w) (digitsLine (s .digits) ∷ []) witnesses),
           digits-back T B (s .digits) _ _ verdicts,
         )

@@ -1,4 +1,4 @@
--- The walk over a part of a table's rows: it goes well exactly where the rows are those of the part's lines.
+-- The walk over a part of a table's records: it goes well exactly where the records are those of the part's lines.
 -- Assumes nothing.
 use mathlib.Core.Path.{_≡_, refl, sym, ap, ap₂, _∙_}
 use mathlib.Core.Bool.{Bool, true, _&&_}
@@ -8,19 +8,19 @@ use native.Mathlib.Nat.{add-zero, add-assoc, add-comm, mul-suc, mul-zero}
 use borrow.Author.Tests.{eq-eqb, eqb-true}
 use lib.Dec.{eqb}
 use lib.ListN.{length, getD, length-append}
-use Rattle.scene_table.specs.Scene.{Line, rowsFrom}
-use Rattle.scene_table.specs.Lent.{entryAt, rowsAt}
+use Rattle.scene_table.specs.Scene.{Line, recordsFrom}
+use Rattle.scene_table.specs.Lent.{tableEntry, recordsAt}
 use Rattle.scene_table.specs.Valid.{every}
-use Rattle.scene_table.specs.Walk.{need, placed, rowStep, walkRows}
+use Rattle.scene_table.specs.Walk.{need, placed, recordStep, walkRecords}
 use Rattle.scene_table.specs.declared.validity.Walk.{Walk}
 use Rattle.scene_table.proofs.Truth.{and-both, both-and}
 use Rattle.scene_table.proofs.Lines.{total, rows-append, total-append, append-parts, cut, cut-parts, length-cut}
 
--- the walk from k to k' over the rows of some lines, n entries from `at` on, where a further test of them passes
+-- the walk from k to k' over the records of some lines, n entries from `at` on, where a further test of them passes
 pub record Segment (table : List ℕ) (Test : Type 0) (k : Walk) (at n : ℕ) (ls : List Line) (k' : Walk) : Type 0 where
-  pub there : k' .good ≡ true → (k .good ≡ true) × Test × (rowsFrom (k .used) ls ≡ cut table n at) × (k' .used ≡ k .used + total ls)
-  pub back : k .good ≡ true → Test → rowsFrom (k .used) ls ≡ cut table n at → k' .good ≡ true
-  pub long : (used : ℕ) → length (rowsFrom used ls) ≡ n
+  pub there : k' .good ≡ true → (k .good ≡ true) × Test × (recordsFrom (k .used) ls ≡ cut table n at) × (k' .used ≡ k .used + total ls)
+  pub back : k .good ≡ true → Test → recordsFrom (k .used) ls ≡ cut table n at → k' .good ≡ true
+  pub long : (used : ℕ) → length (recordsFrom used ls) ≡ n
 
 module _ (table : List ℕ) where
   -- one part behind another
@@ -30,13 +30,13 @@ module _ (table : List ℕ) where
     there = λ h.
         let b = t .there h in
         let a = s .there (b .0) in
-        let e : rowsFrom (k .used + total ls) ms ≡ cut table p (at + n) = rw (a .3) at (b .2) in
+        let e : recordsFrom (k .used + total ls) ms ≡ cut table p (at + n) = rw (a .3) at (b .2) in
         let u : m .used ≡ k .used + total (ls ++ ms) = b .3 ∙ rw (a .3, total-append ls ms, add-assoc) in
         (a .0, (a .1, b .1), rows-append (k .used) ls ms ∙ (ap₂ (λ (x y : List ℕ). x ++ y) (a .2) e ∙ sym (cut-parts table n p at)), u);
     back = λ g x e.
         let f = sym (rows-append (k .used) ls ms) ∙ (e ∙ cut-parts table n p at) in
         let c : length (cut table n at) ≡ n = length-cut table n at in
-        let d = append-parts (rowsFrom (k .used) ls) (rowsFrom (k .used + total ls) ms) (cut table n at) (cut table p (at + n)) n (s .long (k .used)) c f in
+        let d = append-parts (recordsFrom (k .used) ls) (recordsFrom (k .used + total ls) ms) (cut table n at) (cut table p (at + n)) n (s .long (k .used)) c f in
         let h = s .back g (x .0) (d .0) in
         let u = s .there h .3 in
         t .back h (x .1) (rw u (d .1));
@@ -51,40 +51,40 @@ module _ (table : List ℕ) where
     long = s .long;
   }
 
-  -- no rows
+  -- no records
   none : (k : Walk) (at n : ℕ) (t : Bool) → n ≡ 0 → t ≡ true → Segment table (t ≡ true) k at n [] k
-  unfolding rowsFrom cut rowsAt total
+  unfolding recordsFrom cut recordsAt total
   none k at n t e h = record { there = λ g. (g, h, rw e, sym (add-zero (k .used))); back = λ g x f. g; long = λ used. rw e }
 
-  cut-first : (v at : ℕ) → cut table (suc v) at ≡ entryAt table at ∷ cut table v (at + 1)
-  unfolding cut rowsAt
+  cut-first : (v at : ℕ) → cut table (suc v) at ≡ tableEntry table at ∷ cut table v (at + 1)
+  unfolding cut recordsAt
   cut-first v at = refl
 
   module _ (ok : ℕ → Bool) (size : ℕ → ℕ) where
-    -- one row
+    -- one record
     pub row-segment : (k : Walk) (at v : ℕ) (l : Line) → length (l .bytes) ≡ size at → l .numbers ≡ cut table v (at + 1)
-        → Segment table (ok at ≡ true) k at (suc v) (l ∷ []) (rowStep table ok size k at)
-    unfolding rowsFrom total rowStep need placed
+        → Segment table (ok at ≡ true) k at (suc v) (l ∷ []) (recordStep table ok size k at)
+    unfolding recordsFrom total recordStep need placed
     row-segment k at v l sized own = record {
       there = λ h.
-          let a = and-both (k .good && ok at) (eqb (entryAt table at) (k .used)) h in
+          let a = and-both (k .good && ok at) (eqb (tableEntry table at) (k .used)) h in
           let b = and-both (k .good) (ok at) (a .0) in
-          let e = eqb-true (entryAt table at) (k .used) (a .1) in
-          let u : entryAt table at + size at ≡ k .used + (length (l .bytes) + 0) = rw (e, sized, add-zero) in
+          let e = eqb-true (tableEntry table at) (k .used) (a .1) in
+          let u : tableEntry table at + size at ≡ k .used + (length (l .bytes) + 0) = rw (e, sized, add-zero) in
           (b .0, b .1, rw (append-nil, own, ← e) (sym (cut-first v at)), u);
       back = λ g x e.
-          let f : k .used ≡ entryAt table at = ap (λ (r : List ℕ). getD r 0 0) (e ∙ cut-first v at) in
-          both-and (k .good && ok at) (eqb (entryAt table at) (k .used)) (both-and (k .good) (ok at) g x) (eq-eqb (entryAt table at) (k .used) (sym f));
+          let f : k .used ≡ tableEntry table at = ap (λ (r : List ℕ). getD r 0 0) (e ∙ cut-first v at) in
+          both-and (k .good && ok at) (eqb (tableEntry table at) (k .used)) (both-and (k .good) (ok at) g x) (eq-eqb (tableEntry table at) (k .used) (sym f));
       long = λ used. ap length (append-nil (used ∷ l .numbers)) ∙ ap suc (ap length own ∙ length-cut table v (at + 1));
     }
 
-    -- n rows
+    -- n records
     pub rows-segment : (v : ℕ) (line : ℕ → Line) → ((at : ℕ) → length (line at .bytes) ≡ size at) → ((at : ℕ) → line at .numbers ≡ cut table v (at + 1))
         → (n at : ℕ) (k : Walk)
-        → Segment table (every ok (rowsAt (λ (i : ℕ). i) (suc v) n at) ≡ true) k at (suc v * n) (rowsAt line (suc v) n at) (walkRows table ok size (suc v) n at k)
-    unfolding rowsAt walkRows every
+        → Segment table (every ok (recordsAt (λ (i : ℕ). i) (suc v) n at) ≡ true) k at (suc v * n) (recordsAt line (suc v) n at) (walkRecords table ok size (suc v) n at k)
+    unfolding recordsAt walkRecords every
     rows-segment v line sized own zero at k = none k at (suc v * 0) true (mul-zero (suc v)) refl
     rows-segment v line sized own (suc n) at k =
         let e : suc v * suc n ≡ suc v + suc v * n = rw (mul-suc, add-comm (suc v * n)) in
-        let s = join (row-segment k at v (line at) (sized at) (own at)) (rows-segment v line sized own n (at + suc v) (rowStep table ok size k at)) in
+        let s = join (row-segment k at v (line at) (sized at) (own at)) (rows-segment v line sized own n (at + suc v) (recordStep table ok size k at)) in
         rw e (retest (λ t. both-and _ _ (t .0) (t .1)) (λ t. and-both _ _ t) s)

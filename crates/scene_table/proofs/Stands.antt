@@ -1,4 +1,4 @@
--- Where lines stand: their rows in a table, their bytes in a store; and rows read back.
+-- Where lines stand: their records in a table, their bytes in a store; and records read back.
 -- Assumes nothing.
 use mathlib.Core.Path.{_≡_, refl, sym, ap, ap₂, _∙_}
 use mathlib.Core.Bool.{Bool, true}
@@ -9,8 +9,8 @@ use native.Mathlib.Omega.{arith}
 use lib.ListN.{length, getD, length-append, List·getD-append}
 use lib.Seq.{getD-append-add, getD-at}
 use Rattle.octets.specs.Lists.{joined}
-use Rattle.scene_table.specs.Scene.{Line, rowsFrom}
-use Rattle.scene_table.specs.Lent.{entryAt, rowsAt}
+use Rattle.scene_table.specs.Scene.{Line, recordsFrom}
+use Rattle.scene_table.specs.Lent.{tableEntry, recordsAt}
 use Rattle.scene_table.specs.Valid.{every}
 use Rattle.scene_table.proofs.Lines.{total, total-joined, rows-append}
 use Rattle.scene_table.proofs.Truth.{and-both}
@@ -24,13 +24,13 @@ unfolding bytesOf joined
 bytes-append [] ms = refl
 bytes-append (l ∷ ls) ms = rw (bytes-append ls ms) (sym (append-assoc (l .bytes) (joined (map (λ (l : Line). l .bytes) ls)) (joined (map (λ (l : Line). l .bytes) ms))))
 
--- lines whose rows begin at entry `at` and whose bytes begin at place `used`
+-- lines whose records begin at entry `at` and whose bytes begin at place `used`
 pub record Stands (table store : List ℕ) (at used : ℕ) (ls : List Line) : Type 0 where
   pub before : List ℕ
   pub after : List ℕ
   pub front : List ℕ
   pub back : List ℕ
-  pub rows : table ≡ before ++ (rowsFrom used ls ++ after)
+  pub rows : table ≡ before ++ (recordsFrom used ls ++ after)
   pub place : length before ≡ at
   pub bytes : store ≡ front ++ (bytesOf ls ++ back)
   pub start : length front ≡ used
@@ -40,37 +40,37 @@ module _ (table store : List ℕ) where
   pub stands-left : {at used : ℕ} (ls ms : List Line) → Stands table store at used (ls ++ ms) → Stands table store at used ls
   stands-left {at} {used} ls ms s = record {
     before = s .before;
-    after = rowsFrom (used + total ls) ms ++ s .after;
+    after = recordsFrom (used + total ls) ms ++ s .after;
     front = s .front;
     back = bytesOf ms ++ s .back;
-    rows = s .rows ∙ ap (λ (r : List ℕ). s .before ++ r) (ap (λ (r : List ℕ). r ++ s .after) (rows-append used ls ms) ∙ append-assoc (rowsFrom used ls) (rowsFrom (used + total ls) ms) (s .after));
+    rows = s .rows ∙ ap (λ (r : List ℕ). s .before ++ r) (ap (λ (r : List ℕ). r ++ s .after) (rows-append used ls ms) ∙ append-assoc (recordsFrom used ls) (recordsFrom (used + total ls) ms) (s .after));
     place = s .place;
     bytes = s .bytes ∙ ap (λ (r : List ℕ). s .front ++ r) (ap (λ (r : List ℕ). r ++ s .back) (bytes-append ls ms) ∙ append-assoc (bytesOf ls) (bytesOf ms) (s .back));
     start = s .start;
   }
 
-  pub stands-right : {at used : ℕ} (ls ms : List Line) (n : ℕ) → length (rowsFrom used ls) ≡ n → Stands table store at used (ls ++ ms) → Stands table store (at + n) (used + total ls) ms
+  pub stands-right : {at used : ℕ} (ls ms : List Line) (n : ℕ) → length (recordsFrom used ls) ≡ n → Stands table store at used (ls ++ ms) → Stands table store (at + n) (used + total ls) ms
   unfolding bytesOf stands-left
   stands-right {at} {used} ls ms n long s =
       let t = stands-left ls ms s in
       record {
-        before = s .before ++ rowsFrom used ls;
+        before = s .before ++ recordsFrom used ls;
         after = s .after;
         front = s .front ++ bytesOf ls;
         back = s .back;
-        rows = t .rows ∙ sym (append-assoc (s .before) (rowsFrom used ls) (rowsFrom (used + total ls) ms ++ s .after));
+        rows = t .rows ∙ sym (append-assoc (s .before) (recordsFrom used ls) (recordsFrom (used + total ls) ms ++ s .after));
         place = rw (length-append, s .place, long);
         bytes = t .bytes ∙ sym (append-assoc (s .front) (bytesOf ls) (bytesOf ms ++ s .back));
         start = rw (length-append, s .start, total-joined ls);
       }
 
-  -- the entries of one line's row, and its bytes
-  pub row-first : {at used : ℕ} {l : Line} → Stands table store at used (l ∷ []) → entryAt table at ≡ used
-  unfolding entryAt rowsFrom
+  -- the entries of one line's record, and its bytes
+  pub row-first : {at used : ℕ} {l : Line} → Stands table store at used (l ∷ []) → tableEntry table at ≡ used
+  unfolding tableEntry recordsFrom
   row-first {at} {used} {l} s = ap (λ (r : List ℕ). getD r at 0) (s .rows) ∙ getD-at (s .before) used _ 0 at (s .place)
 
-  pub row-entry : {at used : ℕ} {l : Line} (i : ℕ) → i < length (l .numbers) → Stands table store at used (l ∷ []) → entryAt table (at + suc i) ≡ getD (l .numbers) i 0
-  unfolding entryAt rowsFrom
+  pub row-entry : {at used : ℕ} {l : Line} (i : ℕ) → i < length (l .numbers) → Stands table store at used (l ∷ []) → tableEntry table (at + suc i) ≡ getD (l .numbers) i 0
+  unfolding tableEntry recordsFrom
   row-entry {at} {used} {l} i h s =
       rw (s .rows, ← s .place, getD-append-add (s .before) ((used ∷ l .numbers) ++ [] ++ s .after) (suc i) 0)
       (ap (λ (r : List ℕ). getD (r ++ s .after) i 0) (append-nil (l .numbers)) ∙ List·getD-append (l .numbers) (s .after) 0 i h)
@@ -80,20 +80,20 @@ module _ (table store : List ℕ) where
   row-bytes {at} {used} {l} s = s .bytes ∙ ap (λ (r : List ℕ). s .front ++ (r ++ s .back)) (append-nil (l .bytes))
 
 module _ {A : Type 0} (line : A → Line) (w : ℕ) (wide : (x : A) → suc (length (line x .numbers)) ≡ w) where
-  -- how many entries rows of one kind have
-  pub rows-long : (xs : List A) (used : ℕ) → length (rowsFrom used (map line xs)) ≡ w * length xs
-  unfolding rowsFrom
+  -- how many entries records of one kind have
+  pub rows-long : (xs : List A) (used : ℕ) → length (recordsFrom used (map line xs)) ≡ w * length xs
+  unfolding recordsFrom
   rows-long [] used = sym (mul-zero w)
   rows-long (x ∷ xs) used =
       let e : suc (length (line x .numbers)) ≡ w = wide x in
       let r = rows-long xs (used + length (line x .bytes)) in
-      length-append (used ∷ line x .numbers) (rowsFrom (used + length (line x .bytes)) (map line xs)) ∙ rw (e, r, mul-suc) (add-comm w (w * length xs))
+      length-append (used ∷ line x .numbers) (recordsFrom (used + length (line x .bytes)) (map line xs)) ∙ rw (e, r, mul-suc) (add-comm w (w * length xs))
 
-  -- rows of one kind are read back
+  -- records of one kind are read back
   pub rows-back : {B : Type 0} (table store : List ℕ) (read : ℕ → B) (image : A → B) (ok : A → Bool)
       → ((x : A) (at used : ℕ) → ok x ≡ true → Stands table store at used (line x ∷ []) → read at ≡ image x)
-      → (xs : List A) (at used : ℕ) → every ok xs ≡ true → Stands table store at used (map line xs) → rowsAt read w (length xs) at ≡ map image xs
-  unfolding every rowsAt
+      → (xs : List A) (at used : ℕ) → every ok xs ≡ true → Stands table store at used (map line xs) → recordsAt read w (length xs) at ≡ map image xs
+  unfolding every recordsAt
   rows-back table store read image ok one [] at used h s = refl
   rows-back table store read image ok one (x ∷ xs) at used h s =
       let a = and-both (ok x) (every ok xs) h in
@@ -102,5 +102,5 @@ module _ {A : Type 0} (line : A → Line) (w : ℕ) (wide : (x : A) → suc (len
       (one x at used (a .0) (stands-left table store (line x ∷ []) (map line xs) s))
       (rows-back table store read image ok one xs (at + w) (used + total (line x ∷ [])) (a .1) t)
     where
-      row-long : (x : A) (used : ℕ) → length (rowsFrom used (line x ∷ [])) ≡ w
+      row-long : (x : A) (used : ℕ) → length (recordsFrom used (line x ∷ [])) ≡ w
       row-long x used = rows-long (x ∷ []) used ∙ rw mul-suc (rw mul-zero (omega arith))

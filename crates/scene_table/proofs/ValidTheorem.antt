@@ -9,9 +9,9 @@ use borrow.Author.Tests.{le-leb, leb-true}
 use lib.Dec.{ltb}
 use lib.ListN.{length, replicate, length-append, length-replicate, length-map}
 use Rattle.octets.proofs.Same.{same-eq, eq-same}
-use Rattle.scene_table.specs.Scene.{Cell, Input, Scene, Line, cellBytes, cellLengths, bytesLine, hashLine, inputLine, cellLine, linesOf, sceneBytes, countsOf, rowsFrom, sceneNumbers, padded, tableOf}
+use Rattle.scene_table.specs.Scene.{Cell, Input, Scene, Line, cellBytes, cellLengths, bytesLine, hashLine, inputLine, cellLine, linesOf, sceneBytes, countsOf, recordsFrom, sceneNumbers, padded, sceneTable}
 use Rattle.scene_table.specs.Lent.{cellFrom, blankScene}
-use Rattle.scene_table.specs.Valid.{every, bytesOk, hashOk, cellOk, inputOk, fewOf, digitsOk, sceneOk, validTable}
+use Rattle.scene_table.specs.Valid.{every, bytesOk, hashBytesOk, cellOk, inputOk, fewOf, digitsOk, sceneOk, validTable}
 use Rattle.scene_table.proofs.Lines.{total, total-joined, total-append, rows-append}
 use Rattle.scene_table.proofs.Truth.{and-both, both-and}
 use Rattle.scene_table.proofs.WholeWalk.{blank}
@@ -23,9 +23,9 @@ use Rattle.scene_table.proofs.SceneBack.{Sayable, sayable, scene-back}
 abbrev zeroed : List ℕ → List ℕ
 zeroed q = replicate (length q) 0
 
--- lines of the same rows and as many bytes
+-- lines of the same records and as many bytes
 record Alike (ls ms : List Line) : Type 0 where
-  rows : (used : ℕ) → rowsFrom used ls ≡ rowsFrom used ms
+  rows : (used : ℕ) → recordsFrom used ls ≡ recordsFrom used ms
   long : total ls ≡ total ms
 
 alike-append : (ls ms ls' ms' : List Line) → Alike ls ms → Alike ls' ms' → Alike (ls ++ ls') (ms ++ ms')
@@ -35,7 +35,7 @@ alike-append ls ms ls' ms' a b = record {
 }
 
 alike-one : (l m : Line) → l .numbers ≡ m .numbers → length (l .bytes) ≡ length (m .bytes) → Alike (l ∷ []) (m ∷ [])
-unfolding rowsFrom total
+unfolding recordsFrom total
 alike-one l m e f = record { rows = λ used. rw e; long = rw f }
 
 alike-map : {A : Type 0} (line : A → Line) (f : A → A) → ((x : A) → Alike (line (f x) ∷ []) (line x ∷ [])) → (xs : List A) → Alike (map line (map f xs)) (map line xs)
@@ -101,8 +101,8 @@ zeroed-numbers s =
       alike-lines s .rows 0,
     )
 
-zeroed-table : (s : Scene) (m : ℕ) → tableOf (sceneWith zeroed s) m ≡ tableOf s m
-unfolding tableOf
+zeroed-table : (s : Scene) (m : ℕ) → sceneTable (sceneWith zeroed s) m ≡ sceneTable s m
+unfolding sceneTable
 zeroed-table s m = ap (padded m) (zeroed-numbers s)
 
 zeroed-long : (s : Scene) → length (sceneBytes (sceneWith zeroed s)) ≡ length (sceneBytes s)
@@ -136,7 +136,7 @@ few : {A : Type 0} (p : A → Bool) (f : A → A) → ((x : A) → p x ≡ true 
 unfolding fewOf
 few p f h xs l e = rw (length-map xs f, le-leb (length xs) 64 l) (every-map p f h xs e)
 
-zeroed-hash : (hash : List ℕ) → hashOk hash ≡ true → hashOk (zeroed hash) ≡ true
+zeroed-hash : (hash : List ℕ) → hashBytesOk hash ≡ true → hashBytesOk (zeroed hash) ≡ true
 zeroed-hash hash h = rw (hash-long hash h) blank-hash
 
 zeroed-ok : (s : Scene) → Sayable s → sceneOk (sceneWith zeroed s) ≡ true
@@ -154,23 +154,23 @@ zeroed-ok s ok =
     )
 
 -- a table says the zeroed scene of a scene that leaves it
-blank-scene : (s : Scene) (m : ℕ) → Sayable s → blankScene (tableOf s m) ≡ sceneWith zeroed s
+blank-scene : (s : Scene) (m : ℕ) → Sayable s → blankScene (sceneTable s m) ≡ sceneWith zeroed s
 unfolding blankScene
 blank-scene s m ok = scene-back s m blank zeroed (λ p q r at n e lp lq. rw lq) ok
 
 -- a table that a scene leaves passes
-pub scene-passes : (table : List ℕ) (n : ℕ) (s : Scene) → 2048 ≤ length table → sceneOk s ≡ true → length (sceneBytes s) ≤ n → table ≡ tableOf s (length table)
+pub scene-passes : (table : List ℕ) (n : ℕ) (s : Scene) → 2048 ≤ length table → sceneOk s ≡ true → length (sceneBytes s) ≤ n → table ≡ sceneTable s (length table)
     → validTable table n ≡ true
 unfolding validTable
 scene-passes table n s enough ok room e =
     let said : blankScene table ≡ sceneWith zeroed s = ap blankScene e ∙ blank-scene s (length table) (sayable s ok) in
     rw
     (le-leb 2048 (length table) enough, said, zeroed-ok s (sayable s ok), zeroed-long s, le-leb (length (sceneBytes s)) n room)
-    (eq-same table (tableOf (sceneWith zeroed s) (length table)) (e ∙ sym (zeroed-table s (length table))))
+    (eq-same table (sceneTable (sceneWith zeroed s) (length table)) (e ∙ sym (zeroed-table s (length table))))
 
 -- a table that passes is the one of the scene that it says
 pub passes-scene : (table : List ℕ) (n : ℕ) → validTable table n ≡ true
-    → (2048 ≤ length table) × (s : Scene) × (sceneOk s ≡ true) × (length (sceneBytes s) ≤ n) × (table ≡ tableOf s (length table))
+    → (2048 ≤ length table) × (s : Scene) × (sceneOk s ≡ true) × (length (sceneBytes s) ≤ n) × (table ≡ sceneTable s (length table))
 unfolding validTable
 passes-scene table n h =
     let a = and-both _ _ h in
@@ -180,10 +180,10 @@ passes-scene table n h =
       blankScene table,
       b .0,
       leb-true (length (sceneBytes (blankScene table))) n (c .0),
-      same-eq table (tableOf (blankScene table) (length table)) (c .1),
+      same-eq table (sceneTable (blankScene table) (length table)) (c .1),
     )
 
 -- 01, the row for 7: yes exactly for a table that some scene leaves, scene length aside, with a store of n bytes
 pub valid-table : (table : List ℕ) (n : ℕ) → (validTable table n ≡ true)
-    ↔ ((2048 ≤ length table) × (s : Scene) × (sceneOk s ≡ true) × (length (sceneBytes s) ≤ n) × (table ≡ tableOf s (length table)))
+    ↔ ((2048 ≤ length table) × (s : Scene) × (sceneOk s ≡ true) × (length (sceneBytes s) ≤ n) × (table ≡ sceneTable s (length table)))
 valid-table table n = (passes-scene table n, λ t. scene-passes table n (t .1) (t .0) (t .2) (t .3) (t .4))

@@ -8,9 +8,9 @@ use native.Mathlib.Numerals.{add-one}
 use native.Mathlib.Omega.{arith}
 use lib.ListN.{length, drop, getD, drop-of-length-le}
 use lib.Seq.{drop-cons}
-use Rattle.scene_table.specs.Lent.{rowsAt}
+use Rattle.scene_table.specs.Lent.{recordsAt}
 use Rattle.scene_table.specs.Valid.{every}
-use Rattle.scene_table.specs.Walk.{need, rowStep, walkRows}
+use Rattle.scene_table.specs.Walk.{need, recordStep, walkRecords}
 use Rattle.scene_table.specs.declared.validity.Walk.{Walk}
 use Rattle.scene_table.proofs.Rows.{rows-end}
 
@@ -19,27 +19,27 @@ pub need-true : (k : Walk) → need k true ≡ k
 unfolding need
 need-true k = rw (and-true (k .good))
 
--- a turn of the loop over rows
+-- a turn of the loop over records
 pub walk-turn : (table : List ℕ) (ok : ℕ → Bool) (size : ℕ → ℕ) (w n at i : ℕ) (k : Walk) → i < n
-    → walkRows table ok size w (n - i) at k ≡ walkRows table ok size w (n - (i + 1)) (at + w) (rowStep table ok size k at)
-unfolding walkRows
+    → walkRecords table ok size w (n - i) at k ≡ walkRecords table ok size w (n - (i + 1)) (at + w) (recordStep table ok size k at)
+unfolding walkRecords
 walk-turn table ok size w n at i k h = let e : n - i ≡ suc (n - (i + 1)) = omega arith in rw e
 
 -- after the last turn nothing is left
-pub walk-end : (table : List ℕ) (ok : ℕ → Bool) (size : ℕ → ℕ) (w n at i : ℕ) (k : Walk) → n ≤ i → walkRows table ok size w (n - i) at k ≡ k
-unfolding walkRows
+pub walk-end : (table : List ℕ) (ok : ℕ → Bool) (size : ℕ → ℕ) (w n at i : ℕ) (k : Walk) → n ≤ i → walkRecords table ok size w (n - i) at k ≡ k
+unfolding walkRecords
 walk-end table ok size w n at i k h = let e : n - i ≡ 0 = omega arith in rw e
 
 -- a turn of the loop over digits, and its end
 pub digits-turn : (p : ℕ → Bool) (read : ℕ → ℕ) (n at i : ℕ) → i < n
-    → every p (rowsAt read 1 (n - i) (at + i)) ≡ (p (read (at + i)) && every p (rowsAt read 1 (n - (i + 1)) (at + (i + 1))))
-unfolding rowsAt every
+    → every p (recordsAt read 1 (n - i) (at + i)) ≡ (p (read (at + i)) && every p (recordsAt read 1 (n - (i + 1)) (at + (i + 1))))
+unfolding recordsAt every
 digits-turn p read n at i h =
     let e : n - i ≡ suc (n - (i + 1)) = omega arith in
     let f : at + (i + 1) ≡ at + i + 1 = omega arith in
     rw (e, f)
 
-pub digits-end : (p : ℕ → Bool) (read : ℕ → ℕ) (n at i : ℕ) → n ≤ i → true ≡ every p (rowsAt read 1 (n - i) at)
+pub digits-end : (p : ℕ → Bool) (read : ℕ → ℕ) (n at i : ℕ) → n ≤ i → true ≡ every p (recordsAt read 1 (n - i) at)
 unfolding every
 digits-end p read n at i h = rw (rows-end read 1 n at i h)
 

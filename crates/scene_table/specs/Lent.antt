@@ -7,29 +7,29 @@ use lib.ListN.{take, drop, getD, replicate}
 use lib.Dec.{eqb}
 use Rattle.scene_table.specs.Scene.{Cell, Input, Scene}
 
-unfoldable pub entryAt : List ℕ → ℕ → ℕ
-entryAt table i = getD table i 0
+unfoldable pub tableEntry : List ℕ → ℕ → ℕ
+tableEntry table i = getD table i 0
 
--- where the rows of each kind begin: script, tx, then the inputs, outputs, deps, witnesses, and the verdicts
+-- where the records of each kind begin: script, tx, then the inputs, outputs, deps, witnesses, and the verdicts
 unfoldable pub inputsAt : ℕ
 inputsAt = 11
 
 unfoldable pub outputsAt : List ℕ → ℕ
-outputsAt table = inputsAt + 6 * entryAt table 3
+outputsAt table = inputsAt + 6 * tableEntry table 3
 
 unfoldable pub depsAt : List ℕ → ℕ
-depsAt table = outputsAt table + 3 * entryAt table 4
+depsAt table = outputsAt table + 3 * tableEntry table 4
 
 unfoldable pub witnessesAt : List ℕ → ℕ
-witnessesAt table = depsAt table + 3 * entryAt table 5
+witnessesAt table = depsAt table + 3 * tableEntry table 5
 
 unfoldable pub verdictsAt : List ℕ → ℕ
-verdictsAt table = witnessesAt table + 2 * entryAt table 6
+verdictsAt table = witnessesAt table + 2 * tableEntry table 6
 
--- n rows of w entries, the first at `at`
-unfoldable pub rowsAt : {A : Type 0} → (ℕ → A) → ℕ → ℕ → ℕ → List A
-rowsAt read w zero at = []
-rowsAt read w (suc n) at = read at ∷ rowsAt read w n (at + w)
+-- n records of w entries, the first at `at`
+unfoldable pub recordsAt : {A : Type 0} → (ℕ → A) → ℕ → ℕ → ℕ → List A
+recordsAt read w zero at = []
+recordsAt read w (suc n) at = read at ∷ recordsAt read w n (at + w)
 
 -- 01: "TYPEHASH and TYPESCRIPT are both empty or neither": the length of the first by that of the second
 unfoldable pub hashLength : ℕ → ℕ
@@ -46,35 +46,35 @@ cellFrom from start script content = record {
 
 unfoldable pub inputFrom : (ℕ → ℕ → List ℕ) → List ℕ → ℕ → Input
 inputFrom from table at = record {
-  group = entryAt table (at + 1);
-  since = entryAt table (at + 2) + 2 ^ 32 * entryAt table (at + 3);
-  cell = cellFrom from (entryAt table at) (entryAt table (at + 4)) (entryAt table (at + 5));
+  group = tableEntry table (at + 1);
+  since = tableEntry table (at + 2) + 2 ^ 32 * tableEntry table (at + 3);
+  cell = cellFrom from (tableEntry table at) (tableEntry table (at + 4)) (tableEntry table (at + 5));
 }
 
-unfoldable pub cellRowFrom : (ℕ → ℕ → List ℕ) → List ℕ → ℕ → Cell
-cellRowFrom from table at = cellFrom from (entryAt table at) (entryAt table (at + 1)) (entryAt table (at + 2))
+unfoldable pub cellRecordFrom : (ℕ → ℕ → List ℕ) → List ℕ → ℕ → Cell
+cellRecordFrom from table at = cellFrom from (tableEntry table at) (tableEntry table (at + 1)) (tableEntry table (at + 2))
 
 unfoldable pub bytesFrom : (ℕ → ℕ → List ℕ) → List ℕ → ℕ → List ℕ
-bytesFrom from table at = from (entryAt table at) (entryAt table (at + 1))
+bytesFrom from table at = from (tableEntry table at) (tableEntry table (at + 1))
 
 unfoldable pub sceneFrom : (ℕ → ℕ → List ℕ) → List ℕ → Scene
 sceneFrom from table = record {
   script = bytesFrom from table 8;
-  transaction = from (entryAt table 10) 32;
-  inputs = rowsAt (inputFrom from table) 6 (entryAt table 3) inputsAt;
-  outputs = rowsAt (cellRowFrom from table) 3 (entryAt table 4) (outputsAt table);
-  deps = rowsAt (cellRowFrom from table) 3 (entryAt table 5) (depsAt table);
-  witnesses = rowsAt (bytesFrom from table) 2 (entryAt table 6) (witnessesAt table);
-  digits = rowsAt (entryAt table) 1 (entryAt table (verdictsAt table + 1)) (verdictsAt table + 2);
+  transaction = from (tableEntry table 10) 32;
+  inputs = recordsAt (inputFrom from table) 6 (tableEntry table 3) inputsAt;
+  outputs = recordsAt (cellRecordFrom from table) 3 (tableEntry table 4) (outputsAt table);
+  deps = recordsAt (cellRecordFrom from table) 3 (tableEntry table 5) (depsAt table);
+  witnesses = recordsAt (bytesFrom from table) 2 (tableEntry table 6) (witnessesAt table);
+  digits = recordsAt (tableEntry table) 1 (tableEntry table (verdictsAt table + 1)) (verdictsAt table + 2);
 }
 
 -- the bytes at a place of the store
-unfoldable pub bytesAt : List ℕ → ℕ → ℕ → List ℕ
-bytesAt store at n = take n (drop at store)
+unfoldable pub storeBytes : List ℕ → ℕ → ℕ → List ℕ
+storeBytes store at n = take n (drop at store)
 
 -- the scene in a table and a store
-unfoldable pub lentScene : List ℕ → List ℕ → Scene
-lentScene table store = sceneFrom (bytesAt store) table
+unfoldable pub sceneIn : List ℕ → List ℕ → Scene
+sceneIn table store = sceneFrom (storeBytes store) table
 
 -- the scene of a table alone, every byte of the store zero
 unfoldable pub blankScene : List ℕ → Scene

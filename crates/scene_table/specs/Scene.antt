@@ -71,26 +71,26 @@ linesOf s =
 unfoldable pub sceneBytes : Scene → List ℕ
 sceneBytes s = joined (map (λ (l : Line). l .bytes) (linesOf s))
 
--- "the rest into a lent u32 table": the number of lines of each kind behind a zero, and a row for each line: where its
+-- "the rest into a lent u32 table": the number of lines of each kind behind a zero, and a record for each line: where its
 -- bytes begin in the store, and its numbers
 unfoldable pub countsOf : Scene → List ℕ
 countsOf s =
     0 ∷ 1 ∷ 1 ∷ length (s .inputs) ∷ length (s .outputs) ∷ length (s .deps) ∷ length (s .witnesses) ∷ 1 ∷ []
 
-unfoldable pub rowsFrom : ℕ → List Line → List ℕ
-rowsFrom used [] = []
-rowsFrom used (l ∷ ls) = (used ∷ l .numbers) ++ rowsFrom (used + length (l .bytes)) ls
+unfoldable pub recordsFrom : ℕ → List Line → List ℕ
+recordsFrom used [] = []
+recordsFrom used (l ∷ ls) = (used ∷ l .numbers) ++ recordsFrom (used + length (l .bytes)) ls
 
 unfoldable pub sceneNumbers : Scene → List ℕ
-sceneNumbers s = countsOf s ++ rowsFrom 0 (linesOf s)
+sceneNumbers s = countsOf s ++ recordsFrom 0 (linesOf s)
 
 -- "both are zeroed first": zeros behind, up to n
 unfoldable pub padded : ℕ → List ℕ → List ℕ
 padded n xs = xs ++ replicate (n - length xs) 0
 
 -- the store of n bytes and the table of m entries that a scene leaves
-unfoldable pub storeOf : Scene → ℕ → List ℕ
-storeOf s n = padded n (sceneBytes s)
+unfoldable pub sceneStore : Scene → ℕ → List ℕ
+sceneStore s n = padded n (sceneBytes s)
 
-unfoldable pub tableOf : Scene → ℕ → List ℕ
-tableOf s m = padded m (sceneNumbers s)
+unfoldable pub sceneTable : Scene → ℕ → List ℕ
+sceneTable s m = padded m (sceneNumbers s)

@@ -5,7 +5,7 @@ use mathlib.Core.List.{List, [], _∷_}
 use lib.ListN.{length}
 use lib.Dec.{leb, ltb, eqb}
 use Rattle.octets.specs.Lists.{same}
-use Rattle.scene_table.specs.Scene.{Cell, Input, Scene, sceneBytes, tableOf}
+use Rattle.scene_table.specs.Scene.{Cell, Input, Scene, sceneBytes, sceneTable}
 use Rattle.scene_table.specs.Lent.{blankScene}
 
 -- every element passes
@@ -16,14 +16,14 @@ every p (x ∷ xs) = p x && every p xs
 unfoldable pub bytesOk : List ℕ → Bool
 bytesOk bytes = every (λ (b : ℕ). ltb b 256) bytes
 
-unfoldable pub hashOk : List ℕ → Bool
-hashOk hash = eqb (length hash) 32 && bytesOk hash
+unfoldable pub hashBytesOk : List ℕ → Bool
+hashBytesOk hash = eqb (length hash) 32 && bytesOk hash
 
 -- "TYPEHASH and TYPESCRIPT are both empty or neither."
 unfoldable pub cellOk : Cell → Bool
 cellOk c =
-    cond (eqb (length (c .typeScript)) 0) (eqb (length (c .typeHash)) 0) (hashOk (c .typeHash))
-    && (hashOk (c .dataHash) && (bytesOk (c .typeScript) && bytesOk (c .content)))
+    cond (eqb (length (c .typeScript)) 0) (eqb (length (c .typeHash)) 0) (hashBytesOk (c .typeHash))
+    && (hashBytesOk (c .dataHash) && (bytesOk (c .typeScript) && bytesOk (c .content)))
 
 -- "GROUP is 1 where the input runs this lock, else 0 .. SINCE is a decimal u64"
 unfoldable pub inputOk : Input → Bool
@@ -41,7 +41,7 @@ digitsOk digits = leb (length digits) 16 && every (λ (d : ℕ). ltb d 3) digits
 unfoldable pub sceneOk : Scene → Bool
 sceneOk s =
     bytesOk (s .script)
-    && (hashOk (s .transaction)
+    && (hashBytesOk (s .transaction)
     && (fewOf inputOk (s .inputs)
     && (fewOf cellOk (s .outputs) && (fewOf cellOk (s .deps) && (fewOf bytesOk (s .witnesses) && digitsOk (s .digits))))))
 
@@ -50,4 +50,4 @@ unfoldable pub validTable : List ℕ → ℕ → Bool
 validTable table n =
     leb 2048 (length table)
     && (sceneOk (blankScene table)
-    && (leb (length (sceneBytes (blankScene table))) n && same table (tableOf (blankScene table) (length table))))
+    && (leb (length (sceneBytes (blankScene table))) n && same table (sceneTable (blankScene table) (length table))))

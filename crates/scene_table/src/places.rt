@@ -2,8 +2,8 @@
 use octets::Place;
 ghost use mathlib.Core.Path.{_≡_};
 ghost use Prim.Native.Nat.{_≤_, _<_, _^_};
-ghost use Rattle.scene_table.specs.Lent.{entryAt, outputsAt, depsAt, witnessesAt, verdictsAt, hashLength};
-ghost use Rattle.scene_table.specs.Places.{cellPlaces, bytesPlace, rowPlaces, scriptPlace, transactionPlace, digitCount, inputGroup, inputSince, inputPlaces, outputPlaces, depPlaces, witnessPlace, verdictOf};
+ghost use Rattle.scene_table.specs.Lent.{tableEntry, outputsAt, depsAt, witnessesAt, verdictsAt, hashLength};
+ghost use Rattle.scene_table.specs.Places.{cellFieldPlaces, bytesPlace, recordPlaces, scriptPlace, transactionPlace, digitCount, inputGroup, inputSince, inputPlaces, outputPlaces, depPlaces, witnessPlace, verdictOf};
 
 // The places of a cell's fields. A cell without a type script has nothing at the first and the third.
 pub struct CellPlaces {
@@ -13,39 +13,39 @@ pub struct CellPlaces {
     pub content: Place,
 }
 
-pub(crate) fn entry_at(table: &[u32], at: usize) -> u32
-    ensures { λ r. ⌜ r ≡ entryAt (now (table .entry)) at ⌝ }
+pub(crate) fn table_entry(table: &[u32], at: usize) -> u32
+    ensures { λ r. ⌜ r ≡ tableEntry (now (table .entry)) at ⌝ }
 {
     if at < table.len() { table[at] } else { 0 }
 }
 
-// Where the rows of each kind begin.
+// Where the records of each kind begin.
 pub(crate) fn outputs_at(table: &[u32]) -> usize
     ensures { λ r. ⌜ r ≡ outputsAt (now (table .entry)) ⌝ }
     ensures { λ r. ⌜ r < 2 ^ 36 ⌝ }
 {
-    11 + 6 * entry_at(table, 3) as usize
+    11 + 6 * table_entry(table, 3) as usize
 }
 
 pub(crate) fn deps_at(table: &[u32]) -> usize
     ensures { λ r. ⌜ r ≡ depsAt (now (table .entry)) ⌝ }
     ensures { λ r. ⌜ r < 2 ^ 37 ⌝ }
 {
-    outputs_at(table) + 3 * entry_at(table, 4) as usize
+    outputs_at(table) + 3 * table_entry(table, 4) as usize
 }
 
 pub(crate) fn witnesses_at(table: &[u32]) -> usize
     ensures { λ r. ⌜ r ≡ witnessesAt (now (table .entry)) ⌝ }
     ensures { λ r. ⌜ r < 2 ^ 38 ⌝ }
 {
-    deps_at(table) + 3 * entry_at(table, 5) as usize
+    deps_at(table) + 3 * table_entry(table, 5) as usize
 }
 
 pub(crate) fn verdicts_at(table: &[u32]) -> usize
     ensures { λ r. ⌜ r ≡ verdictsAt (now (table .entry)) ⌝ }
     ensures { λ r. ⌜ r < 2 ^ 39 ⌝ }
 {
-    witnesses_at(table) + 2 * entry_at(table, 6) as usize
+    witnesses_at(table) + 2 * table_entry(table, 6) as usize
 }
 
 // How many bytes the type hash has beside a type script of this length.
@@ -58,7 +58,7 @@ pub(crate) fn hash_length(script: u32) -> usize
 
 // The places of a cell whose bytes begin at `start`, by the lengths of its type script and its data.
 fn cell_places(start: u32, script: u32, content: u32) -> CellPlaces
-    ensures { λ r. ⌜ r ≡ cellPlaces start script content ⌝ }
+    ensures { λ r. ⌜ r ≡ cellFieldPlaces start script content ⌝ }
 {
     let hash = hash_length(script);
     let second = start as usize + hash;
@@ -83,26 +83,26 @@ fn cell_places(start: u32, script: u32, content: u32) -> CellPlaces
     }
 }
 
-// The place of the bytes whose row begins at `at`.
+// The place of the bytes whose record begins at `at`.
 fn bytes_place(table: &[u32], at: usize) -> Place
     requires { ⌜ at < 2 ^ 40 ⌝ }
     ensures { λ r. ⌜ r ≡ bytesPlace (now (table .entry)) at ⌝ }
 {
     Place {
-        start: entry_at(table, at) as usize,
-        len: entry_at(table, at + 1) as usize,
+        start: table_entry(table, at) as usize,
+        len: table_entry(table, at + 1) as usize,
     }
 }
 
-// The places of the output or the dep whose row begins at `at`.
-fn row_places(table: &[u32], at: usize) -> CellPlaces
+// The places of the output or the dep whose record begins at `at`.
+fn record_places(table: &[u32], at: usize) -> CellPlaces
     requires { ⌜ at < 2 ^ 40 ⌝ }
-    ensures { λ r. ⌜ r ≡ rowPlaces (now (table .entry)) at ⌝ }
+    ensures { λ r. ⌜ r ≡ recordPlaces (now (table .entry)) at ⌝ }
 {
     cell_places(
-        entry_at(table, at),
-        entry_at(table, at + 1),
-        entry_at(table, at + 2),
+        table_entry(table, at),
+        table_entry(table, at + 1),
+        table_entry(table, at + 2),
     )
 }
 
@@ -116,53 +116,53 @@ pub fn transaction_hash(table: &[u32]) -> Place
     ensures { λ r. ⌜ r ≡ transactionPlace (now (table .entry)) ⌝ }
 {
     Place {
-        start: entry_at(table, 10) as usize,
+        start: table_entry(table, 10) as usize,
         len: 32,
     }
 }
 
 pub fn input_count(table: &[u32]) -> u32
-    ensures { λ r. ⌜ r ≡ entryAt (now (table .entry)) 3 ⌝ }
+    ensures { λ r. ⌜ r ≡ tableEntry (now (table .entry)) 3 ⌝ }
 {
-    entry_at(table, 3)
+    table_entry(table, 3)
 }
 
 pub fn output_count(table: &[u32]) -> u32
-    ensures { λ r. ⌜ r ≡ entryAt (now (table .entry)) 4 ⌝ }
+    ensures { λ r. ⌜ r ≡ tableEntry (now (table .entry)) 4 ⌝ }
 {
-    entry_at(table, 4)
+    table_entry(table, 4)
 }
 
 pub fn dep_count(table: &[u32]) -> u32
-    ensures { λ r. ⌜ r ≡ entryAt (now (table .entry)) 5 ⌝ }
+    ensures { λ r. ⌜ r ≡ tableEntry (now (table .entry)) 5 ⌝ }
 {
-    entry_at(table, 5)
+    table_entry(table, 5)
 }
 
 pub fn witness_count(table: &[u32]) -> u32
-    ensures { λ r. ⌜ r ≡ entryAt (now (table .entry)) 6 ⌝ }
+    ensures { λ r. ⌜ r ≡ tableEntry (now (table .entry)) 6 ⌝ }
 {
-    entry_at(table, 6)
+    table_entry(table, 6)
 }
 
 pub fn digit_count(table: &[u32]) -> u32
     ensures { λ r. ⌜ r ≡ digitCount (now (table .entry)) ⌝ }
 {
-    entry_at(table, verdicts_at(table) + 1)
+    table_entry(table, verdicts_at(table) + 1)
 }
 
 // Whether input `i` runs this lock.
 pub fn input_group(table: &[u32], i: u32) -> bool
     ensures { λ r. ⌜ r ≡ inputGroup (now (table .entry)) i ⌝ }
 {
-    entry_at(table, 11 + 6 * i as usize + 1) == 1
+    table_entry(table, 11 + 6 * i as usize + 1) == 1
 }
 
 pub fn input_since(table: &[u32], i: u32) -> u64
     ensures { λ r. ⌜ r ≡ inputSince (now (table .entry)) i ⌝ }
 {
     let at = 11 + 6 * i as usize;
-    entry_at(table, at + 2) as u64 + 4294967296 * entry_at(table, at + 3) as u64
+    table_entry(table, at + 2) as u64 + 4294967296 * table_entry(table, at + 3) as u64
 }
 
 pub fn input_cell(table: &[u32], i: u32) -> CellPlaces
@@ -170,22 +170,22 @@ pub fn input_cell(table: &[u32], i: u32) -> CellPlaces
 {
     let at = 11 + 6 * i as usize;
     cell_places(
-        entry_at(table, at),
-        entry_at(table, at + 4),
-        entry_at(table, at + 5),
+        table_entry(table, at),
+        table_entry(table, at + 4),
+        table_entry(table, at + 5),
     )
 }
 
 pub fn output_cell(table: &[u32], i: u32) -> CellPlaces
     ensures { λ r. ⌜ r ≡ outputPlaces (now (table .entry)) i ⌝ }
 {
-    row_places(table, outputs_at(table) + 3 * i as usize)
+    record_places(table, outputs_at(table) + 3 * i as usize)
 }
 
 pub fn dep_cell(table: &[u32], i: u32) -> CellPlaces
     ensures { λ r. ⌜ r ≡ depPlaces (now (table .entry)) i ⌝ }
 {
-    row_places(table, deps_at(table) + 3 * i as usize)
+    record_places(table, deps_at(table) + 3 * i as usize)
 }
 
 pub fn witness(table: &[u32], i: u32) -> Place
@@ -199,7 +199,7 @@ pub fn verdict(table: &[u32], i: u32) -> u32
     ensures { λ r. ⌜ r ≡ verdictOf (now (table .entry)) i ⌝ }
 {
     if i < digit_count(table) {
-        entry_at(table, verdicts_at(table) + 2 + i as usize)
+        table_entry(table, verdicts_at(table) + 2 + i as usize)
     } else {
         2
     }

@@ -1,20 +1,20 @@
-// Whether a scene, its length aside, leaves a table: a walk over its rows.
+// Whether a scene, its length aside, leaves a table: a walk over its records.
 use crate::places::deps_at;
 use crate::places::digit_count;
-use crate::places::entry_at;
 use crate::places::hash_length;
 use crate::places::outputs_at;
+use crate::places::table_entry;
 use crate::places::verdicts_at;
 use crate::places::witnesses_at;
 ghost use mathlib.Core.Path.{_≡_};
 ghost use Prim.Native.Nat.{_≤_, _<_, _^_};
 ghost use lib.Dec.{ltb, eqb};
 ghost use lib.ListN.{drop};
-ghost use Rattle.scene_table.specs.Lent.{entryAt, rowsAt};
+ghost use Rattle.scene_table.specs.Lent.{tableEntry, recordsAt};
 ghost use Rattle.scene_table.specs.Valid.{every, validTable};
-ghost use Rattle.scene_table.specs.Walk.{need, placed, cellSize, rowStep, walkRows, anyRow, groupOk, bytesSize, cellRowSize, inputSize, rowOk, rowSize, rowWidth, countsOk, walkLines, restOk};
+ghost use Rattle.scene_table.specs.Walk.{need, placed, cellSize, recordStep, walkRecords, anyRecord, groupOk, bytesSize, cellRecordSize, inputSize, recordOk, recordSize, recordWidth, countsOk, walkLines, restOk};
 
-// Whether the rows so far are good, and where their bytes end.
+// Whether the records so far are good, and where their bytes end.
 pub(crate) struct Walk {
     good: bool,
     used: u64,
@@ -35,7 +35,7 @@ impl Walk {
         }
     }
 
-    // A row whose bytes begin at `start`, which must be where the last ones end.
+    // A record whose bytes begin at `start`, which must be where the last ones end.
     fn row(self, start: u32, size: u64) -> Walk
         requires { ⌜ size < 2 ^ 40 ⌝ }
         ensures { λ r. ⌜ r ≡ placed self start size ⌝ }
@@ -48,8 +48,8 @@ impl Walk {
     }
 }
 
-// What a row is of: bytes, an output or a dep, an input.
-pub(crate) enum RowForm {
+// What a record is of: bytes, an output or a dep, an input.
+pub(crate) enum RecordForm {
     Bytes,
     Cell,
     Input,
@@ -63,67 +63,67 @@ fn cell_size(script: u32, content: u32) -> u64
     hash_length(script) as u64 + 32 + script as u64 + content as u64
 }
 
-fn bytes_row(table: &[u32], at: usize, walk: Walk) -> Walk
+fn bytes_record(table: &[u32], at: usize, walk: Walk) -> Walk
     requires { ⌜ at < 2 ^ 40 ⌝ }
-    ensures { λ r. ⌜ r ≡ rowStep (now (table .entry)) anyRow (bytesSize (now (table .entry))) walk at ⌝ }
+    ensures { λ r. ⌜ r ≡ recordStep (now (table .entry)) anyRecord (bytesSize (now (table .entry))) walk at ⌝ }
 {
-    walk.row(entry_at(table, at), entry_at(table, at + 1) as u64)
+    walk.row(table_entry(table, at), table_entry(table, at + 1) as u64)
 }
 
-fn cell_row(table: &[u32], at: usize, walk: Walk) -> Walk
+fn cell_record(table: &[u32], at: usize, walk: Walk) -> Walk
     requires { ⌜ at < 2 ^ 40 ⌝ }
-    ensures { λ r. ⌜ r ≡ rowStep (now (table .entry)) anyRow (cellRowSize (now (table .entry))) walk at ⌝ }
+    ensures { λ r. ⌜ r ≡ recordStep (now (table .entry)) anyRecord (cellRecordSize (now (table .entry))) walk at ⌝ }
 {
     walk.row(
-        entry_at(table, at),
-        cell_size(entry_at(table, at + 1), entry_at(table, at + 2)),
+        table_entry(table, at),
+        cell_size(table_entry(table, at + 1), table_entry(table, at + 2)),
     )
 }
 
-fn input_row(table: &[u32], at: usize, walk: Walk) -> Walk
+fn input_record(table: &[u32], at: usize, walk: Walk) -> Walk
     requires { ⌜ at < 2 ^ 40 ⌝ }
-    ensures { λ r. ⌜ r ≡ rowStep (now (table .entry)) (groupOk (now (table .entry))) (inputSize (now (table .entry))) walk at ⌝ }
+    ensures { λ r. ⌜ r ≡ recordStep (now (table .entry)) (groupOk (now (table .entry))) (inputSize (now (table .entry))) walk at ⌝ }
 {
-    walk.require(entry_at(table, at + 1) < 2).row(
-        entry_at(table, at),
-        cell_size(entry_at(table, at + 4), entry_at(table, at + 5)),
+    walk.require(table_entry(table, at + 1) < 2).row(
+        table_entry(table, at),
+        cell_size(table_entry(table, at + 4), table_entry(table, at + 5)),
     )
 }
 
-// How many entries a row of a form has.
-fn row_width(form: RowForm) -> usize
-    ensures { λ r. ⌜ r ≡ rowWidth form ⌝ }
+// How many entries a record of a form has.
+fn record_width(form: RecordForm) -> usize
+    ensures { λ r. ⌜ r ≡ recordWidth form ⌝ }
     ensures { λ r. ⌜ r ≤ 6 ⌝ }
 {
     match form {
-        RowForm::Bytes => 2,
-        RowForm::Cell => 3,
-        RowForm::Input => 6,
+        RecordForm::Bytes => 2,
+        RecordForm::Cell => 3,
+        RecordForm::Input => 6,
     }
 }
 
-fn row_of(table: &[u32], form: RowForm, at: usize, walk: Walk) -> Walk
+fn record_of(table: &[u32], form: RecordForm, at: usize, walk: Walk) -> Walk
     requires { ⌜ at < 2 ^ 40 ⌝ }
-    ensures { λ r. ⌜ r ≡ rowStep (now (table .entry)) (rowOk (now (table .entry)) form) (rowSize (now (table .entry)) form) walk at ⌝ }
+    ensures { λ r. ⌜ r ≡ recordStep (now (table .entry)) (recordOk (now (table .entry)) form) (recordSize (now (table .entry)) form) walk at ⌝ }
 {
     match form {
-        RowForm::Bytes => bytes_row(table, at, walk),
-        RowForm::Cell => cell_row(table, at, walk),
-        RowForm::Input => input_row(table, at, walk),
+        RecordForm::Bytes => bytes_record(table, at, walk),
+        RecordForm::Cell => cell_record(table, at, walk),
+        RecordForm::Input => input_record(table, at, walk),
     }
 }
 
-// `n` rows of a form, from `first` on.
-fn walk_rows(table: &[u32], form: RowForm, first: usize, n: u32, walk: Walk) -> Walk
+// `n` records of a form, from `first` on.
+fn walk_records(table: &[u32], form: RecordForm, first: usize, n: u32, walk: Walk) -> Walk
     requires { ⌜ first < 2 ^ 38 ⌝ }
-    ensures { λ r. ⌜ r ≡ walkRows (now (table .entry)) (rowOk (now (table .entry)) form) (rowSize (now (table .entry)) form) (rowWidth form) n first walk ⌝ }
+    ensures { λ r. ⌜ r ≡ walkRecords (now (table .entry)) (recordOk (now (table .entry)) form) (recordSize (now (table .entry)) form) (recordWidth form) n first walk ⌝ }
 {
-    let width = row_width(form);
+    let width = record_width(form);
     let mut at = first;
     let mut i: u32 = 0;
     let mut walked = walk;
     while i < n {
-        walked = row_of(table, form, at, walked);
+        walked = record_of(table, form, at, walked);
         at += width;
         i += 1;
     }
@@ -138,29 +138,29 @@ fn walk_lines(table: &[u32]) -> Walk
         good: true,
         used: 0,
     };
-    let head = bytes_row(table, 8, start).row(entry_at(table, 10), 32);
-    let inputs = walk_rows(table, RowForm::Input, 11, entry_at(table, 3), head);
-    let outputs = walk_rows(
+    let head = bytes_record(table, 8, start).row(table_entry(table, 10), 32);
+    let inputs = walk_records(table, RecordForm::Input, 11, table_entry(table, 3), head);
+    let outputs = walk_records(
         table,
-        RowForm::Cell,
+        RecordForm::Cell,
         outputs_at(table),
-        entry_at(table, 4),
+        table_entry(table, 4),
         inputs,
     );
-    let deps = walk_rows(
+    let deps = walk_records(
         table,
-        RowForm::Cell,
+        RecordForm::Cell,
         deps_at(table),
-        entry_at(table, 5),
+        table_entry(table, 5),
         outputs,
     );
-    walk_rows(
+    walk_records(
         table,
-        RowForm::Bytes,
+        RecordForm::Bytes,
         witnesses_at(table),
-        entry_at(table, 6),
+        table_entry(table, 6),
         deps,
-    ).row(entry_at(table, verdicts_at(table)), 0)
+    ).row(table_entry(table, verdicts_at(table)), 0)
 }
 
 // Enough entries, and as many lines of each kind and digits as a scene may have.
@@ -172,14 +172,14 @@ fn counts_valid(table: &[u32]) -> bool
         used: 0,
     };
     let counted = start
-        .require(entry_at(table, 0) == 0)
-        .require(entry_at(table, 1) == 1)
-        .require(entry_at(table, 2) == 1)
-        .require(entry_at(table, 3) <= 64)
-        .require(entry_at(table, 4) <= 64)
-        .require(entry_at(table, 5) <= 64)
-        .require(entry_at(table, 6) <= 64)
-        .require(entry_at(table, 7) == 1)
+        .require(table_entry(table, 0) == 0)
+        .require(table_entry(table, 1) == 1)
+        .require(table_entry(table, 2) == 1)
+        .require(table_entry(table, 3) <= 64)
+        .require(table_entry(table, 4) <= 64)
+        .require(table_entry(table, 5) <= 64)
+        .require(table_entry(table, 6) <= 64)
+        .require(table_entry(table, 7) == 1)
         .require(digit_count(table) <= 16);
     counted.good
 }
@@ -187,11 +187,11 @@ fn counts_valid(table: &[u32]) -> bool
 // Whether `n` digits from `first` on are 0, 1 or 2.
 fn digits_valid(table: &[u32], first: usize, n: u32) -> bool
     requires { ⌜ first < 2 ^ 40 ⌝ }
-    ensures { λ r. ⌜ r ≡ every (λ d. ltb d 3) (rowsAt (entryAt (now (table .entry))) 1 n first) ⌝ }
+    ensures { λ r. ⌜ r ≡ every (λ d. ltb d 3) (recordsAt (tableEntry (now (table .entry))) 1 n first) ⌝ }
 {
     let mut i: u32 = 0;
     while i < n {
-        if 2 < entry_at(table, first + i as usize) {
+        if 2 < table_entry(table, first + i as usize) {
             return false;
         }
         i += 1;

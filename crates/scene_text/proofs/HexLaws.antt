@@ -8,7 +8,7 @@ use native.Mathlib.Nat.{zero-add, add-zero}
 use native.Mathlib.Omega.{arith}
 use lib.ListN.{length, take, drop, getD, length-drop}
 use lib.Seq.{drop-cons, take-nil}
-use Rattle.scene_text.specs.Text.{between, hexVal, hexBytes}
+use Rattle.scene_text.specs.Text.{inRange, hexVal, hexBytes}
 use Rattle.scene_text.proofs.Tests.{between-under, between-high}
 
 pub hex-pair : (s : List ℕ) (i : ℕ) → i + 1 < length s
@@ -46,21 +46,21 @@ hex-take (suc k) (x ∷ y ∷ s) =
     rw two (ap (λ (r : List ℕ). (hexVal x * 16 + hexVal y) ∷ r) (hex-take k s))
 
 -- a digit's value as a sum, of which one part is 0
-pub hex-sum : (x : ℕ) → cond (between 48 57 x) (x - 48) 0 + cond (between 97 102 x) (x - 87) 0 ≡ hexVal x
+pub hex-sum : (x : ℕ) → cond (inRange 48 57 x) (x - 48) 0 + cond (inRange 97 102 x) (x - 87) 0 ≡ hexVal x
 unfolding hexVal
-hex-sum x = go (between 48 57 x) refl
+hex-sum x = go (inRange 48 57 x) refl
   where
-    go : (b : Bool) → between 48 57 x ≡ b → cond b (x - 48) 0 + cond (between 97 102 x) (x - 87) 0 ≡ cond b (x - 48) (cond (between 97 102 x) (x - 87) 0)
+    go : (b : Bool) → inRange 48 57 x ≡ b → cond b (x - 48) 0 + cond (inRange 97 102 x) (x - 87) 0 ≡ cond b (x - 48) (cond (inRange 97 102 x) (x - 87) 0)
     go true e =
         let low : x < 97 = omega (arith, between-high 48 57 x e) in
         rw (between-under 97 102 x low) (add-zero (x - 48))
-    go false e = zero-add (cond (between 97 102 x) (x - 87) 0)
+    go false e = zero-add (cond (inRange 97 102 x) (x - 87) 0)
 
 pub hex-small : (x : ℕ) → hexVal x < 16
 unfolding hexVal
-hex-small x = go (between 48 57 x) (between 97 102 x) refl refl
+hex-small x = go (inRange 48 57 x) (inRange 97 102 x) refl refl
   where
-    go : (a b : Bool) → between 48 57 x ≡ a → between 97 102 x ≡ b → cond a (x - 48) (cond b (x - 87) 0) < 16
+    go : (a b : Bool) → inRange 48 57 x ≡ a → inRange 97 102 x ≡ b → cond a (x - 48) (cond b (x - 87) 0) < 16
     go true b e f = omega (arith, between-high 48 57 x e)
     go false true e f = omega (arith, between-high 97 102 x f)
     go false false e f = omega arith

@@ -9,7 +9,7 @@ use borrow.Author.Tests.{leb-true, le-leb, lt-leb}
 use lib.ListN.{length, drop, getD, drop-of-length-le}
 use lib.Seq.{drop-cons}
 use lib.Dec.{leb}
-use Rattle.scene_text.specs.Text.{all, between}
+use Rattle.scene_text.specs.Text.{all, inRange}
 
 pub and-right : (a b : Bool) → (a && b) ≡ true → b ≡ true
 and-right true b e = e
@@ -46,17 +46,17 @@ module _ (p : ℕ → Bool) where
   all-at (x ∷ s) zero e h = and-left (p x) (all p s) e
   all-at (x ∷ s) (suc i) e h = all-at s i (and-right (p x) (all p s) e) (omega arith)
 
-pub between-yes : (l h x : ℕ) → l ≤ x → x ≤ h → between l h x ≡ true
+pub between-yes : (l h x : ℕ) → l ≤ x → x ≤ h → inRange l h x ≡ true
 between-yes l h x a b = rw (le-leb l x a, le-leb x h b)
 
-pub between-under : (l h x : ℕ) → x < l → between l h x ≡ false
+pub between-under : (l h x : ℕ) → x < l → inRange l h x ≡ false
 between-under l h x a = rw (lt-leb l x a)
 
-pub between-over : (l h x : ℕ) → h < x → between l h x ≡ false
+pub between-over : (l h x : ℕ) → h < x → inRange l h x ≡ false
 between-over l h x b = rw (lt-leb x h b) (and-false (leb l x))
 
-pub between-low : (l h x : ℕ) → between l h x ≡ true → l ≤ x
+pub between-low : (l h x : ℕ) → inRange l h x ≡ true → l ≤ x
 between-low l h x e = leb-true l x (and-left (leb l x) (leb x h) e)
 
-pub between-high : (l h x : ℕ) → between l h x ≡ true → x ≤ h
+pub between-high : (l h x : ℕ) → inRange l h x ≡ true → x ≤ h
 between-high l h x e = leb-true x h (and-right (leb l x) (leb x h) e)

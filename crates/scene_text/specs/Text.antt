@@ -5,8 +5,8 @@ use mathlib.Core.Path.{_≡_}
 use mathlib.Core.List.{List, [], _∷_, _++_}
 use lib.ListN.{length, take, drop, getD}
 use lib.Dec.{ltb, leb, eqb}
-use Rattle.scene_text.specs.declared.decimal.Number.{Number}
-use Rattle.scene_text.specs.declared.decimal.Number.the-variants.{Is, Bad}
+use Rattle.scene_text.specs.declared.decimal.Decimal.{Decimal}
+use Rattle.scene_text.specs.declared.decimal.Decimal.the-variants.{Value, Invalid}
 
 -- the first piece with a text before it
 unfoldable pub before : List ℕ → List (List ℕ) → List (List ℕ)
@@ -32,16 +32,16 @@ all p [] = true
 all p (x ∷ r) = p x && all p r
 
 -- low ≤ x ≤ high
-abbrev pub between : ℕ → ℕ → ℕ → Bool
-between low high x = leb low x && leb x high
+abbrev pub inRange : ℕ → ℕ → ℕ → Bool
+inRange low high x = leb low x && leb x high
 
 -- 01: "two lower-case digits a byte": 0 to 9 or a to f
 abbrev pub isHex : ℕ → Bool
-isHex x = between 48 57 x || between 97 102 x
+isHex x = inRange 48 57 x || inRange 97 102 x
 
 -- a digit's value; 0 for any other byte
 unfoldable pub hexVal : ℕ → ℕ
-hexVal x = cond (between 48 57 x) (x - 48) (cond (between 97 102 x) (x - 87) 0)
+hexVal x = cond (inRange 48 57 x) (x - 48) (cond (inRange 97 102 x) (x - 87) 0)
 
 -- 01: "HEX, TYPESCRIPT and DATA have two lower-case digits a byte and may be empty."
 unfoldable pub hexOk : List ℕ → Bool
@@ -60,12 +60,12 @@ decimal v (x ∷ r) = decimal (v * 10 + (x - 48)) r
 
 -- 01: "a decimal u64 without leading zeros, zero being `0`": its digits
 abbrev pub plain : List ℕ → Bool
-plain s = ltb 0 (length s) && (all (between 48 57) s && (eqb (length s) 1 || not (eqb (getD s 0 0) 48)))
+plain s = ltb 0 (length s) && (all (inRange 48 57) s && (eqb (length s) 1 || not (eqb (getD s 0 0) 48)))
 
 -- the u64 that decimal digits stand for
-unfoldable pub numberOf : List ℕ → Number
-numberOf s = cond (ltb (decimal 0 s) (2 ^ 64)) (Is (decimal 0 s)) Bad
+unfoldable pub numberOf : List ℕ → Decimal
+numberOf s = cond (ltb (decimal 0 s) (2 ^ 64)) (Value (decimal 0 s)) Invalid
 
 -- 01: "SINCE is a decimal u64 without leading zeros, zero being `0`."
-unfoldable pub sinceOf : List ℕ → Number
-sinceOf s = cond (plain s) (numberOf s) Bad
+unfoldable pub sinceOf : List ℕ → Decimal
+sinceOf s = cond (plain s) (numberOf s) Invalid

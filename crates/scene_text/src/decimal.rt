@@ -1,17 +1,17 @@
 // Decimal numbers.
 ghost use mathlib.Core.Path.{_≡_};
 ghost use mathlib.Core.Bool.{true};
-ghost use Rattle.scene_text.specs.Text.{between, all, numberOf, sinceOf};
+ghost use Rattle.scene_text.specs.Text.{inRange, all, numberOf, sinceOf};
 
 // What a decimal field says.
-pub enum Number {
-    Is(u64),
-    Bad,
+pub enum Decimal {
+    Value(u64),
+    Invalid,
 }
 
 // Whether each byte of s is from low to high.
 pub fn all_between(s: &[u8], low: u8, high: u8) -> bool
-    ensures { λ r. ⌜ r ≡ all (between low high) (now (s .entry)) ⌝ }
+    ensures { λ r. ⌜ r ≡ all (inRange low high) (now (s .entry)) ⌝ }
 {
     let mut i = 0;
     while i < s.len() {
@@ -27,8 +27,8 @@ pub fn all_between(s: &[u8], low: u8, high: u8) -> bool
 }
 
 // The number that the digits s stand for.
-fn value(s: &[u8]) -> Number
-    requires { ⌜ all (between 48 57) (now s) ≡ true ⌝ }
+fn value(s: &[u8]) -> Decimal
+    requires { ⌜ all (inRange 48 57) (now s) ≡ true ⌝ }
     ensures { λ r. ⌜ r ≡ numberOf (now (s .entry)) ⌝ }
 {
     let mut v: u64 = 0;
@@ -36,33 +36,33 @@ fn value(s: &[u8]) -> Number
     while i < s.len() {
         let d = s[i] as u64 - 48;
         if 1844674407370955161 < v {
-            return Number::Bad;
+            return Decimal::Invalid;
         }
         let tens = v * 10;
         if 18446744073709551615 - tens < d {
-            return Number::Bad;
+            return Decimal::Invalid;
         }
         v = tens + d;
         i += 1;
     }
-    Number::Is(v)
+    Decimal::Value(v)
 }
 
 // The number that s is the decimal form of.
-pub fn since(s: &[u8]) -> Number
+pub fn since(s: &[u8]) -> Decimal
     ensures { λ r. ⌜ r ≡ sinceOf (now (s .entry)) ⌝ }
 {
     if s.len() == 0 {
-        return Number::Bad;
+        return Decimal::Invalid;
     }
     if !all_between(s, 48, 57) {
-        return Number::Bad;
+        return Decimal::Invalid;
     }
     if s.len() == 1 {
         return value(s);
     }
     if s[0] == 48 {
-        return Number::Bad;
+        return Decimal::Invalid;
     }
     value(s)
 }

@@ -4,7 +4,7 @@ ghost use mathlib.Core.Bool.{cond};
 ghost use Prim.Native.Nat.{_+_, _-_, _/_, _<_, _≤_};
 ghost use lib.ListN.{length};
 ghost use lib.Seq.{sets};
-ghost use Rattle.scene_text.specs.Text.{between, isHex, hexVal, hexOk, hexBytes};
+ghost use Rattle.scene_text.specs.Text.{inRange, isHex, hexVal, hexOk, hexBytes};
 
 // Whether x is a digit.
 fn is_hex(x: u8) -> bool
@@ -25,7 +25,7 @@ fn is_hex(x: u8) -> bool
 // x less base where x is from low to high, else 0.
 fn offset(x: u8, low: u8, high: u8, base: u8) -> u8
     requires { ⌜ base ≤ low ⌝ }
-    ensures { λ r. ⌜ r ≡ cond (between low high x) (x - base) 0 ⌝ }
+    ensures { λ r. ⌜ r ≡ cond (inRange low high x) (x - base) 0 ⌝ }
     ensures { λ r. ⌜ r ≤ high - base ⌝ }
 {
     if x < low {

@@ -7,7 +7,7 @@ pub use self::cut::count;
 pub use self::cut::find;
 pub use self::cut::head;
 pub use self::cut::tail;
-pub use self::decimal::Number;
+pub use self::decimal::Decimal;
 pub use self::decimal::all_between;
 pub use self::decimal::since;
 pub use self::hex::decode;

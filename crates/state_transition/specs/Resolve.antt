@@ -13,26 +13,26 @@ use Rattle.scene_table.specs.Scene.{Cell, Input, Scene}
 use Rattle.cell_search.specs.declared.cells.Source.{Source}
 use Rattle.cell_search.specs.declared.cells.Source.the-variants as source
 use Rattle.cell_search.specs.declared.cells.CellField.the-variants as field
-use Rattle.cell_search.specs.Search.{cellsOf, matches, cellSearch, placeOf, cellAt, noCell}
+use Rattle.cell_search.specs.Search.{cellsOf, matches, cellSearch, indexOf, cellAt, noCell}
 use Rattle.state_transition.specs.declared.resolve.ResolvedState.{ResolvedState}
 
 -- the places of the cells that hold the account's state: those whose type hash is its id
-unfoldable pub statePlaces : Source → List ℕ → Scene → List ℕ
-statePlaces from id s = matches field.TypeHash id (cellsOf from s)
+unfoldable pub stateIndices : Source → List ℕ → Scene → List ℕ
+stateIndices from id s = matches field.TypeHash id (cellsOf from s)
 
 -- the place of the one that does
-unfoldable pub statePlace : Source → List ℕ → Scene → ℕ
-statePlace from id s = placeOf (cellSearch field.TypeHash id (cellsOf from s))
+unfoldable pub stateIndex : Source → List ℕ → Scene → ℕ
+stateIndex from id s = indexOf (cellSearch field.TypeHash id (cellsOf from s))
 
 unfoldable pub stateCell : Source → List ℕ → Scene → Cell
-stateCell from id s = cellAt (cellsOf from s) (statePlace from id s)
+stateCell from id s = cellAt (cellsOf from s) (stateIndex from id s)
 
 -- 01, "Where each refusal is raised": "spend: id among inputs 25; deps none 23, several 24"
 unfoldable pub spendRows : List ℕ → Scene → List Row
 spendRows id s =
-    row (eqb (length (statePlaces source.Input id s)) 0) StateConsumedOnSpend
-    ∷ row (leb 1 (length (statePlaces source.CellDep id s))) StateNotFound
-    ∷ row (leb (length (statePlaces source.CellDep id s)) 1) DuplicateState
+    row (eqb (length (stateIndices source.Input id s)) 0) StateConsumedOnSpend
+    ∷ row (leb 1 (length (stateIndices source.CellDep id s))) StateNotFound
+    ∷ row (leb (length (stateIndices source.CellDep id s)) 1) DuplicateState
     ∷ []
 
 -- "else: inputs none 23, several 24; outputs not one 26; type script above 512 bytes 21, differing 26"
@@ -45,9 +45,9 @@ typeRows input output =
 
 unfoldable pub changeRows : List ℕ → Scene → List Row
 changeRows id s =
-    row (leb 1 (length (statePlaces source.Input id s))) StateNotFound
-    ∷ row (leb (length (statePlaces source.Input id s)) 1) DuplicateState
-    ∷ row (eqb (length (statePlaces source.Output id s)) 1) InvalidTransition
+    row (leb 1 (length (stateIndices source.Input id s))) StateNotFound
+    ∷ row (leb (length (stateIndices source.Input id s)) 1) DuplicateState
+    ∷ row (eqb (length (stateIndices source.Output id s)) 1) InvalidTransition
     ∷ typeRows (stateCell source.Input id s .typeScript) (stateCell source.Output id s .typeScript)
 
 -- operation 1 is spend
@@ -70,7 +70,7 @@ unfoldable pub noInput : Input
 noInput = record { group = 0; since = 0; cell = noCell }
 
 unfoldable pub stateSince : ℕ → List ℕ → Scene → ℕ
-stateSince operation id s = getD (s .inputs) (statePlace (stateSource operation) id s) noInput .since
+stateSince operation id s = getD (s .inputs) (stateIndex (stateSource operation) id s) noInput .since
 
 -- main.rs, `resolve_state`: 37 for an operation other than spend, rotate and recovery. The lock's list has no such row: there the
 -- witness lock's header has refused it with 22
@@ -83,6 +83,6 @@ unfoldable pub resolvedOf : ℕ → List ℕ → Scene → ResolvedState
 resolvedOf operation id s =
     record {
       found = decide Passed (operationRow operation ∷ resolveRows operation id s);
-      current = statePlace (stateSource operation) id s;
-      successor = cond (eqb operation 1) 0 (statePlace source.Output id s);
+      current = stateIndex (stateSource operation) id s;
+      successor = cond (eqb operation 1) 0 (stateIndex source.Output id s);
     }

@@ -18,7 +18,7 @@ ghost use mathlib.Core.List.{[]};
 ghost use lib.Dec.{eqb};
 ghost use lib.ListN.{getD};
 ghost use Rattle.protocol.specs.Rows.{decide};
-ghost use Rattle.scene_table.specs.Lent.{lentScene};
+ghost use Rattle.scene_table.specs.Lent.{sceneIn};
 ghost use Rattle.cell_search.specs.Search.{cellsOf, cellAt};
 ghost use Rattle.state_transition.specs.Branches.{spendOf, changeOf};
 ghost use Rattle.state_transition.specs.Resolve.{typeRows, resolvedOf, stateSource, noInput};
@@ -44,7 +44,7 @@ fn check_types(input: &[u8], output: &[u8]) -> Check
 
 // A spend reads the state from a dep.
 fn resolve_spend(earlier: Check, table: &[u32], store: &[u8], account_id: &[u8]) -> ResolvedState
-    ensures { λ r. ⌜ r ≡ spendOf earlier (now («account_id» .entry)) (lentScene (now (table .entry)) (now (store .entry))) ⌝ }
+    ensures { λ r. ⌜ r ≡ spendOf earlier (now («account_id» .entry)) (sceneIn (now (table .entry)) (now (store .entry))) ⌝ }
 {
     let inputs = search_cells(table, store, Source::Input, CellField::TypeHash, account_id);
     let deps = search_cells(
@@ -60,14 +60,14 @@ fn resolve_spend(earlier: Check, table: &[u32], store: &[u8], account_id: &[u8])
         .require(!deps.is_several(), ProtocolError::DuplicateState);
     ResolvedState {
         found,
-        current: deps.place(),
+        current: deps.index(),
         successor: 0,
     }
 }
 
 // A rotation or a recovery consumes the state and leaves its successor.
 fn resolve_change(earlier: Check, table: &[u32], store: &[u8], account_id: &[u8]) -> ResolvedState
-    ensures { λ r. ⌜ r ≡ changeOf earlier (now («account_id» .entry)) (lentScene (now (table .entry)) (now (store .entry))) ⌝ }
+    ensures { λ r. ⌜ r ≡ changeOf earlier (now («account_id» .entry)) (sceneIn (now (table .entry)) (now (store .entry))) ⌝ }
 {
     let inputs = search_cells(table, store, Source::Input, CellField::TypeHash, account_id);
     let outputs = search_cells(
@@ -77,8 +77,8 @@ fn resolve_change(earlier: Check, table: &[u32], store: &[u8], account_id: &[u8]
         CellField::TypeHash,
         account_id,
     );
-    let current = inputs.place();
-    let successor = outputs.place();
+    let current = inputs.index();
+    let successor = outputs.index();
     let found = earlier
         .require(!inputs.is_missing(), ProtocolError::StateNotFound)
         .require(!inputs.is_several(), ProtocolError::DuplicateState)
@@ -96,7 +96,7 @@ fn resolve_change(earlier: Check, table: &[u32], store: &[u8], account_id: &[u8]
 
 // What the rows find, 37 before all else for an operation outside 1 to 3, and where the two cells stand.
 pub fn resolve_state(table: &[u32], store: &[u8], operation: u8, account_id: &[u8]) -> ResolvedState
-    ensures { λ r. ⌜ r ≡ resolvedOf operation (now («account_id» .entry)) (lentScene (now (table .entry)) (now (store .entry))) ⌝ }
+    ensures { λ r. ⌜ r ≡ resolvedOf operation (now («account_id» .entry)) (sceneIn (now (table .entry)) (now (store .entry))) ⌝ }
 {
     let known = Check::Passed.require(is_operation(operation), ProtocolError::InvalidOperation);
     if operation == OP_SPEND {
@@ -108,7 +108,7 @@ pub fn resolve_state(table: &[u32], store: &[u8], operation: u8, account_id: &[u
 
 // The data of the cell at a place that holds the current state.
 pub fn current_state<'a>(table: &[u32], store: &'a [u8], operation: u8, place: u32) -> &'a [u8]
-    ensures { λ r. ⌜ now r ≡ cellAt (cellsOf (stateSource operation) (lentScene (now (table .entry)) (now (store .entry)))) place .content ⌝ }
+    ensures { λ r. ⌜ now r ≡ cellAt (cellsOf (stateSource operation) (sceneIn (now (table .entry)) (now (store .entry)))) place .content ⌝ }
 {
     if operation == OP_SPEND {
         cell_content(table, store, Source::CellDep, place)
@@ -119,7 +119,7 @@ pub fn current_state<'a>(table: &[u32], store: &'a [u8], operation: u8, place: u
 
 // The data of the output at a place, nothing where the state is spent from and has no successor.
 pub fn successor_state<'a>(table: &[u32], store: &'a [u8], operation: u8, place: u32) -> &'a [u8]
-    ensures { λ r. ⌜ now r ≡ cond (eqb operation 1) [] (cellAt (cellsOf Source.Output (lentScene (now (table .entry)) (now (store .entry)))) place .content) ⌝ }
+    ensures { λ r. ⌜ now r ≡ cond (eqb operation 1) [] (cellAt (cellsOf Source.Output (sceneIn (now (table .entry)) (now (store .entry)))) place .content) ⌝ }
 {
     if operation == OP_SPEND {
         part(store, 0, 0)
@@ -130,7 +130,7 @@ pub fn successor_state<'a>(table: &[u32], store: &'a [u8], operation: u8, place:
 
 // The since of the input at a place.
 pub fn state_since(table: &[u32], store: &[u8], place: u32) -> u64
-    ensures { λ r. ⌜ r ≡ getD (lentScene (now (table .entry)) (now (store .entry)) .inputs) place noInput .since ⌝ }
+    ensures { λ r. ⌜ r ≡ getD (sceneIn (now (table .entry)) (now (store .entry)) .inputs) place noInput .since ⌝ }
 {
     if place < input_count(table) {
         input_since(table, place)

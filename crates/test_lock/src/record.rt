@@ -7,7 +7,7 @@ use octets::same_bytes;
 use protocol::Check;
 use protocol::check_number;
 use scene_reader::read_scene;
-use scene_text::Number;
+use scene_text::Decimal;
 use scene_text::decode;
 use scene_text::find;
 use scene_text::head;
@@ -19,8 +19,8 @@ ghost use lib.ListN.{length};
 // The number that a field is the decimal form of; one that no answer has where it is none.
 pub(crate) fn value(f: &[u8]) -> u64 {
     match since(f) {
-        Number::Is(v) => v,
-        Number::Bad => 18446744073709551615,
+        Decimal::Value(v) => v,
+        Decimal::Invalid => 18446744073709551615,
     }
 }
 

@@ -3,7 +3,7 @@ use octets::store_bytes;
 use protocol::Check;
 use protocol::error_number;
 use scene_reader::read_scene;
-use scene_text::Number;
+use scene_text::Decimal;
 use scene_text::all_between;
 use scene_text::find;
 use scene_text::head;
@@ -24,8 +24,8 @@ pub(crate) struct Case {
 
 fn value(f: &[u8]) -> u64 {
     match since(f) {
-        Number::Is(v) => v,
-        Number::Bad => 0,
+        Decimal::Value(v) => v,
+        Decimal::Invalid => 0,
     }
 }
 

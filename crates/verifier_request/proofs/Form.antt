@@ -6,9 +6,9 @@ use Prim.Native.Nat.{ℕ, _+_}
 use native.Mathlib.Omega.{arith}
 use lib.ListN.{length, length-append}
 use lib.Seq.{sets}
-use Rattle.octets.specs.Table.{numbers}
+use Rattle.octets.specs.Layout.{layoutBytes}
 use Rattle.octets.proofs.Stores.{sets-append}
-use Rattle.octets.proofs.TableLaws.{length-numbers}
+use Rattle.octets.proofs.LayoutLaws.{length-numbers}
 use Rattle.verifier_request.specs.Reading.{RequestReading, RequestTyped, requestHead, requestLengths, requestBytes}
 use Rattle.verifier_request.specs.Writer.{requestTotal}
 
@@ -23,10 +23,10 @@ typed-sized r t = record { digest = t .digest; key = t .key }
 module _ (r : RequestReading) where
   -- the two tables of the written form
   abbrev pub Head : List ℕ
-  Head = numbers (requestHead (r .algorithm) (r .slot) (r .operation) (r .profile))
+  Head = layoutBytes (requestHead (r .algorithm) (r .slot) (r .operation) (r .profile))
 
   abbrev pub Lengths : List ℕ
-  Lengths = numbers (requestLengths (length (r .aux)) (length (r .proof)))
+  Lengths = layoutBytes (requestLengths (length (r .aux)) (length (r .proof)))
 
   pub length-head : length Head ≡ 16
   unfolding requestHead

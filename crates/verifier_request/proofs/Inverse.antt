@@ -10,16 +10,16 @@ use borrow.Author.Tests.{leb-true, eqb-true, le-leb, eq-eqb}
 use lib.ListN.{length, take, drop}
 use lib.Seq.{take-add, take-all}
 use Rattle.octets.specs.Le.{Bytes, numberAt}
-use Rattle.octets.specs.Table.{numbers, numbersAt, valueOf}
+use Rattle.octets.specs.Layout.{layoutBytes, layoutAt, fieldValue}
 use Rattle.octets.proofs.LeLaws.{number-lt}
-use Rattle.octets.proofs.TableLaws.{table-back, numbers-back}
+use Rattle.octets.proofs.LayoutLaws.{table-back, numbers-back}
 use Rattle.octets.proofs.Parts.{part-back, part-length}
 use Rattle.protocol.specs.Policy.{isOperation}
-use Rattle.protocol.specs.Rows.{Hold}
-use Rattle.protocol.proofs.Hold.{hold-append}
-use Rattle.verifier_request.specs.Reader.{verifierMagic, headRows, fieldRows, requestRows, fieldsAt}
-use Rattle.verifier_request.specs.Reading.{RequestReading, RequestTyped, readingOf, requestReading, requestHead, requestLengths, requestBytes}
-use Rattle.verifier_request.specs.Writer.{limitRows, writerRows, requestTotal}
+use Rattle.protocol.specs.Rows.{AllPass}
+use Rattle.protocol.proofs.AllPass.{all-pass-append}
+use Rattle.verifier_request.specs.Reader.{verifierMagic, requestHeaderRows, requestFieldRows, requestRows, requestFieldsOf}
+use Rattle.verifier_request.specs.Reading.{RequestReading, RequestTyped, requestGiven, requestReading, requestHead, requestLengths, requestBytes}
+use Rattle.verifier_request.specs.Writer.{writerLimitRows, requestWriterRows, requestTotal}
 use Rattle.verifier_request.proofs.Form.{Sized, typed-sized, Head, Lengths, length-head, before-key, before-lengths, before-aux, before-proof, length-request}
 
 -- what the rows say of a request that passes them; that it has at most 69,728 bytes follows
@@ -36,8 +36,8 @@ pub record Passes (s : List ℕ) : Type 0 where
   pub proof : numberAt s 84 4 ≤ 65536
   pub sum : 96 + numberAt s 80 4 + numberAt s 84 4 ≡ length s
 
-pub passes : (s : List ℕ) → Hold (requestRows s) → Passes s
-unfolding requestRows headRows fieldRows
+pub passes : (s : List ℕ) → AllPass (requestRows s) → Passes s
+unfolding requestRows requestHeaderRows requestFieldRows
 passes s h =
     let k = h .1 .1 .1 .1 .1 .1 in
     record {
@@ -54,24 +54,24 @@ passes s h =
       sum = eqb-true _ _ (k .1 .1 .1 .1 .1 .0);
     }
 
-pub passes-hold : (s : List ℕ) → Passes s → Hold (requestRows s)
-unfolding requestRows headRows fieldRows
+pub passes-hold : (s : List ℕ) → Passes s → AllPass (requestRows s)
+unfolding requestRows requestHeaderRows requestFieldRows
 passes-hold s z =
     let most : length s ≤ 69728 = omega arith in
-    hold-append (headRows s) (fieldRows s)
+    all-pass-append (requestHeaderRows s) (requestFieldRows s)
     (le-leb _ _ (z .header), (le-leb _ _ most, (eq-eqb _ _ (z .magic), (eq-eqb _ _ (z .abi), (eq-eqb _ _ (z .flags), (eq-eqb _ _ (z .headerLen), tt))))))
     (z .operation, (eq-eqb _ _ (z .zeros), (eq-eqb _ _ (z .lastZeros), (le-leb _ _ (z .aux), (le-leb _ _ (z .proof), (eq-eqb _ _ (z .sum), tt))))))
 
 -- From the bytes to the reading and back.
 module _ (s : List ℕ) (b : Bytes s) (z : Passes s) where
-  head-back : numbers (requestHead (numberAt s 8 2) (numberAt s 10 2) (numberAt s 12 1) (numberAt s 13 1)) ≡ take 16 s
-  unfolding requestHead numbersAt
+  head-back : layoutBytes (requestHead (numberAt s 8 2) (numberAt s 10 2) (numberAt s 12 1) (numberAt s 13 1)) ≡ take 16 s
+  unfolding requestHead layoutAt
   head-back =
       rw (z .magic, z .abi, z .flags, z .headerLen, z .zeros) at
       (table-back (4 ∷ 1 ∷ 1 ∷ 2 ∷ 2 ∷ 2 ∷ 1 ∷ 1 ∷ 2 ∷ []) s 0 b (omega arith))
 
-  lengths-back : numbers (requestLengths (numberAt s 80 4) (numberAt s 84 4)) ≡ take 16 (drop 80 s)
-  unfolding requestLengths numbersAt
+  lengths-back : layoutBytes (requestLengths (numberAt s 80 4) (numberAt s 84 4)) ≡ take 16 (drop 80 s)
+  unfolding requestLengths layoutAt
   lengths-back = rw (z .lastZeros) at (table-back (4 ∷ 4 ∷ 8 ∷ []) s 80 b (omega arith))
 
   length-aux : length (take (numberAt s 80 4) (drop 96 s)) ≡ numberAt s 80 4
@@ -82,7 +82,7 @@ module _ (s : List ℕ) (b : Bytes s) (z : Passes s) where
 
   -- the request is the written form of its reading,
   pub reading-written : requestBytes (requestReading s) ≡ s
-  unfolding requestBytes requestReading readingOf fieldsAt
+  unfolding requestBytes requestReading requestGiven requestFieldsOf
   reading-written =
       let a = numberAt s 80 4 in
       let p = numberAt s 84 4 in
@@ -101,7 +101,7 @@ module _ (s : List ℕ) (b : Bytes s) (z : Passes s) where
 
   -- whose fields are of their types,
   pub reading-typed : RequestTyped (requestReading s)
-  unfolding requestReading readingOf fieldsAt
+  unfolding requestReading requestGiven requestFieldsOf
   reading-typed =
       record {
         algorithm = number-lt s 8 2 b;
@@ -113,13 +113,13 @@ module _ (s : List ℕ) (b : Bytes s) (z : Passes s) where
       }
 
   -- which is within the writer's limits,
-  pub reading-limits : Hold (writerRows (requestReading s))
-  unfolding writerRows limitRows requestReading readingOf fieldsAt
+  pub reading-limits : AllPass (requestWriterRows (requestReading s))
+  unfolding requestWriterRows writerLimitRows requestReading requestGiven requestFieldsOf
   reading-limits = rw (length-aux, length-proof) (z .operation, (le-leb _ _ (z .aux), (le-leb _ _ (z .proof), tt)))
 
   -- and whose written form is as long as the request
   pub reading-total : requestTotal (requestReading s) ≡ length s
-  unfolding requestTotal requestReading readingOf fieldsAt
+  unfolding requestTotal requestReading requestGiven requestFieldsOf
   reading-total = rw (length-aux, length-proof) (z .sum)
 
 -- From a reading to the bytes and back, where the parts' lengths fit their fields.
@@ -127,7 +127,7 @@ module _ (r : RequestReading) (t : RequestTyped r) (small : requestTotal r < 2 ^
   sized : Sized r
   sized = typed-sized r t
 
-  head-read : numbersAt (4 ∷ 1 ∷ 1 ∷ 2 ∷ 2 ∷ 2 ∷ 1 ∷ 1 ∷ 2 ∷ []) (requestBytes r) 0 ≡ requestHead (r .algorithm) (r .slot) (r .operation) (r .profile)
+  head-read : layoutAt (4 ∷ 1 ∷ 1 ∷ 2 ∷ 2 ∷ 2 ∷ 1 ∷ 1 ∷ 2 ∷ []) (requestBytes r) 0 ≡ requestHead (r .algorithm) (r .slot) (r .operation) (r .profile)
   unfolding requestBytes requestHead
   head-read =
       numbers-back (requestHead (r .algorithm) (r .slot) (r .operation) (r .profile)) (requestBytes r) [] (r .digest ++ (r .key ++ (Lengths r ++ (r .aux ++ r .proof)))) 0
@@ -135,7 +135,7 @@ module _ (r : RequestReading) (t : RequestTyped r) (small : requestTotal r < 2 ^
       (simp append-assoc)
       refl
 
-  lengths-read : numbersAt (4 ∷ 4 ∷ 8 ∷ []) (requestBytes r) 80 ≡ requestLengths (length (r .aux)) (length (r .proof))
+  lengths-read : layoutAt (4 ∷ 4 ∷ 8 ∷ []) (requestBytes r) 80 ≡ requestLengths (length (r .aux)) (length (r .proof))
   unfolding requestBytes requestLengths requestTotal
   lengths-read =
       numbers-back (requestLengths (length (r .aux)) (length (r .proof))) (requestBytes r) (Head r ++ r .digest ++ r .key) (r .aux ++ r .proof) 80
@@ -168,35 +168,35 @@ module _ (r : RequestReading) (t : RequestTyped r) (small : requestTotal r < 2 ^
 
   -- the written form is read as the reading,
   pub written-reading : requestReading (requestBytes r) ≡ r
-  unfolding requestReading readingOf fieldsAt requestHead requestLengths numbersAt
+  unfolding requestReading requestGiven requestFieldsOf requestHead requestLengths layoutAt
   written-reading =
-      let e₁ : numberAt (requestBytes r) 8 2 ≡ r .algorithm = ap (valueOf 4) head-read in
-      let e₂ : numberAt (requestBytes r) 10 2 ≡ r .slot = ap (valueOf 5) head-read in
-      let e₃ : numberAt (requestBytes r) 12 1 ≡ r .operation = ap (valueOf 6) head-read in
-      let e₄ : numberAt (requestBytes r) 13 1 ≡ r .profile = ap (valueOf 7) head-read in
-      let e₅ : numberAt (requestBytes r) 80 4 ≡ length (r .aux) = ap (valueOf 0) lengths-read in
-      let e₆ : numberAt (requestBytes r) 84 4 ≡ length (r .proof) = ap (valueOf 1) lengths-read in
+      let e₁ : numberAt (requestBytes r) 8 2 ≡ r .algorithm = ap (fieldValue 4) head-read in
+      let e₂ : numberAt (requestBytes r) 10 2 ≡ r .slot = ap (fieldValue 5) head-read in
+      let e₃ : numberAt (requestBytes r) 12 1 ≡ r .operation = ap (fieldValue 6) head-read in
+      let e₄ : numberAt (requestBytes r) 13 1 ≡ r .profile = ap (fieldValue 7) head-read in
+      let e₅ : numberAt (requestBytes r) 80 4 ≡ length (r .aux) = ap (fieldValue 0) lengths-read in
+      let e₆ : numberAt (requestBytes r) 84 4 ≡ length (r .proof) = ap (fieldValue 1) lengths-read in
       rw (e₁, e₂, e₃, e₄, e₅, e₆, digest-read, key-read, aux-read, proof-read)
 
   -- and within the writer's limits it passes
-  pub written-passes : Hold (writerRows r) → Passes (requestBytes r)
-  unfolding writerRows limitRows requestTotal requestHead requestLengths numbersAt
+  pub written-passes : AllPass (requestWriterRows r) → Passes (requestBytes r)
+  unfolding requestWriterRows writerLimitRows requestTotal requestHead requestLengths layoutAt
   written-passes h =
       let a : length (r .aux) ≤ 4096 = leb-true _ _ (h .1 .0) in
       let p : length (r .proof) ≤ 65536 = leb-true _ _ (h .1 .1 .0) in
       let n : length (requestBytes r) ≡ 96 + length (r .aux) + length (r .proof) = length-request r sized in
-      let ea : numberAt (requestBytes r) 80 4 ≡ length (r .aux) = ap (valueOf 0) lengths-read in
-      let ep : numberAt (requestBytes r) 84 4 ≡ length (r .proof) = ap (valueOf 1) lengths-read in
-      let eo : numberAt (requestBytes r) 12 1 ≡ r .operation = ap (valueOf 6) head-read in
+      let ea : numberAt (requestBytes r) 80 4 ≡ length (r .aux) = ap (fieldValue 0) lengths-read in
+      let ep : numberAt (requestBytes r) 84 4 ≡ length (r .proof) = ap (fieldValue 1) lengths-read in
+      let eo : numberAt (requestBytes r) 12 1 ≡ r .operation = ap (fieldValue 6) head-read in
       record {
         header = omega arith;
-        magic = ap (valueOf 0) head-read;
-        abi = ap (valueOf 1) head-read;
-        flags = ap (valueOf 2) head-read;
-        headerLen = ap (valueOf 3) head-read;
+        magic = ap (fieldValue 0) head-read;
+        abi = ap (fieldValue 1) head-read;
+        flags = ap (fieldValue 2) head-read;
+        headerLen = ap (fieldValue 3) head-read;
         operation = rw eo (h .0);
-        zeros = ap (valueOf 8) head-read;
-        lastZeros = ap (valueOf 2) lengths-read;
+        zeros = ap (fieldValue 8) head-read;
+        lastZeros = ap (fieldValue 2) lengths-read;
         aux = omega arith;
         proof = omega arith;
         sum = omega arith;

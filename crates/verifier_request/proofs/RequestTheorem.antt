@@ -9,20 +9,20 @@ use native.Mathlib.Omega.{arith}
 use borrow.Author.Tests.{leb-true}
 use lib.ListN.{length}
 use Rattle.octets.specs.Le.{Bytes}
-use Rattle.protocol.specs.Rows.{decide, Hold, First}
+use Rattle.protocol.specs.Rows.{decide, AllPass, FirstFailed}
 use Rattle.protocol.specs.Reading.{OneReading, WritesBack}
 use Rattle.protocol.specs.declared.error.ProtocolError.{ProtocolError}
 use Rattle.protocol.specs.declared.check.Check.{Check}
 use Rattle.protocol.specs.declared.check.Check.the-variants.{Passed, Failed}
-use Rattle.protocol.proofs.Hold.{passed-hold}
+use Rattle.protocol.proofs.AllPass.{passed-all-pass}
 use Rattle.protocol.proofs.Answers.{answer-given, answer-accepts, answer-refuses}
 use Rattle.protocol.proofs.Back.{writes-back}
 use Rattle.verifier_request.specs.declared.reader.RequestFields.{RequestFields}
 use Rattle.verifier_request.specs.declared.reader.RequestAnswer.{RequestAnswer}
 use Rattle.verifier_request.specs.declared.reader.RequestAnswer.the-variants.{Request, Refused}
-use Rattle.verifier_request.specs.Reader.{requestRows, requestFault, fieldsAt, requestAnswer, readRequest}
-use Rattle.verifier_request.specs.Reading.{RequestReading, RequestTyped, readingOf, requestReading, requestBytes}
-use Rattle.verifier_request.specs.Writer.{limitRows, writerRows, requestTotal, requestRoom, requestWritten, requestStored}
+use Rattle.verifier_request.specs.Reader.{requestRows, requestFault, requestFieldsOf, requestAnswer, readRequest}
+use Rattle.verifier_request.specs.Reading.{RequestReading, RequestTyped, requestGiven, requestReading, requestBytes}
+use Rattle.verifier_request.specs.Writer.{writerLimitRows, requestWriterRows, requestTotal, requestRoom, requestWritten, requestStored}
 use Rattle.verifier_request.proofs.Form.{typed-sized, length-request}
 use Rattle.verifier_request.proofs.Inverse.{Passes, passes, passes-hold, reading-written, reading-typed, reading-limits, reading-total, written-reading, written-passes}
 
@@ -38,18 +38,18 @@ request-back g Passed = refl
 request-back g (Failed e) = refl
 
 -- accepted exactly where every check passes
-pub reader-accepts : (s : List ℕ) → (readRequest s ≡ Request (fieldsAt s)) ↔ Hold (requestRows s)
+pub request-accepts : (s : List ℕ) → (readRequest s ≡ Request (requestFieldsOf s)) ↔ AllPass (requestRows s)
 unfolding readRequest requestFault requestAnswer
-reader-accepts s = answer-accepts (λ k. requestAnswer k (fieldsAt s)) requestFound (request-back (fieldsAt s)) (requestRows s)
+request-accepts s = answer-accepts (λ k. requestAnswer k (requestFieldsOf s)) requestFound (request-back (requestFieldsOf s)) (requestRows s)
 
 -- refused exactly with the first check that fails
-pub reader-refuses : (s : List ℕ) (e : ProtocolError) → (readRequest s ≡ Refused e) ↔ First (requestRows s) e
+pub request-refuses : (s : List ℕ) (e : ProtocolError) → (readRequest s ≡ Refused e) ↔ FirstFailed (requestRows s) e
 unfolding readRequest requestFault requestAnswer
-reader-refuses s e = answer-refuses (λ k. requestAnswer k (fieldsAt s)) requestFound (request-back (fieldsAt s)) (requestRows s) e
+request-refuses s e = answer-refuses (λ k. requestAnswer k (requestFieldsOf s)) requestFound (request-back (requestFieldsOf s)) (requestRows s) e
 
 -- what the writer writes is accepted, and read as what was written
-pub request-accepted : (r : RequestReading) → RequestTyped r → Hold (writerRows r) → Hold (requestRows (requestBytes r)) × (requestReading (requestBytes r) ≡ r)
-unfolding writerRows limitRows requestTotal
+pub request-accepted : (r : RequestReading) → RequestTyped r → AllPass (requestWriterRows r) → AllPass (requestRows (requestBytes r)) × (requestReading (requestBytes r) ≡ r)
+unfolding requestWriterRows writerLimitRows requestTotal
 request-accepted r t h =
     let a : length (r .aux) ≤ 4096 = leb-true _ _ (h .1 .0) in
     let p : length (r .proof) ≤ 65536 = leb-true _ _ (h .1 .1 .0) in
@@ -57,7 +57,7 @@ request-accepted r t h =
     (passes-hold (requestBytes r) (written-passes r t small h), written-reading r t small)
 
 -- the one reading
-pub request-one : (s : List ℕ) → Bytes s → Hold (requestRows s) → OneReading RequestTyped requestBytes s (requestReading s)
+pub request-one : (s : List ℕ) → Bytes s → AllPass (requestRows s) → OneReading RequestTyped requestBytes s (requestReading s)
 request-one s b h =
     let z = passes s h in
     record {
@@ -73,25 +73,25 @@ request-one s b h =
         omega arith
 
 -- is the one that the reader gives,
-pub request-given : (s : List ℕ) (f : RequestFields) → readRequest s ≡ Request f → Hold (requestRows s) × (readingOf s f ≡ requestReading s)
+pub request-given : (s : List ℕ) (f : RequestFields) → readRequest s ≡ Request f → AllPass (requestRows s) × (requestGiven s f ≡ requestReading s)
 unfolding readRequest requestFault requestReading requestAnswer
 request-given s f h =
-    let z = answer-given (λ k. requestAnswer k (fieldsAt s)) requestFound (request-back (fieldsAt s)) (decide Passed (requestRows s)) (Request f) h refl in
-    let e : Request (fieldsAt s) ≡ Request f = z .1 in
-    let same : f ≡ fieldsAt s = cc in
-    (passed-hold (requestRows s) (z .0), ap (readingOf s) same)
+    let z = answer-given (λ k. requestAnswer k (requestFieldsOf s)) requestFound (request-back (requestFieldsOf s)) (decide Passed (requestRows s)) (Request f) h refl in
+    let e : Request (requestFieldsOf s) ≡ Request f = z .1 in
+    let same : f ≡ requestFieldsOf s = cc in
+    (passed-all-pass (requestRows s) (z .0), ap (requestGiven s) same)
 
 -- and the writer writes it back
-pub request-writes-back : (s : List ℕ) → Bytes s → Hold (requestRows s) → WritesBack (requestWritten (requestReading s)) (requestStored (requestReading s)) s
+pub request-writes-back : (s : List ℕ) → Bytes s → AllPass (requestRows s) → WritesBack (requestWritten (requestReading s)) (requestStored (requestReading s)) s
 unfolding requestWritten requestStored requestRoom
 request-writes-back s b h =
     let z = passes s h in
     let r = requestReading s in
-    writes-back (writerRows r) (requestBytes r) (requestTotal r) s (reading-limits s b z) (reading-written s b z) (reading-total s b z)
+    writes-back (requestWriterRows r) (requestBytes r) (requestTotal r) s (reading-limits s b z) (reading-written s b z) (reading-total s b z)
 
 -- The theorem: an accepted request has exactly one reading, that of the answer, and writing it gives the same bytes or 5.
 pub request-theorem : (s : List ℕ) (f : RequestFields) → Bytes s → readRequest s ≡ Request f
-    → OneReading RequestTyped requestBytes s (readingOf s f) × WritesBack (requestWritten (readingOf s f)) (requestStored (readingOf s f)) s
+    → OneReading RequestTyped requestBytes s (requestGiven s f) × WritesBack (requestWritten (requestGiven s f)) (requestStored (requestGiven s f)) s
 request-theorem s f b e =
     let g = request-given s f e in
     rw (g .1) (request-one s b (g .0), request-writes-back s b (g .0))

@@ -20,8 +20,8 @@ abbrev pub verifierMagic : ℕ
 verifierMagic = 0x52564b43
 
 -- 01, Request: "Order: length 96 to 69,728 (35), magic (35), ABI (32), byte 5 and header length (35)"
-unfoldable pub headRows : List ℕ → List Row
-headRows s =
+unfoldable pub requestHeaderRows : List ℕ → List Row
+requestHeaderRows s =
     row (leb 96 (length s)) InvalidRequest
     ∷ row (leb (length s) 69728) InvalidRequest
     ∷ row (eqb (numberAt s 0 4) verifierMagic) InvalidRequest
@@ -31,8 +31,8 @@ headRows s =
     ∷ []
 
 -- "operation (37), zeros (35), aux above 4,096 or proof above 65,536 (35), total (35)."
-unfoldable pub fieldRows : List ℕ → List Row
-fieldRows s =
+unfoldable pub requestFieldRows : List ℕ → List Row
+requestFieldRows s =
     row (isOperation (numberAt s 12 1)) InvalidOperation
     ∷ row (eqb (numberAt s 14 2) 0) InvalidRequest
     ∷ row (eqb (numberAt s 88 8) 0) InvalidRequest
@@ -42,14 +42,14 @@ fieldRows s =
     ∷ []
 
 unfoldable pub requestRows : List ℕ → List Row
-requestRows s = headRows s ++ fieldRows s
+requestRows s = requestHeaderRows s ++ requestFieldRows s
 
 unfoldable pub requestFault : List ℕ → Check
 requestFault s = decide Passed (requestRows s)
 
 -- the fields, and the places of the parts
-unfoldable pub fieldsAt : List ℕ → RequestFields
-fieldsAt s =
+unfoldable pub requestFieldsOf : List ℕ → RequestFields
+requestFieldsOf s =
     record {
       «algorithm_id» = numberAt s 8 2;
       slot = numberAt s 10 2;
@@ -68,7 +68,7 @@ requestAnswer Passed f = Request f
 requestAnswer (Failed e) f = Refused e
 
 unfoldable pub readRequest : List ℕ → RequestAnswer
-readRequest s = requestAnswer (requestFault s) (fieldsAt s)
+readRequest s = requestAnswer (requestFault s) (requestFieldsOf s)
 
 -- document 01's number of the answer
 abbrev pub requestNumber : RequestAnswer → ℕ

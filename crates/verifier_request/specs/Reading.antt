@@ -4,9 +4,9 @@ use Prim.Native.Nat.{ℕ, _^_, _<_}
 use mathlib.Core.Path.{_≡_}
 use mathlib.Core.List.{List, [], _∷_, _++_}
 use lib.ListN.{length, take, drop}
-use Rattle.octets.specs.Table.{Number, numbers}
+use Rattle.octets.specs.Layout.{Field, layoutBytes}
 use Rattle.verifier_request.specs.declared.reader.RequestFields.{RequestFields}
-use Rattle.verifier_request.specs.Reader.{verifierMagic, fieldsAt}
+use Rattle.verifier_request.specs.Reader.{verifierMagic, requestFieldsOf}
 
 pub record RequestReading : Type 0 where
   pub algorithm : ℕ
@@ -18,8 +18,8 @@ pub record RequestReading : Type 0 where
   pub aux : List ℕ
   pub proof : List ℕ
 
-abbrev pub reading : ℕ → ℕ → ℕ → ℕ → List ℕ → List ℕ → List ℕ → List ℕ → RequestReading
-reading algorithm slot operation profile digest key aux proof =
+abbrev pub requestWith : ℕ → ℕ → ℕ → ℕ → List ℕ → List ℕ → List ℕ → List ℕ → RequestReading
+requestWith algorithm slot operation profile digest key aux proof =
     record {
       algorithm = algorithm;
       slot = slot;
@@ -41,7 +41,7 @@ pub record RequestTyped (r : RequestReading) : Type 0 where
   pub key : length (r .key) ≡ 32
 
 -- bytes 0 to 15: "`CKVR`, 1, 0, 96 (u16), algorithm, slot (u16), operation, profile, two zeros"
-unfoldable pub requestHead : ℕ → ℕ → ℕ → ℕ → List Number
+unfoldable pub requestHead : ℕ → ℕ → ℕ → ℕ → List Field
 requestHead algorithm slot operation profile =
     record { width = 4; value = verifierMagic }
     ∷ record { width = 1; value = 1 }
@@ -55,24 +55,24 @@ requestHead algorithm slot operation profile =
     ∷ []
 
 -- bytes 80 to 95: "aux and proof lengths (u32), eight zeros"
-unfoldable pub requestLengths : ℕ → ℕ → List Number
+unfoldable pub requestLengths : ℕ → ℕ → List Field
 requestLengths aux proof =
     record { width = 4; value = aux } ∷ record { width = 4; value = proof } ∷ record { width = 8; value = 0 } ∷ []
 
 -- the written form
 unfoldable pub requestBytes : RequestReading → List ℕ
 requestBytes r =
-    numbers (requestHead (r .algorithm) (r .slot) (r .operation) (r .profile))
+    layoutBytes (requestHead (r .algorithm) (r .slot) (r .operation) (r .profile))
     ++ r .digest
     ++ r .key
-    ++ numbers (requestLengths (length (r .aux)) (length (r .proof)))
+    ++ layoutBytes (requestLengths (length (r .aux)) (length (r .proof)))
     ++ r .aux
     ++ r .proof
 
 -- what the fields of an answer say of the bytes s: a place counts as the bytes there
-unfoldable pub readingOf : List ℕ → RequestFields → RequestReading
-readingOf s f =
-    reading
+unfoldable pub requestGiven : List ℕ → RequestFields → RequestReading
+requestGiven s f =
+    requestWith
     (f .«algorithm_id»)
     (f .slot)
     (f .operation)
@@ -84,4 +84,4 @@ readingOf s f =
 
 -- the reading of s
 unfoldable pub requestReading : List ℕ → RequestReading
-requestReading s = readingOf s (fieldsAt s)
+requestReading s = requestGiven s (requestFieldsOf s)

@@ -12,15 +12,15 @@ use Rattle.protocol.specs.declared.check.WriteAnswer.{WriteAnswer}
 use Rattle.verifier_request.specs.Reading.{RequestReading, requestBytes}
 
 -- 01: "Operation outside 1 to 3 is 37 in them."; Request: "aux above 4,096 or proof above 65,536 (35)"
-unfoldable pub limitRows : ℕ → ℕ → ℕ → List Row
-limitRows operation aux proof =
+unfoldable pub writerLimitRows : ℕ → ℕ → ℕ → List Row
+writerLimitRows operation aux proof =
     row (isOperation operation) InvalidOperation
     ∷ row (leb aux 4096) InvalidRequest
     ∷ row (leb proof 65536) InvalidRequest
     ∷ []
 
-unfoldable pub writerRows : RequestReading → List Row
-writerRows r = limitRows (r .operation) (length (r .aux)) (length (r .proof))
+unfoldable pub requestWriterRows : RequestReading → List Row
+requestWriterRows r = writerLimitRows (r .operation) (length (r .aux)) (length (r .proof))
 
 -- the length of the written form: "96 bytes then aux and proof"
 unfoldable pub requestTotal : RequestReading → ℕ
@@ -28,7 +28,7 @@ requestTotal r = 96 + length (r .aux) + length (r .proof)
 
 -- what the writer's checks find, for a buffer of `room` bytes
 unfoldable pub requestRoom : RequestReading → ℕ → Check
-requestRoom r room = writeFault (writerRows r) (requestTotal r) room
+requestRoom r room = writeFault (requestWriterRows r) (requestTotal r) room
 
 -- the writer's answer
 unfoldable pub requestWritten : RequestReading → List ℕ → WriteAnswer

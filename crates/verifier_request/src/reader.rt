@@ -15,7 +15,7 @@ use protocol::is_operation;
 ghost use mathlib.Core.Path.{_≡_};
 ghost use Rattle.protocol.specs.Rows.{decide};
 ghost use Rattle.protocol.specs.declared.check.Check.the-variants.{Passed};
-ghost use Rattle.verifier_request.specs.Reader.{headRows, fieldRows, requestFault, fieldsAt, readRequest};
+ghost use Rattle.verifier_request.specs.Reader.{requestHeaderRows, requestFieldRows, requestFault, requestFieldsOf, readRequest};
 
 // The numbers of a request, and where each of its parts begins. The digest and the key have 32 bytes each.
 pub struct RequestFields {
@@ -38,7 +38,7 @@ pub enum RequestAnswer {
 
 // The length, and the bytes that are the same in every request of this ABI.
 fn check_head(request: &[u8]) -> Check
-    ensures { λ r. ⌜ r ≡ decide Passed (headRows (now (request .entry))) ⌝ }
+    ensures { λ r. ⌜ r ≡ decide Passed (requestHeaderRows (now (request .entry))) ⌝ }
 {
     let invalid = ProtocolError::InvalidRequest;
     Check::Passed
@@ -58,7 +58,7 @@ fn check_head(request: &[u8]) -> Check
 
 // The operation, the zeros and the lengths.
 fn check_fields(request: &[u8]) -> Check
-    ensures { λ r. ⌜ r ≡ decide Passed (fieldRows (now (request .entry))) ⌝ }
+    ensures { λ r. ⌜ r ≡ decide Passed (requestFieldRows (now (request .entry))) ⌝ }
 {
     let invalid = ProtocolError::InvalidRequest;
     let aux_len = u32_at(request, 80) as usize;
@@ -85,7 +85,7 @@ fn check_request(request: &[u8]) -> Check
 }
 
 fn fields_at(request: &[u8]) -> RequestFields
-    ensures { λ r. ⌜ r ≡ fieldsAt (now (request .entry)) ⌝ }
+    ensures { λ r. ⌜ r ≡ requestFieldsOf (now (request .entry)) ⌝ }
 {
     let aux_len = u32_at(request, 80) as usize;
     RequestFields {

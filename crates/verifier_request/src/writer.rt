@@ -15,14 +15,14 @@ ghost use mathlib.Core.Path.{_≡_};
 ghost use Prim.Native.Nat.{_+_};
 ghost use lib.ListN.{length};
 ghost use lib.Seq.{sets};
-ghost use Rattle.octets.specs.Table.{numbers};
+ghost use Rattle.octets.specs.Layout.{layoutBytes};
 ghost use Rattle.protocol.specs.Write.{writeFault};
-ghost use Rattle.verifier_request.specs.Reading.{reading, requestHead, requestLengths, requestBytes};
-ghost use Rattle.verifier_request.specs.Writer.{limitRows, requestWritten, requestStored};
+ghost use Rattle.verifier_request.specs.Reading.{requestWith, requestHead, requestLengths, requestBytes};
+ghost use Rattle.verifier_request.specs.Writer.{writerLimitRows, requestWritten, requestStored};
 
 // Bytes 0 to 15.
 fn store_head(out: &mut [u8], algorithm: u16, slot: u16, operation: u8, profile: u8)
-    ensures { λ _. ⌜ now (out .exit) ≡ sets (now (out .entry)) 0 (numbers (requestHead algorithm slot operation profile)) ⌝ }
+    ensures { λ _. ⌜ now (out .exit) ≡ sets (now (out .entry)) 0 (layoutBytes (requestHead algorithm slot operation profile)) ⌝ }
 {
     store_number(out, 0, 4, VERIFIER_MAGIC as u64);
     store_number(out, 4, 1, VERIFIER_ABI_V1 as u64);
@@ -37,7 +37,7 @@ fn store_head(out: &mut [u8], algorithm: u16, slot: u16, operation: u8, profile:
 
 // Bytes 80 to 95.
 fn store_lengths(out: &mut [u8], aux: usize, proof: usize)
-    ensures { λ _. ⌜ now (out .exit) ≡ sets (now (out .entry)) 80 (numbers (requestLengths aux proof)) ⌝ }
+    ensures { λ _. ⌜ now (out .exit) ≡ sets (now (out .entry)) 80 (layoutBytes (requestLengths aux proof)) ⌝ }
 {
     store_number(out, 80, 4, aux as u64);
     store_number(out, 84, 4, proof as u64);
@@ -56,7 +56,7 @@ fn store_request(
     proof: &[u8],
     out: &mut [u8],
 )
-    ensures { λ _. ⌜ now (out .exit) ≡ sets (now (out .entry)) 0 (requestBytes (reading algorithm slot operation profile digest key (now (aux .entry)) (now (proof .entry)))) ⌝ }
+    ensures { λ _. ⌜ now (out .exit) ≡ sets (now (out .entry)) 0 (requestBytes (requestWith algorithm slot operation profile digest key (now (aux .entry)) (now (proof .entry)))) ⌝ }
 {
     store_head(out, algorithm, slot, operation, profile);
     store_bytes(out, 16, &digest);
@@ -68,7 +68,7 @@ fn store_request(
 
 // The writer's refusals, and then that of a buffer of `room` bytes.
 fn check_room(operation: u8, aux: &[u8], proof: &[u8], room: usize) -> Check
-    ensures { λ r. ⌜ r ≡ writeFault (limitRows operation (length (now (aux .entry))) (length (now (proof .entry)))) (96 + length (now (aux .entry)) + length (now (proof .entry))) room ⌝ }
+    ensures { λ r. ⌜ r ≡ writeFault (writerLimitRows operation (length (now (aux .entry))) (length (now (proof .entry)))) (96 + length (now (aux .entry)) + length (now (proof .entry))) room ⌝ }
 {
     let invalid = ProtocolError::InvalidRequest;
     Check::Passed
@@ -93,8 +93,8 @@ pub fn encode_verifier_request(
     proof: &[u8],
     out: &mut [u8],
 ) -> WriteAnswer
-    ensures { λ r. ⌜ r ≡ requestWritten (reading algorithm slot operation profile digest key (now (aux .entry)) (now (proof .entry))) (now (out .entry)) ⌝ }
-    ensures { λ _. ⌜ now (out .exit) ≡ requestStored (reading algorithm slot operation profile digest key (now (aux .entry)) (now (proof .entry))) (now (out .entry)) ⌝ }
+    ensures { λ r. ⌜ r ≡ requestWritten (requestWith algorithm slot operation profile digest key (now (aux .entry)) (now (proof .entry))) (now (out .entry)) ⌝ }
+    ensures { λ _. ⌜ now (out .exit) ≡ requestStored (requestWith algorithm slot operation profile digest key (now (aux .entry)) (now (proof .entry))) (now (out .entry)) ⌝ }
 {
     match check_room(operation, aux, proof, out.len()) {
         Check::Failed(error) => WriteAnswer::Refused(error),

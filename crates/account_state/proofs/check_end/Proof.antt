@@ -3,15 +3,15 @@ use mathlib.Core.Path.{sym}
 use denote.Ref.{now}
 use Rattle.octets.specs.Le.{numberAt}
 use Rattle.protocol.specs.Rows.{decide}
-use Rattle.protocol.proofs.Hold.{decide-then}
-use Rattle.account_state.specs.State.{thresholdRows, endRows}
+use Rattle.protocol.proofs.AllPass.{decide-then}
+use Rattle.account_state.specs.State.{thresholdRows, stateEndRows}
 use Rattle.account_state.specs.Walk.{endFault}
 use borrow.Author.Needs.{needs}
 use Rattle.account_state.proofs.check_end.Statement.{statement}
 use Rattle.account_state.proofs.check_end.Tie as tie
 
 returns : tie.Need-returns
-unfolding endFault endRows decide
+unfolding endFault stateEndRows decide
 returns c =
     let c4 = c .before .before .before .before in
     let a = c4 .before .before .before .before .before .before .before .args in

@@ -2,14 +2,14 @@
 use mathlib.Core.Path.{_≡_, sym, _∙_}
 use Rattle.protocol.specs.Rows.{decide}
 use Rattle.protocol.specs.declared.check.Check.the-variants.{Passed}
-use Rattle.account_state.specs.State.{headRows, stateAnswer, readState}
+use Rattle.account_state.specs.State.{stateHeaderRows, stateAnswer, readState}
 use Rattle.account_state.proofs.StateLaws.{head-room, fault-head, fault-entries, fault-end}
 use borrow.Author.Needs.{needs}
 use Rattle.account_state.proofs.validate_state.Statement.{statement}
 use Rattle.account_state.proofs.validate_state.Tie as tie
 
 -- the header passed
-head : (c : tie.After-enum-told) → decide Passed (headRows (c .before .before .before .before .args .state .now)) ≡ Passed
+head : (c : tie.After-enum-told) → decide Passed (stateHeaderRows (c .before .before .before .before .args .state .now)) ≡ Passed
 head c = sym (c .before .before .check-head .ensures) ∙ c .enum-told .given .1
 
 walk-entries-requires : tie.Need-walk-entries-requires

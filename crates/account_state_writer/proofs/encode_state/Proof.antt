@@ -1,6 +1,6 @@
 -- `account_state_writer::encode_state` meets its contract: by what the checks of the slices find. Assumes nothing.
 use mathlib.Core.Path.{sym, _∙_}
-use Rattle.protocol.proofs.Hold.{passed-hold}
+use Rattle.protocol.proofs.AllPass.{passed-all-pass}
 use Rattle.account_state_writer.specs.Writer.{stateFrom}
 use Rattle.account_state_writer.proofs.Agreed.{agreed, length-state, agreed-written, refused-written}
 use borrow.Author.Needs.{needs}
@@ -9,7 +9,7 @@ use Rattle.account_state_writer.proofs.encode_state.Tie as tie
 
 encode-agreed-requires : tie.Need-encode-agreed-requires
 encode-agreed-requires c κs =
-    passed-hold _ (sym (c .before .before .before .check-slices .ensures) ∙ c .before .enum-told .given .1)
+    passed-all-pass _ (sym (c .before .before .before .check-slices .ensures) ∙ c .before .enum-told .given .1)
 
 returns : tie.Need-returns
 returns c = refused-written _ _ _ _ _ (sym (c .before .before .before .check-slices .ensures) ∙ c .before .error .given .1)
@@ -22,7 +22,7 @@ returns-2 c =
     let b = a .bytes .now in
     let r = stateFrom (a .flags) (a .sequence) (a .spend) (a .rotate) (a .recovery) (a .since) f b in
     let h = sym (k .check-slices .ensures) ∙ c .before .before .before .before .enum-told .given .1 in
-    let n = length-state (a .flags) (a .sequence) (a .spend) (a .rotate) (a .recovery) (a .since) f b (λ i. k .before .before .shared-slice-known2 .given i .fits) (agreed f b (passed-hold _ h) .needed) in
+    let n = length-state (a .flags) (a .sequence) (a .spend) (a .rotate) (a .recovery) (a .since) f b (λ i. k .before .before .shared-slice-known2 .given i .fits) (agreed f b (passed-all-pass _ h) .needed) in
     let z = agreed-written r f b (a .out .now) h n in
     (c .before .before .encode-agreed .ensures .0 ∙ z .0, c .before .before .encode-agreed .ensures .1 ∙ z .1)
 

@@ -8,7 +8,7 @@ use Rattle.decide_scene.proofs.program_answer.Tie as tie
 
 returns : tie.Need-returns
 returns c =
-    c .refused .ensures ∙ ap lock.told (sym (long-decides (c .before .before .before .args .scene .now) (c .before .if1 .taken)))
+    c .refused .ensures ∙ ap lock.answerOf (sym (long-decides (c .before .before .before .args .scene .now) (c .before .if1 .taken)))
 
 returns-2 : tie.Need-returns-2
 returns-2 c =

@@ -1,5 +1,5 @@
 -- `exports_lock::fowlcredenza_lock` meets its contract, by whether there is room for the answer. Assumes nothing.
-use Rattle.account_lock.specs.Lock.{told}
+use Rattle.account_lock.specs.Lock.{answerOf}
 use Rattle.exports_lock.specs.Stored.{roomNumber, roomAfter}
 use Rattle.exports_lock.proofs.Room.{room-yes, room-no}
 use borrow.Author.Needs.{needs}
@@ -13,7 +13,7 @@ returns c =
     (rw e (c .error-number .ensures), (rw e, rw e))
 
 returns-2 : tie.Need-returns-2
-unfolding told roomNumber roomAfter
+unfolding answerOf roomNumber roomAfter
 returns-2 c =
     let stored = c .before .before .before in
     let decided = stored .before .before .before .before in

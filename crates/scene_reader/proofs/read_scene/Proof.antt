@@ -3,9 +3,9 @@ use Prim.Native.Nat.{ℕ}
 use mathlib.Core.Path.{_≡_, sym, ap, _∙_}
 use lib.ListN.{length, replicate}
 use borrow.Author.Needs.{needs}
-use Rattle.scene_reader.specs.declared.state.Step.{Step}
+use Rattle.scene_reader.specs.declared.state.LineStep.{LineStep}
 use Rattle.scene_reader.specs.Reader.{readOf}
-use Rattle.scene_reader.specs.Room.{leaves}
+use Rattle.scene_reader.specs.Room.{stepOutcome}
 use Rattle.scene_reader.proofs.read_scene.Statement.{statement}
 use Rattle.scene_reader.proofs.read_scene.Tie as tie
 
@@ -22,8 +22,8 @@ returns c =
     let m : length (c .before .before .before .before .before .before .before .before .before .before .before .clear-words .last .0) ≡ length (a .table .now) = c .before .before .before .before .before .before .before .before .before .before .before .clear-words .kept .0 in
     let st = c .before .before .before .before .before .before .read-checked .last .1 .0 in
     let tb = c .before .before .before .before .before .before .read-checked .last .1 .1 .0 in
-    let done : leaves (c .before .before .before .before .before .before .read-checked .result) st tb ≡ readOf (a .scene .now) (length (a .store .now)) (length (a .table .now)) = rw (n, m) at (c .before .before .before .before .before .before .read-checked .ensures) in
-    let is = sym done ∙ ap (λ (x : Step). leaves x st tb) (c .enum-told .given .1) in
+    let done : stepOutcome (c .before .before .before .before .before .before .read-checked .result) st tb ≡ readOf (a .scene .now) (length (a .store .now)) (length (a .table .now)) = rw (n, m) at (c .before .before .before .before .before .before .read-checked .ensures) in
+    let is = sym done ∙ ap (λ (x : LineStep). stepOutcome x st tb) (c .enum-told .given .1) in
     (rw is, (rw is, rw is))
 
 returns-2 : tie.Need-returns-2
@@ -33,8 +33,8 @@ returns-2 c =
     let m : length (c .before .before .before .before .before .before .before .before .before .before .before .before .before .before .before .before .before .before .before .before .clear-words .last .0) ≡ length (a .table .now) = c .before .before .before .before .before .before .before .before .before .before .before .before .before .before .before .before .before .before .before .before .clear-words .kept .0 in
     let st = c .before .before .before .before .before .before .before .before .before .before .before .before .before .before .before .read-checked .last .1 .0 in
     let tb = c .before .before .before .before .before .before .before .before .before .before .before .before .before .before .before .read-checked .last .1 .1 .0 in
-    let done : leaves (c .before .before .before .before .before .before .before .before .before .before .before .before .before .before .before .read-checked .result) st tb ≡ readOf (a .scene .now) (length (a .store .now)) (length (a .table .now)) = rw (n, m) at (c .before .before .before .before .before .before .before .before .before .before .before .before .before .before .before .read-checked .ensures) in
-    let is = sym done ∙ ap (λ (x : Step). leaves x st tb) (c .before .before .before .before .before .before .before .before .before .step .given .1) in
+    let done : stepOutcome (c .before .before .before .before .before .before .before .before .before .before .before .before .before .before .before .read-checked .result) st tb ≡ readOf (a .scene .now) (length (a .store .now)) (length (a .table .now)) = rw (n, m) at (c .before .before .before .before .before .before .before .before .before .before .before .before .before .before .before .read-checked .ensures) in
+    let is = sym done ∙ ap (λ (x : LineStep). stepOutcome x st tb) (c .before .before .before .before .before .before .before .before .before .step .given .1) in
     let k = c .before .before .before .before .before .before .before .before .before .before .before .before .before .before .before .read-checked .kept in (
       rw is,
       (

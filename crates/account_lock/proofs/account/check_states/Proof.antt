@@ -2,11 +2,11 @@
 use mathlib.Core.Path.{_≡_, refl, sym, ap, _∙_}
 use denote.Ref.{now}
 use Rattle.protocol.specs.Rows.{decide, _▷_, _then_}
-use Rattle.protocol.proofs.Hold.{decide-append, decide-then}
+use Rattle.protocol.proofs.AllPass.{decide-append, decide-then}
 use Rattle.protocol.specs.declared.check.Check.the-variants.{Passed}
-use Rattle.scene_table.specs.Lent.{lentScene}
+use Rattle.scene_table.specs.Lent.{sceneIn}
 use Rattle.state_transition.specs.Transition.{dataRows, transitionRows}
-use Rattle.account_lock.specs.Lock.{account, operation, witnessSequence, current, successor, stateRowsOf}
+use Rattle.account_lock.specs.Lock.{account, operation, witnessSequence, current, successor, statesRows}
 use Rattle.account_lock.specs.Settled.{resolved}
 use Rattle.account_lock.proofs.Resolved.{state-current, state-since, state-successor}
 use borrow.Author.Needs.{needs}
@@ -14,10 +14,10 @@ use Rattle.account_lock.proofs.account.check_states.Statement.{statemen
 use Rattle.account_lock.proofs.account.check_states.Tie as tie
 
 returns : tie.Need-returns
-unfolding stateRowsOf operation witnessSequence current successor resolved
+unfolding statesRows operation witnessSequence current successor resolved
 returns c =
     let p = c .before .before .before .before .before .before .before .before .before .before .before in
-    let s = lentScene (now (p .args .table)) (now (p .args .store)) in
+    let s = sceneIn (now (p .args .table)) (now (p .args .store)) in
     rw (
       c .and .ensures,
       c .before .validate-transition .ensures,

@@ -2,7 +2,7 @@
 use mathlib.Core.Path.{_≡_, refl, sym, ap, _∙_}
 use denote.Ref.{now}
 use Rattle.octets.proofs.Arrays.{array-whole}
-use Rattle.scene_table.specs.Lent.{lentScene}
+use Rattle.scene_table.specs.Lent.{sceneIn}
 use Rattle.state_transition.specs.Transition.{sequenceOf}
 use Rattle.authorization.specs.declared.digest.AuthorizationDigest.{AuthorizationDigest}
 use Rattle.account_lock.proofs.Digested.{digest-given, sighash-given}
@@ -14,7 +14,7 @@ returns : tie.Need-returns
 unfolding sequenceOf
 returns c =
     let p = c .before .before .before .before .before .before .before .before .before .before in
-    let s = lentScene (now (p .args .table)) (now (p .args .store)) in
+    let s = sceneIn (now (p .args .table)) (now (p .args .store)) in
     ap (λ (q : AuthorizationDigest). q .digest) (c .before .authorization-digest .ensures)
     ∙ rw (c .before .before .u64-at .ensures, c .before .before .before .before .canonical-group-sighash .ensures, c .before .before .before .before .before .array-32 .ensures, array-whole 32 (now (p .args .account-id)) (p .pre .whole), sighash-given s (p .pre .witnesses))
     (digest-given _ _ _ _ _ (p .pre .known))

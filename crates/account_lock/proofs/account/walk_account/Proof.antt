@@ -1,10 +1,10 @@
 -- `account_lock::account::walk_account` meets its contract. Assumes nothing.
 use mathlib.Core.Path.{_≡_, refl, sym, ap, _∙_}
 use denote.Ref.{now}
-use Rattle.scene_table.specs.Lent.{lentScene}
+use Rattle.scene_table.specs.Lent.{sceneIn}
 use Rattle.decision.specs.Walk.{answered}
-use Rattle.account_lock.specs.Lock.{operation, digest, settingOf, walked, walkResult, told}
-use Rattle.proof_walk.specs.Answer.{sceneDeps, walkSetting, walkedOf}
+use Rattle.account_lock.specs.Lock.{operation, digest, contextOf, walked, walkResult, answerOf}
+use Rattle.proof_walk.specs.Answer.{sceneDeps, walkContext, walkedOf}
 use Rattle.proof_walk.proofs.WalkLaws.{walk-known}
 use Rattle.account_lock.proofs.LockLaws.{named-authorized}
 use borrow.Author.Needs.{needs}
@@ -14,15 +14,15 @@ use Rattle.account_lock.proofs.account.walk_account.Tie as tie
 digest-of-requires : tie.Need-digest-of-requires
 digest-of-requires c κs =
     let p = c .before .before .before .before .before .before .before in
-    rw (c .u8-at .ensures) (named-authorized _ _ (lentScene (now (p .args .table)) (now (p .args .store))) (p .pre .named) (p .pre .others))
+    rw (c .u8-at .ensures) (named-authorized _ _ (sceneIn (now (p .args .table)) (now (p .args .store))) (p .pre .named) (p .pre .others))
 
 returns : tie.Need-returns
-unfolding told walkResult walked walkedOf walkSetting sceneDeps settingOf digest operation
+unfolding answerOf walkResult walked walkedOf walkContext sceneDeps contextOf digest operation
 returns c =
     let p = c .before .before .before .before .before .before .before .before .before .before .before .before in
     let w = c .before .before in
     let given = p .pre .named in
-    let known = named-authorized _ _ (lentScene (now (p .args .table)) (now (p .args .store))) given (p .pre .others) .known in (
+    let known = named-authorized _ _ (sceneIn (now (p .args .table)) (now (p .args .store))) given (p .pre .others) .known in (
       rw (w .walk-proofs .ensures .0, c .before .before .before .before .digest-of .ensures, c .before .before .before .before .before .u8-at .ensures, walk-known, p .pre .current, given .account, given .witness),
       w .walk-proofs .ensures .1 ∙ rw (c .before .before .before .before .digest-of .ensures, c .before .before .before .before .before .u8-at .ensures, walk-known, p .pre .current, given .account, given .witness),
     )

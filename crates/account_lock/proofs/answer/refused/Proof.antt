@@ -5,7 +5,7 @@ use Rattle.account_lock.proofs.answer.refused.Statement.{statement}
 use Rattle.account_lock.proofs.answer.refused.Tie as tie
 
 returns : tie.Need-returns
-unfolding lock.told lock.refused
+unfolding lock.answerOf lock.refused
 returns c = refl
 
 pub refused-spec : {M : Type 1} → statement M

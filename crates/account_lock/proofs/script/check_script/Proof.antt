@@ -2,7 +2,7 @@
 use mathlib.Core.Path.{_≡_, refl, sym, ap, _∙_}
 use denote.Ref.{now}
 use Rattle.protocol.specs.Rows.{decide, _▷_, _then_}
-use Rattle.protocol.proofs.Hold.{decide-append, decide-then}
+use Rattle.protocol.proofs.AllPass.{decide-append, decide-then}
 use Rattle.protocol.specs.declared.check.Check.the-variants.{Passed}
 use Rattle.molecule.specs.Bytes as molecule
 use Rattle.account_lock.specs.Lock.{scriptRows, argsIn}
@@ -23,7 +23,7 @@ returns c =
       c .before .before .before .before .check-table .ensures,
       c .before .before .before .before .before .require .ensures,
     )
-    (sym (decide-append _ (molecule.argsRows s) _ ∙ rw (decide-then _ (argsRows (argsIn s)), decide-then _ (molecule.argsRows s))))
+    (sym (decide-append _ (molecule.scriptArgsRows s) _ ∙ rw (decide-then _ (argsRows (argsIn s)), decide-then _ (molecule.scriptArgsRows s))))
 
 pub check-script-spec : {M : Type 1} → statement M
 check-script-spec =

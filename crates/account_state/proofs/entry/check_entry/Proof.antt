@@ -1,14 +1,14 @@
 -- `account_state::entry::check_entry` meets its contract: one list of rows after another. Assumes nothing.
 use borrow.Author.Tests.{lt-leb}
 use Rattle.protocol.specs.Rows.{_▷_, decide}
-use Rattle.protocol.proofs.Hold.{decide-append}
-use Rattle.account_state.specs.State.{layoutRows, fieldRows, entryRows}
+use Rattle.protocol.proofs.AllPass.{decide-append}
+use Rattle.account_state.specs.State.{entryLayoutRows, entryFieldRows, entryRows}
 use borrow.Author.Needs.{needs}
 use Rattle.account_state.proofs.entry.check_entry.Statement.{statement}
 use Rattle.account_state.proofs.entry.check_entry.Tie as tie
 
 returns : tie.Need-returns
-unfolding entryRows layoutRows fieldRows decide _▷_
+unfolding entryRows entryLayoutRows entryFieldRows decide _▷_
 returns c = rw (lt-leb 48 _ (c .if1 .taken))
 
 returns-2 : tie.Need-returns-2

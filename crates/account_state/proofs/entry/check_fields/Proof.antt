@@ -1,12 +1,12 @@
 -- `account_state::entry::check_fields` meets its contract: the rows, last to first. Assumes nothing.
-use Rattle.account_state.specs.State.{fieldRows}
+use Rattle.account_state.specs.State.{entryFieldRows}
 use Rattle.protocol.specs.Rows.{decide}
 use borrow.Author.Needs.{needs}
 use Rattle.account_state.proofs.entry.check_fields.Statement.{statement}
 use Rattle.account_state.proofs.entry.check_fields.Tie as tie
 
 returns : tie.Need-returns
-unfolding fieldRows decide
+unfolding entryFieldRows decide
 returns c =
     let c4 = c .before .before .before .before in
     let c8 = c4 .before .before .before .before in

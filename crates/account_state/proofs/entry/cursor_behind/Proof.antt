@@ -3,13 +3,13 @@ use Prim.Native.Nat.{_-_}
 use native.Mathlib.Omega.{arith}
 use lib.ListN.{length}
 use Rattle.octets.proofs.Parts.{part-clip}
-use Rattle.account_state.specs.State.{cursorBehind}
+use Rattle.account_state.specs.State.{entryCursorBehind}
 use borrow.Author.Needs.{needs}
 use Rattle.account_state.proofs.entry.cursor_behind.Statement.{statement}
 use Rattle.account_state.proofs.entry.cursor_behind.Tie as tie
 
 returns : tie.Need-returns
-unfolding cursorBehind
+unfolding entryCursorBehind
 returns c =
     let a = c .before .before .before .before .args in
     let s = a .state .now in

@@ -3,7 +3,7 @@ use mathlib.Core.Path.{_≡_, sym, _∙_}
 use lib.ListN.{drop}
 use Rattle.protocol.specs.Rows.{decide}
 use Rattle.protocol.specs.declared.check.Check.the-variants.{Passed}
-use Rattle.account_state.specs.State.{entryRows, stepAnswer, entryStep}
+use Rattle.account_state.specs.State.{entryRows, entryStepAnswer, entryStep}
 use Rattle.account_state.proofs.WalkLaws.{entry-room}
 use borrow.Author.Needs.{needs}
 use Rattle.account_state.proofs.entry.next_entry.Statement.{statement}
@@ -20,13 +20,13 @@ cursor-behind-requires : tie.Need-cursor-behind-requires
 cursor-behind-requires c κs = entry-room _ _ _ (passed (c .before))
 
 returns : tie.Need-returns
-unfolding entryStep stepAnswer
+unfolding entryStep entryStepAnswer
 returns c =
     let c4 = c .before .before .before .before in
     rw (← c4 .rest .ensures, sym (c .before .before .before .check-entry .ensures) ∙ c .before .error .given .1)
 
 returns-2 : tie.Need-returns-2
-unfolding entryStep stepAnswer
+unfolding entryStep entryStepAnswer
 returns-2 c = rw (c .cursor-behind .ensures, c .before .entry-at .ensures, passed (c .before .before))
 
 pub next-entry-spec : {M : Type 1} → statement M

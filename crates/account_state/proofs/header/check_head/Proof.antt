@@ -1,17 +1,17 @@
 -- `account_state::header::check_head` meets its contract: the rows, last to first. Assumes nothing.
 use borrow.Author.Tests.{le-leb, lt-leb}
-use Rattle.account_state.specs.State.{headRows}
+use Rattle.account_state.specs.State.{stateHeaderRows}
 use Rattle.protocol.specs.Rows.{_▷_, decide}
 use borrow.Author.Needs.{needs}
 use Rattle.account_state.proofs.header.check_head.Statement.{statement}
 use Rattle.account_state.proofs.header.check_head.Tie as tie
 
 returns : tie.Need-returns
-unfolding headRows decide _▷_
+unfolding stateHeaderRows decide _▷_
 returns c = rw (lt-leb 32 _ (c .if1 .taken))
 
 returns-2 : tie.Need-returns-2
-unfolding headRows decide _▷_
+unfolding stateHeaderRows decide _▷_
 returns-2 c =
     let c4 = c .before .before .before .before in
     let c8 = c4 .before .before .before .before in

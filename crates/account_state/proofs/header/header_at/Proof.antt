@@ -1,14 +1,14 @@
 -- `account_state::header::header_at` meets its contract: each field as it is read. Assumes nothing.
 use mathlib.Core.Path.{_∙_}
 use native.Mathlib.Omega.{arith}
-use Rattle.account_state.specs.State.{headerOf}
+use Rattle.account_state.specs.State.{stateHeaderOf}
 use Rattle.account_state.proofs.StateLaws.{front-number}
 use borrow.Author.Needs.{needs}
 use Rattle.account_state.proofs.header.header_at.Statement.{statement}
 use Rattle.account_state.proofs.header.header_at.Tie as tie
 
 returns : tie.Need-returns
-unfolding headerOf
+unfolding stateHeaderOf
 returns c =
     let c4 = c .before .before .before .before in
     let s = c4 .before .before .before .before .before .args .state .now in

@@ -6,7 +6,7 @@ use native.Mathlib.Nat.{div-zero, one-mul, zero-mul}
 use native.Mathlib.Omega.{arith}
 use lib.Dec.{eqb}
 use Rattle.protocol.specs.Policy.{hasCapability}
-use Rattle.account_state.specs.Reading.{shareOf}
+use Rattle.account_state.specs.Reading.{capableShare}
 use borrow.Author.Needs.{needs}
 use Rattle.account_state.proofs.walk.share.Statement.{statement}
 use Rattle.account_state.proofs.walk.share.Tie as tie
@@ -19,7 +19,7 @@ bit-times (suc (suc k)) n h = absurd (omega arith)
 
 -- no entry has the capability of no bit
 returns : tie.Need-returns
-unfolding shareOf hasCapability
+unfolding capableShare hasCapability
 returns c = (rw (c .if1 .taken, div-zero), omega arith)
 
 mul-result : tie.Need-mul-result
@@ -28,7 +28,7 @@ mul-result c =
     omega (arith, bit-times (a .capabilities / a .bit % 2) (a .weight) (omega arith) .1, c .before .fits .weight)
 
 returns-2 : tie.Need-returns-2
-unfolding shareOf hasCapability
+unfolding capableShare hasCapability
 returns-2 c =
     let a = c .before .args in
     let b = bit-times (a .capabilities / a .bit % 2) (a .weight) (omega arith) in

@@ -1,7 +1,7 @@
 -- `account_state_writer::layout::store_fields` meets its contract: the numbers of an entry, stored one behind another. Assumes nothing.
 use native.Mathlib.Omega.{arith}
-use Rattle.octets.proofs.TableLaws.{storeNumbers, numbers-stored}
-use Rattle.account_state_writer.specs.Writer.{fieldNumbers}
+use Rattle.octets.proofs.LayoutLaws.{storeNumbers, numbers-stored}
+use Rattle.account_state_writer.specs.Writer.{entryFieldNumbers}
 use borrow.Author.Needs.{needs}
 use Rattle.account_state_writer.proofs.layout.store_fields.Statement.{statement}
 use Rattle.account_state_writer.proofs.layout.store_fields.Tie as tie
@@ -25,13 +25,13 @@ cast-store-number-5 : tie.Need-cast-store-number-5
 cast-store-number-5 c = omega (arith, c .shared-slice-known6 .given 3)
 
 returns : tie.Need-returns
-unfolding fieldNumbers storeNumbers
+unfolding entryFieldNumbers storeNumbers
 returns c =
     let c7 = c .before .before .before .before .before .before .before in
     let c17 = c7 .before .before .before .before .before .before .before .before .before .before in
     let s = c17 .before .before .before .before .before .before .before .before .before .before in
     rw (c .before .before .store-number5 .ensures, c7 .store-number4 .ensures, c7 .before .before .before .before .before .store-number3 .ensures, c17 .store-number2 .ensures, c17 .before .before .before .before .before .store-number .ensures)
-    (numbers-stored (s .args .front .now) 0 (fieldNumbers (s .args .fields .now)))
+    (numbers-stored (s .args .front .now) 0 (entryFieldNumbers (s .args .fields .now)))
 
 pub store-fields-spec : {M : Type 1} → statement M
 store-fields-spec =

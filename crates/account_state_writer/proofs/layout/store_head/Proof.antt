@@ -2,14 +2,14 @@
 use mathlib.Core.Path.{ap, _∙_}
 use lib.ListN.{length}
 use lib.Seq.{length-sets}
-use Rattle.octets.proofs.TableLaws.{storeNumbers, numbers-stored}
-use Rattle.account_state.specs.Reading.{headNumbers}
+use Rattle.octets.proofs.LayoutLaws.{storeNumbers, numbers-stored}
+use Rattle.account_state.specs.Reading.{stateHeaderFields}
 use borrow.Author.Needs.{needs}
 use Rattle.account_state_writer.proofs.layout.store_head.Statement.{statement}
 use Rattle.account_state_writer.proofs.layout.store_head.Tie as tie
 
 returns : tie.Need-returns
-unfolding headNumbers storeNumbers
+unfolding stateHeaderFields storeNumbers
 returns c =
     let c4 = c .before .before .before .before in
     let c8 = c4 .before .before .before .before in
@@ -21,7 +21,7 @@ returns c =
     let c32 = c28 .before .before .before .before in
     let c36 = c32 .before .before .before .before in
     let c40 = c36 .before .before .before .before in
-    rw (c .before .before .store-number11 .ensures, c4 .before .before .store-number10 .ensures, c8 .before .before .store-number9 .ensures, c12 .before .before .store-number8 .ensures, c16 .before .before .store-number7 .ensures, c20 .before .before .store-number6 .ensures, c24 .before .before .store-number5 .ensures, c28 .before .before .store-number4 .ensures, c32 .before .before .store-number3 .ensures, c36 .before .before .store-number2 .ensures, c40 .before .before .store-number .ensures) (numbers-stored _ 0 (headNumbers _ _ _ _ _ _ _))
+    rw (c .before .before .store-number11 .ensures, c4 .before .before .store-number10 .ensures, c8 .before .before .store-number9 .ensures, c12 .before .before .store-number8 .ensures, c16 .before .before .store-number7 .ensures, c20 .before .before .store-number6 .ensures, c24 .before .before .store-number5 .ensures, c28 .before .before .store-number4 .ensures, c32 .before .before .store-number3 .ensures, c36 .before .before .store-number2 .ensures, c40 .before .before .store-number .ensures) (numbers-stored _ 0 (stateHeaderFields _ _ _ _ _ _ _))
 
 same-length : tie.Need-same-length
 same-length c = ap length (returns c) ∙ simp length-sets

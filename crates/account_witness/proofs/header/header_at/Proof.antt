@@ -1,11 +1,11 @@
 -- `account_witness::header::header_at` meets its contract: each call gives its field. Assumes nothing.
-use Rattle.account_witness.specs.Header.{headerAt}
+use Rattle.account_witness.specs.Header.{witnessHeaderOf}
 use borrow.Author.Needs.{needs}
 use Rattle.account_witness.proofs.header.header_at.Statement.{statement}
 use Rattle.account_witness.proofs.header.header_at.Tie as tie
 
 returns : tie.Need-returns
-unfolding headerAt
+unfolding witnessHeaderOf
 returns c = rw (c .u64-at .ensures, c .before .u8-at2 .ensures, c .before .before .u8-at .ensures)
 
 pub header-at-spec : {M : Type 1} → statement M

@@ -1,14 +1,14 @@
 -- `account_witness::walk::check_proof` meets its contract: the first row holds, and the others are the calls, last to first. Assumes nothing.
 use Rattle.protocol.specs.Rows.{decide}
 use borrow.Author.Tests.{le-leb}
-use Rattle.account_witness.specs.Walk.{proofRows}
+use Rattle.account_witness.specs.Walk.{proofLayoutRows}
 use Rattle.account_witness.proofs.WalkLaws.{row-passed}
 use borrow.Author.Needs.{needs}
 use Rattle.account_witness.proofs.walk.check_proof.Statement.{statement}
 use Rattle.account_witness.proofs.walk.check_proof.Tie as tie
 
 returns : tie.Need-returns
-unfolding proofRows decide
+unfolding proofLayoutRows decide
 returns c =
     let c1 = c .before .before .before .before in
     rw (

@@ -3,7 +3,7 @@ use mathlib.Core.Path.{_≡_, sym, _∙_}
 use native.Mathlib.Omega.{arith}
 use Rattle.protocol.specs.Rows.{decide}
 use Rattle.protocol.specs.declared.check.Check.the-variants.{Passed}
-use Rattle.account_witness.specs.Walk.{proofsRows}
+use Rattle.account_witness.specs.Walk.{proofsLayoutRows}
 use Rattle.account_witness.proofs.WalkLaws.{walk-next, walk-refused, walk-none}
 use borrow.Author.Needs.{needs}
 use Rattle.account_witness.proofs.walk.check_proofs.Statement.{statement}
@@ -11,7 +11,7 @@ use Rattle.account_witness.proofs.walk.check_proofs.Tie as tie
 
 abbrev Inv-loop : tie.InvT-loop
 Inv-loop witness count cursor₀ left₀ cursor left =
-    decide Passed (proofsRows witness left (cursor .offset) (cursor .least)) ≡ decide Passed (proofsRows witness count 16 0)
+    decide Passed (proofsLayoutRows witness left (cursor .offset) (cursor .least)) ≡ decide Passed (proofsLayoutRows witness count 16 0)
 
 abbrev μ-loop : tie.MeasureT-loop
 μ-loop witness count cursor₀ left₀ cursor left = left

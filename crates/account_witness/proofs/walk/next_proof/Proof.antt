@@ -2,7 +2,7 @@
 use mathlib.Core.Path.{sym, _∙_}
 use borrow.Author.Tests.{leb-true}
 use Rattle.protocol.specs.Rows.{_▷_, decide}
-use Rattle.account_witness.specs.Walk.{proofRows, stepAnswer, proofStep}
+use Rattle.account_witness.specs.Walk.{proofLayoutRows, proofStepAnswer, proofStep}
 use borrow.Author.Needs.{needs}
 use Rattle.account_witness.proofs.walk.next_proof.Statement.{statement}
 use Rattle.account_witness.proofs.walk.next_proof.Tie as tie
@@ -11,7 +11,7 @@ step-at-requires : tie.Need-step-at-requires
 step-at-requires c κs = leb-true _ _ (sym (c .before .fits2 .ensures) ∙ c .if1 .taken)
 
 returns-2 : tie.Need-returns-2
-unfolding proofStep stepAnswer proofRows decide _▷_
+unfolding proofStep proofStepAnswer proofLayoutRows decide _▷_
 returns-2 c = rw (sym (c .before .fits2 .ensures) ∙ c .if1 .left)
 
 pub next-proof-spec : {M : Type 1} → statement M

@@ -4,7 +4,7 @@ use Prim.Native.Nat.{_+_, _*_, _-_, _≤_, _<_}
 use lib.ListN.{length, drop, getD}
 use lib.Seq.{sets, length-sets}
 use Rattle.account_witness.specs.Reading.{proofsBytes}
-use Rattle.account_witness_writer.specs.Encode.{sum, proofsFrom}
+use Rattle.account_witness_writer.specs.Encode.{sum, lentProofs}
 use Rattle.account_witness_writer.proofs.EncodeLaws.{sum-turn, store-turn, store-end}
 use borrow.Author.Needs.{needs}
 use native.Mathlib.Omega.{arith}
@@ -17,7 +17,7 @@ Inv-loop out₀ slots lengths bytes at₀ from₀ i₀ out at from i =
     × (at ≡ 16 + (8 * i + from))
     × (from + sum (drop i lengths) ≡ length bytes)
     × (length out ≡ length out₀)
-    × (sets out at (proofsBytes (proofsFrom (drop i slots) (drop i lengths) (drop from bytes))) ≡ sets out₀ 16 (proofsBytes (proofsFrom slots lengths bytes)))
+    × (sets out at (proofsBytes (lentProofs (drop i slots) (drop i lengths) (drop from bytes))) ≡ sets out₀ 16 (proofsBytes (lentProofs slots lengths bytes)))
 
 abbrev μ-loop : tie.MeasureT-loop
 μ-loop out₀ slots lengths bytes at₀ from₀ i₀ out at from i = length slots - i

@@ -10,7 +10,7 @@ use Rattle.cell_search.proofs.cells.cell_type_script.Statement.{stateme
 use Rattle.cell_search.proofs.cells.cell_type_script.Tie as tie
 
 returns : tie.Need-returns
-unfolding places.cellAt bytesAt
+unfolding places.cellIn bytesAt
 returns c =
     let a = c .before .before .before .before .args in
     rw (c .before .places-within .ensures) at (c .part .ensures)

@@ -6,7 +6,7 @@ use Prim.Native.Nat.{_-_, _+_}
 use native.Mathlib.Omega.{arith}
 use denote.Ref.{now}
 use borrow.Author.Needs.{needs}
-use Rattle.scene_table.specs.Lent.{lentScene}
+use Rattle.scene_table.specs.Lent.{sceneIn}
 use Rattle.cell_search.specs.Search.{cellsOf, matches, searchOf, cellSearch}
 use Rattle.cell_search.specs.Cells.{cellCount}
 use Rattle.cell_search.proofs.CellLaws.{cells-listed, matchFrom, match-yes, match-no, match-end, placesOf, found-places, second-match}
@@ -16,7 +16,7 @@ use Rattle.cell_search.proofs.search.search_cells.Tie as tie
 abbrev Inv-loop : tie.InvT-loop
 Inv-loop table store source field hash count found₀ i₀ found i =
     (count ≡ cellCount source table)
-    × (cellSearch field hash (cellsOf source (lentScene table store)) ≡ searchOf (placesOf found ++ matchFrom field hash (cellsOf source (lentScene table store)) i))
+    × (cellSearch field hash (cellsOf source (sceneIn table store)) ≡ searchOf (placesOf found ++ matchFrom field hash (cellsOf source (sceneIn table store)) i))
 
 abbrev μ-loop : tie.MeasureT-loop
 μ-loop table store source field hash count found₀ i₀ found i = count - i

@@ -1,13 +1,13 @@
 -- `exports::args::check_account` meets its contract: the rows, last to first. Assumes nothing.
 use Rattle.protocol.specs.Rows.{decide}
 use Rattle.protocol.specs.Write.{writeFault}
-use Rattle.exports.specs.Writers.{argsFault}
+use Rattle.exports.specs.Writers.{argsWriterFault}
 use borrow.Author.Needs.{needs}
 use Rattle.exports.proofs.args.check_account.Statement.{statement}
 use Rattle.exports.proofs.args.check_account.Tie as tie
 
 returns : tie.Need-returns
-unfolding argsFault writeFault decide
+unfolding argsWriterFault writeFault decide
 returns c = rw (c .require2 .ensures, c .before .require .ensures)
 
 pub check-account-spec : {M : Type 1} → statement M

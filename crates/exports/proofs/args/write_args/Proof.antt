@@ -9,17 +9,17 @@ use Rattle.protocol.specs.Args.{argsBytes}
 use Rattle.protocol.proofs.Back.{write-passed}
 use Rattle.protocol.proofs.Outcome.{write-refused, write-done}
 use Rattle.export_answers.specs.Lent.{sizeRow}
-use Rattle.exports.specs.Writers.{argsFault, argsWritten, argsStored}
+use Rattle.exports.specs.Writers.{argsWriterFault, argsWritten, argsStored}
 use borrow.Author.Needs.{needs}
 use Rattle.exports.proofs.args.write_args.Statement.{statement}
 use Rattle.exports.proofs.args.write_args.Tie as tie
 
 returns : tie.Need-returns
-unfolding argsFault argsWritten argsStored
+unfolding argsWriterFault argsWritten argsStored
 returns c = write-refused _ _ _ _ (c .before .before .before .check-account .ensures) _ _ (c .before .error .given .1)
 
 returns-2 : tie.Need-returns-2
-unfolding argsFault argsWritten argsStored argsBytes
+unfolding argsWriterFault argsWritten argsStored argsBytes
 returns-2 c =
     let store = c .before .before in
     let lock = store .before .before .before in

@@ -2,14 +2,14 @@
 use mathlib.Core.Path.{sym, _∙_}
 use native.Mathlib.Omega.{arith}
 use denote.Ref.{now}
-use Rattle.scene_table.specs.Lent.{entryAt}
+use Rattle.scene_table.specs.Lent.{tableEntry}
 use Rattle.group_sighash.proofs.HashedLaws.{input-both, other-there, other-missing}
 use borrow.Author.Needs.{needs}
 use Rattle.group_sighash.proofs.hashed.first_other.Statement.{statement}
 use Rattle.group_sighash.proofs.hashed.first_other.Tie as tie
 
 add-result : tie.Need-add-result
-unfolding entryAt
+unfolding tableEntry
 add-result c =
     let b = input-both (now (c .before .before .before .before .args .table)) _ (sym (c .before .is-input .ensures) ∙ c .if1 .taken) .input in
     omega (arith, b, c .before .before .before .shared-slice-known .given 3 .fits)

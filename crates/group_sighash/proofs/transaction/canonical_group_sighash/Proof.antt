@@ -2,7 +2,7 @@
 use mathlib.Core.Path.{_≡_, sym, _∙_}
 use mathlib.Core.List.{List}
 use Prim.Native.Nat.{ℕ}
-use Rattle.protocol.proofs.Hold.{passed-hold}
+use Rattle.protocol.proofs.AllPass.{passed-all-pass}
 use Rattle.protocol.specs.declared.check.Check.the-variants.{Passed}
 use Rattle.group_sighash.specs.declared.transaction.Sighash.{Sighash}
 use Rattle.group_sighash.specs.GroupSighash.{sighashRows, sighashFound, groupAnswer}
@@ -15,7 +15,7 @@ same-hash : {a b : List ℕ} → a ≡ b → _≡_ {A = Sighash} (record { found
 same-hash e = rw e
 
 hash-group-requires : tie.Need-hash-group-requires
-hash-group-requires c κs = passed-hold (sighashRows _) (sym (c .before .before .check-hashed .ensures) ∙ c .enum-told .given .1)
+hash-group-requires c κs = passed-all-pass (sighashRows _) (sym (c .before .before .check-hashed .ensures) ∙ c .enum-told .given .1)
 
 returns : tie.Need-returns
 unfolding groupAnswer sighashFound

@@ -6,7 +6,7 @@ use denote.Ref.{now}
 use borrow.Author.Needs.{needs}
 use Rattle.blake2b.specs.State.{fedAll}
 use Rattle.authorization.specs.Sighash.{hashedWitnesses}
-use Rattle.scene_table.specs.Lent.{lentScene}
+use Rattle.scene_table.specs.Lent.{sceneIn}
 use Rattle.group_sighash.specs.Witnesses.{otherWitnesses}
 use Rattle.group_sighash.specs.Hashed.{witnessAt}
 use Rattle.group_sighash.proofs.HashedLaws.{Left, left-first, left-next, left-end, fed-next, fed-end}
@@ -15,7 +15,7 @@ use Rattle.group_sighash.proofs.transaction.feed_others.Tie as tie
 
 abbrev Inv-loop : tie.InvT-loop
 Inv-loop table store count fed₀ i₀ fed i =
-    Left table store count i (fedAll fed₀ (hashedWitnesses (otherWitnesses (lentScene table store)))) (λ ws. fedAll fed (hashedWitnesses ws))
+    Left table store count i (fedAll fed₀ (hashedWitnesses (otherWitnesses (sceneIn table store)))) (λ ws. fedAll fed (hashedWitnesses ws))
 
 abbrev μ-loop : tie.MeasureT-loop
 μ-loop table store count fed₀ i₀ fed i = count - i

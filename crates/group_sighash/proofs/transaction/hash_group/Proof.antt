@@ -6,7 +6,7 @@ use Rattle.octets.specs.Places.{bytesAt}
 use Rattle.authorization.specs.declared.witness.CanonicalFed.{CanonicalFed}
 use Rattle.authorization.proofs.Feeding.{table-fed}
 use Rattle.authorization.proofs.SighashTheorem.{sighash-fed}
-use Rattle.scene_table.specs.Lent.{lentScene}
+use Rattle.scene_table.specs.Lent.{sceneIn}
 use Rattle.scene_table.proofs.PlaceLaws.{lent-given}
 use Rattle.group_sighash.specs.Witnesses.{firstWitness, otherWitnesses}
 use Rattle.group_sighash.specs.GroupSighash.{groupSighash}
@@ -22,7 +22,7 @@ returns c =
     let begun = canonical .before .before in
     let p = begun .before .before in
     let a = p .before .before .before .before in
-    let s = lentScene (now (a .args .table)) (now (a .args .store)) in
+    let s = sceneIn (now (a .args .table)) (now (a .args .store)) in
     let transaction = rw (p .before .transaction-hash .ensures) at (p .part .ensures) ∙ sym (lent-given (now (a .args .table)) (now (a .args .store)) .transaction) in
     let fed = ap (λ (q : CanonicalFed). q .hash) (canonical .feed-canonical-witness .ensures) in
     rw (

@@ -2,8 +2,8 @@
 use mathlib.Core.Path.{sym}
 use denote.Ref.{now}
 use Rattle.protocol.specs.Rows.{decide, _then_}
-use Rattle.protocol.proofs.Hold.{decide-then}
-use Rattle.group_sighash.specs.Witnesses.{groupRows, witnessRows}
+use Rattle.protocol.proofs.AllPass.{decide-then}
+use Rattle.group_sighash.specs.Witnesses.{groupRows, firstWitnessRows}
 use Rattle.group_sighash.proofs.HashedLaws.{group-count}
 use borrow.Author.Needs.{needs}
 use Rattle.group_sighash.proofs.witnesses.check_group.Statement.{statement}
@@ -21,7 +21,7 @@ returns c =
       c .before .before .before .before .is-input .ensures,
       group-count (now (a .table)) (now (a .store)) _ (c .before .before .before .before .before .next-hashed .ensures),
     )
-    (sym (decide-then _ (witnessRows _)))
+    (sym (decide-then _ (firstWitnessRows _)))
 
 pub check-group-spec : {M : Type 1} → statement M
 check-group-spec =

@@ -2,12 +2,12 @@
 use mathlib.Core.Path.{_≡_, sym, ap, _∙_}
 use denote.Ref.{now}
 use Rattle.protocol.specs.Rows.{decide, _then_}
-use Rattle.protocol.proofs.Hold.{decide-append, decide-then}
+use Rattle.protocol.proofs.AllPass.{decide-append, decide-then}
 use Rattle.protocol.specs.declared.error.ProtocolError.the-variants.{InvalidWitness}
 use Rattle.molecule.specs.declared.canonical.CanonicalParts.{CanonicalParts}
 use Rattle.molecule.specs.Table3.{tableRows}
 use Rattle.molecule.proofs.CanonicalForm.{parts-found}
-use Rattle.scene_table.specs.Lent.{lentScene}
+use Rattle.scene_table.specs.Lent.{sceneIn}
 use Rattle.group_sighash.specs.Witnesses.{firstWitness, witnessFits, otherRows}
 use Rattle.group_sighash.specs.GroupSighash.{sighashRows}
 use Rattle.group_sighash.proofs.HashedLaws.{group-count}
@@ -23,7 +23,7 @@ returns c =
     let first = canonical .before in
     let place = first .before .before in
     let a = place .before .before .before .args in
-    let s = lentScene (now (a .table)) (now (a .store)) in
+    let s = sceneIn (now (a .table)) (now (a .store)) in
     let table = ap (λ (q : CanonicalParts). q .found) (canonical .canonical-parts .ensures) ∙ parts-found _ in
     rw (
       c .and2 .ensures,

@@ -4,7 +4,7 @@ use Prim.Native.Nat.{_-_}
 use native.Mathlib.Omega.{arith}
 use denote.Ref.{now}
 use borrow.Author.Needs.{needs}
-use Rattle.scene_table.specs.Lent.{lentScene}
+use Rattle.scene_table.specs.Lent.{sceneIn}
 use Rattle.scene_table.specs.Valid.{every}
 use Rattle.group_sighash.specs.Witnesses.{otherWitnesses, witnessFits}
 use Rattle.group_sighash.specs.Hashed.{witnessAt}
@@ -14,7 +14,7 @@ use Rattle.group_sighash.proofs.witnesses.check_others.Tie as tie
 
 abbrev Inv-loop : tie.InvT-loop
 Inv-loop table store count i₀ i =
-    Left table store count i (every witnessFits (otherWitnesses (lentScene table store))) (every witnessFits)
+    Left table store count i (every witnessFits (otherWitnesses (sceneIn table store))) (every witnessFits)
 
 abbrev μ-loop : tie.MeasureT-loop
 μ-loop table store count i₀ i = count - i
@@ -28,7 +28,7 @@ returns c =
     let l = c .before .before .before .loop in
     let a = c .before .before .before .before .before .before .before .before .before .args in
     let long = rw (c .before .witness-at .ensures) at (c .if1 .taken) in
-    sym (others-fail (lentScene (now (a .table)) (now (a .store))) (left-more (now (a .store)) (l .inv) (c .before .before .loop-test .taken) ∙ fits-not (witnessAt (now (a .table)) (now (a .store)) (l .i)) _ long))
+    sym (others-fail (sceneIn (now (a .table)) (now (a .store))) (left-more (now (a .store)) (l .inv) (c .before .before .loop-test .taken) ∙ fits-not (witnessAt (now (a .table)) (now (a .store)) (l .i)) _ long))
 
 loop-less : tie.Need-loop-less Inv-loop μ-loop
 loop-less c = omega (arith, c .next-hashed2 .ensures .behind)
@@ -44,7 +44,7 @@ loop-again c =
 returns-2 : tie.Need-returns-2 Inv-loop μ-loop
 returns-2 c =
     let a = c .before .before .before .before .before .before .before .args in
-    sym (others-pass (lentScene (now (a .table)) (now (a .store))) (left-end (now (a .store)) (c .before .loop .inv) (c .loop-test .left) ∙ fits-none))
+    sym (others-pass (sceneIn (now (a .table)) (now (a .store))) (left-end (now (a .store)) (c .before .loop .inv) (c .loop-test .left) ∙ fits-none))
 
 pub check-others-spec : {M : Type 1} → statement M
 check-others-spec =

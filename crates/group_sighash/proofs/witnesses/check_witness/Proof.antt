@@ -2,16 +2,16 @@
 use mathlib.Core.Path.{sym, _∙_}
 use denote.Ref.{now}
 use Rattle.protocol.specs.Rows.{decide, _then_}
-use Rattle.protocol.proofs.Hold.{decide-append, decide-then}
-use Rattle.group_sighash.specs.Witnesses.{witnessRows, countRows, lockIn}
-use Rattle.molecule.specs.Bytes.{lockRows}
-use Rattle.account_witness.specs.Header.{headerRows}
+use Rattle.protocol.proofs.AllPass.{decide-append, decide-then}
+use Rattle.group_sighash.specs.Witnesses.{firstWitnessRows, countRows, lockIn}
+use Rattle.molecule.specs.Bytes.{witnessLockRows}
+use Rattle.account_witness.specs.Header.{witnessHeaderRows}
 use borrow.Author.Needs.{needs}
 use Rattle.group_sighash.proofs.witnesses.check_witness.Statement.{statement}
 use Rattle.group_sighash.proofs.witnesses.check_witness.Tie as tie
 
 returns : tie.Need-returns
-unfolding witnessRows countRows decide
+unfolding firstWitnessRows countRows decide
 returns c =
     let a = c .before .before .before .before .before .before .before .before .before .args in
     let w = now (a .witness) in
@@ -25,7 +25,7 @@ returns c =
       c .before .before .before .before .before .before .require .ensures,
       c .before .before .before .before .before .before .before .lock-in .ensures,
     )
-    (sym (decide-append _ (lockRows w) _ ∙ rw (decide-append _ (headerRows (lockIn w)) (countRows (lockIn w))) (rw (decide-then _ (headerRows (lockIn w)), decide-then _ (lockRows w)))))
+    (sym (decide-append _ (witnessLockRows w) _ ∙ rw (decide-append _ (witnessHeaderRows (lockIn w)) (countRows (lockIn w))) (rw (decide-then _ (witnessHeaderRows (lockIn w)), decide-then _ (witnessLockRows w)))))
 
 pub check-witness-spec : {M : Type 1} → statement M
 check-witness-spec =

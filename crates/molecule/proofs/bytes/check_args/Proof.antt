@@ -2,15 +2,15 @@
 use mathlib.Core.Path.{sym, _∙_}
 use Rattle.protocol.specs.Rows.{decide}
 use Rattle.protocol.specs.declared.check.Check.the-variants.{Passed}
-use Rattle.protocol.proofs.Hold.{decide-append, decide-then}
+use Rattle.protocol.proofs.AllPass.{decide-append, decide-then}
 use Rattle.molecule.specs.Table3.{tableRows, field3}
-use Rattle.molecule.specs.Bytes.{argsRows, bytesRows}
+use Rattle.molecule.specs.Bytes.{scriptArgsRows, bytesRows}
 use borrow.Author.Needs.{needs}
 use Rattle.molecule.proofs.bytes.check_args.Statement.{statement}
 use Rattle.molecule.proofs.bytes.check_args.Tie as tie
 
 returns : tie.Need-returns
-unfolding argsRows field3
+unfolding scriptArgsRows field3
 returns c =
     let b = c .before .before .before in
     rw (

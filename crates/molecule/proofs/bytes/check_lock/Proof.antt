@@ -2,15 +2,15 @@
 use mathlib.Core.Path.{sym, _∙_}
 use Rattle.protocol.specs.Rows.{_▷_, decide}
 use Rattle.protocol.specs.declared.check.Check.the-variants.{Passed}
-use Rattle.protocol.proofs.Hold.{decide-append, decide-then}
+use Rattle.protocol.proofs.AllPass.{decide-append, decide-then}
 use Rattle.molecule.specs.Table3.{tableRows, field1}
-use Rattle.molecule.specs.Bytes.{lockRows, bytesRows}
+use Rattle.molecule.specs.Bytes.{witnessLockRows, bytesRows}
 use borrow.Author.Needs.{needs}
 use Rattle.molecule.proofs.bytes.check_lock.Statement.{statement}
 use Rattle.molecule.proofs.bytes.check_lock.Tie as tie
 
 returns : tie.Need-returns
-unfolding lockRows field1 decide
+unfolding witnessLockRows field1 decide
 returns c =
     let b = c .before .before .before .before in
     rw (

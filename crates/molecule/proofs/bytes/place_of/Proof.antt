@@ -1,11 +1,11 @@
 -- `molecule::bytes::place_of` meets its contract. Assumes nothing.
-use Rattle.molecule.specs.Bytes.{placeOf}
+use Rattle.molecule.specs.Bytes.{bytesPlaceFrom}
 use borrow.Author.Needs.{needs}
 use Rattle.molecule.proofs.bytes.place_of.Statement.{statement}
 use Rattle.molecule.proofs.bytes.place_of.Tie as tie
 
 returns : tie.Need-returns
-unfolding placeOf
+unfolding bytesPlaceFrom
 returns c = rw (c .u32-at .ensures)
 
 pub place-of-spec : {M : Type 1} → statement M

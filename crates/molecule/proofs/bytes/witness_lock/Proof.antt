@@ -1,12 +1,12 @@
 -- `molecule::bytes::witness_lock` meets its contract. Assumes nothing.
 use Rattle.molecule.specs.Table3.{field1}
-use Rattle.molecule.specs.Bytes.{readLock}
+use Rattle.molecule.specs.Bytes.{readWitnessLock}
 use borrow.Author.Needs.{needs}
 use Rattle.molecule.proofs.bytes.witness_lock.Statement.{statement}
 use Rattle.molecule.proofs.bytes.witness_lock.Tie as tie
 
 returns : tie.Need-returns
-unfolding readLock field1
+unfolding readWitnessLock field1
 returns c =
     let b = c .before .before .before in
     rw (

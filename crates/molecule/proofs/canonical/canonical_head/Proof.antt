@@ -4,9 +4,9 @@ use mathlib.Core.List.{List}
 use Prim.Native.Nat.{ℕ}
 use lib.ListN.{length, replicate}
 use native.Mathlib.Omega.{arith}
-use Rattle.octets.specs.Table.{numbers}
+use Rattle.octets.specs.Layout.{layoutBytes}
 use Rattle.octets.proofs.Stores.{sets-over}
-use Rattle.octets.proofs.TableLaws.{storeNumbers, numbers-stored, length-numbers}
+use Rattle.octets.proofs.LayoutLaws.{storeNumbers, numbers-stored, length-numbers}
 use lib.Seq.{take-all}
 use Rattle.molecule.specs.Canonical.{canonicalHead}
 use borrow.Author.Needs.{needs}
@@ -23,7 +23,7 @@ returns c =
     let c1 = c2 .before .before .before in
     let a = c1 .before .before .args in
     let l : List ℕ = replicate 20 0 in
-    let n : length (numbers (canonicalHead (a .total) (a .third))) ≡ 20 = length-numbers (canonicalHead (a .total) (a .third)) in
+    let n : length (layoutBytes (canonicalHead (a .total) (a .third))) ≡ 20 = length-numbers (canonicalHead (a .total) (a .third)) in
     rw (
       c5 .store-number5 .ensures,
       c4 .store-number4 .ensures,
@@ -31,7 +31,7 @@ returns c =
       c2 .store-number2 .ensures,
       c1 .store-number .ensures,
     )
-    (numbers-stored l 0 (canonicalHead (a .total) (a .third)) ∙ (sets-over l (numbers (canonicalHead (a .total) (a .third))) (omega arith) ∙ take-all 20 (numbers (canonicalHead (a .total) (a .third))) (omega arith)))
+    (numbers-stored l 0 (canonicalHead (a .total) (a .third)) ∙ (sets-over l (layoutBytes (canonicalHead (a .total) (a .third))) (omega arith) ∙ take-all 20 (layoutBytes (canonicalHead (a .total) (a .third))) (omega arith)))
 
 pub canonical-head-spec : {M : Type 1} → statement M
 canonical-head-spec =

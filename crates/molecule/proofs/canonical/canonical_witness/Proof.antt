@@ -4,7 +4,7 @@ use Prim.Native.Nat.{_+_}
 use lib.ListN.{length, take}
 use lib.Seq.{sets}
 use Rattle.octets.specs.Le.{numberAt}
-use Rattle.protocol.specs.Rows.{Hold}
+use Rattle.protocol.specs.Rows.{AllPass}
 use Rattle.protocol.specs.declared.error.ProtocolError.the-variants.{InvalidWitness}
 use Rattle.protocol.specs.declared.check.Check.the-variants.{Passed}
 use Rattle.protocol.proofs.Back.{write-passed}
@@ -39,7 +39,7 @@ returns-2 c =
     let rows = tableRows InvalidWitness s in
     let found : k .require .result ≡ canonicalRoom s (length (a .out .now)) =
     rw (k .require .ensures, k .before .fits2 .ensures, k .before .before .rest .ensures, p .canonical-parts .ensures) (room-found s (length (a .out .now))) in
-    let h : Hold rows = write-passed rows (length (canonicalOf s)) (length (a .out .now)) (sym found ∙ told .enum-told .given .1) .0 in
+    let h : AllPass rows = write-passed rows (length (canonicalOf s)) (length (a .out .now)) (sym found ∙ told .enum-told .given .1) .0 in
     let z : Passes s = passes InvalidWitness s h in
     let e : p .canonical-parts .result ≡ record { found = Passed; head = take 20 (canonicalOf s); rest = numberAt s 8 4 } = p .canonical-parts .ensures ∙ parts-read s h in
     let n : 20 + length (k .before .before .rest .result .now) ≡ length (canonicalOf s) = rw (k .before .before .rest .ensures, e) (sym (length-canonical s z)) in

@@ -1,11 +1,11 @@
 -- `molecule::table::fields_at` meets its contract: each field is its read. Assumes nothing.
-use Rattle.molecule.specs.Table3.{fieldsAt}
+use Rattle.molecule.specs.Table3.{tableFieldsOf}
 use borrow.Author.Needs.{needs}
 use Rattle.molecule.proofs.table.fields_at.Statement.{statement}
 use Rattle.molecule.proofs.table.fields_at.Tie as tie
 
 returns : tie.Need-returns
-unfolding fieldsAt
+unfolding tableFieldsOf
 returns c = rw (c .u32-at2 .ensures, c .before .u32-at .ensures)
 
 pub fields-at-spec : {M : Type 1} → statement M

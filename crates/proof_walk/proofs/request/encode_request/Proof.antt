@@ -1,13 +1,13 @@
 -- `proof_walk::request::encode_request` meets its contract: the writer's answer for the proof's request. Assumes nothing.
 use Rattle.octets.proofs.LeLaws.{number-one}
 use Rattle.account_state.specs.Reading.{entryOf}
-use Rattle.decision.specs.Proofs.{requestReading}
+use Rattle.decision.specs.Proofs.{requestContent}
 use borrow.Author.Needs.{needs}
 use Rattle.proof_walk.proofs.request.encode_request.Statement.{statement}
 use Rattle.proof_walk.proofs.request.encode_request.Tie as tie
 
 returns : tie.Need-returns
-unfolding requestReading entryOf
+unfolding requestContent entryOf
 returns c =
     let w = c .before .before in
     let k = w .before .before in

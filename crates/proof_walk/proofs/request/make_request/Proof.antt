@@ -10,8 +10,8 @@ use Rattle.protocol.specs.declared.check.WriteAnswer.the-variants.{Written, Ref
 use Rattle.account_state.specs.Reading.{entryOf}
 use Rattle.decision.specs.Proofs.{proofRows}
 use Rattle.decision.specs.Walk.{answered}
-use Rattle.proof_walk.specs.Answer.{sceneDeps, walkSetting}
-use Rattle.proof_walk.specs.Steps.{proofOf, rowsOf, requestFor}
+use Rattle.proof_walk.specs.Answer.{sceneDeps, walkContext}
+use Rattle.proof_walk.specs.Steps.{proofOf, foundRows, requestFor}
 use Rattle.proof_walk.proofs.RequestLaws.{made-fits, made-written, made-stored, found-rows, found-request, found-weight}
 use borrow.Author.Needs.{needs}
 use Rattle.proof_walk.proofs.request.make_request.Statement.{statement}
@@ -28,7 +28,7 @@ written-length h = cc
 checked : (c : tie.After-check-request) →
     let a = c .before .before .before .before .before .before .before .before .before .args in
     c .check-request .result
-    ≡ decide Passed (proofRows (walkSetting (a .table .now) (a .store .now) (a .state .now) (a .operation) (a .digest) (length (a .out .now))) 0 (proofOf (a .slot) (a .proof .now)))
+    ≡ decide Passed (proofRows (walkContext (a .table .now) (a .store .now) (a .state .now) (a .operation) (a .digest) (length (a .out .now))) 0 (proofOf (a .slot) (a .proof .now)))
 checked c =
     let a = c .before .before .before .before .before .before .before .before .before .args in
     let f = c .before .before .before .find-authenticator in
@@ -39,7 +39,7 @@ checked c =
 rows : (t : tie.After-enum-told) →
     let k = t .before .before in
     let a = k .before .before .before .before .before .before .before .before .before .args in
-    decide Passed (rowsOf (k .before .is-known .result) (a .operation) (sceneDeps (a .table .now) (a .store .now)) (entryOf (k .before .before .entry-bytes .result .now)) (length (a .proof .now)) (length (a .out .now)))
+    decide Passed (foundRows (k .before .is-known .result) (a .operation) (sceneDeps (a .table .now) (a .store .now)) (entryOf (k .before .before .entry-bytes .result .now)) (length (a .proof .now)) (length (a .out .now)))
     ≡ Passed
 rows t = sym (t .before .before .check-request .ensures) ∙ t .enum-told .given .1
 

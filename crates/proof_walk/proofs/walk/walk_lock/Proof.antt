@@ -3,9 +3,9 @@ use mathlib.Core.Path.{ap, _∙_}
 use Prim.Native.Nat.{ℕ, _-_}
 use native.Mathlib.Omega.{arith}
 use lib.ListN.{length}
-use Rattle.proof_walk.specs.Answer.{walkSetting}
-use Rattle.proof_walk.specs.Steps.{TurnIs, readAt}
-use Rattle.proof_walk.specs.declared.walk.Turn.the-variants as turn
+use Rattle.proof_walk.specs.Answer.{walkContext}
+use Rattle.proof_walk.specs.Steps.{ProofOutcomeIs, readAt}
+use Rattle.proof_walk.specs.declared.walk.ProofOutcome.the-variants as outcome
 use Rattle.proof_walk.proofs.Answered.{lentOf, unwritten}
 use Rattle.proof_walk.proofs.WalkLaws.{Head, Wrote, head-first, finish, passed-all, stopped, written, failed, onward}
 use borrow.Author.Needs.{needs}
@@ -14,7 +14,7 @@ use Rattle.proof_walk.proofs.walk.walk_lock.Tie as tie
 
 abbrev Inv-loop : tie.InvT-loop
 Inv-loop table store state lock operation digest answer₀ count cursor₀ weight₀ total₀ i₀ answer cursor weight total i =
-    Head (walkSetting table store state operation digest (length answer₀)) lock count answer₀ answer cursor weight total i
+    Head (walkContext table store state operation digest (length answer₀)) lock count answer₀ answer cursor weight total i
 
 abbrev μ-loop : tie.MeasureT-loop
 μ-loop table store state lock operation digest answer₀ count cursor₀ weight₀ total₀ i₀ answer cursor weight total i =
@@ -37,14 +37,14 @@ refused-at : (c : tie.After-known-told Inv-loop μ-loop) →
     let k = c .before .before .before .before .before in
     let l = k .before .before .before .loop in
     let a = At k .args in
-    TurnIs (walkSetting (a .table .now) (a .store .now) (a .state .now) (a .operation) (a .digest) (length (lentOf (l .total) (l .answer)))) (a .lock .now) (l .cursor) (l .i) (lentOf (l .total) (l .answer)) (k .walk-proof .last .1 .1 .1 .1 .1 .1 .1 .1 .0) (turn.Refused (c .before .error .given .0 .0))
+    ProofOutcomeIs (walkContext (a .table .now) (a .store .now) (a .state .now) (a .operation) (a .digest) (length (lentOf (l .total) (l .answer)))) (a .lock .now) (l .cursor) (l .i) (lentOf (l .total) (l .answer)) (k .walk-proof .last .1 .1 .1 .1 .1 .1 .1 .1 .0) (outcome.Refused (c .before .error .given .0 .0))
 refused-at c = rw (c .before .error .given .1) at (c .before .before .before .before .before .walk-proof .ensures)
 
 failed-at : (c : tie.After-known-told2 Inv-loop μ-loop) →
     let k = c .before .before .before .before .before in
     let l = k .before .before .before .loop in
     let a = At k .args in
-    TurnIs (walkSetting (a .table .now) (a .store .now) (a .state .now) (a .operation) (a .digest) (length (lentOf (l .total) (l .answer)))) (a .lock .now) (l .cursor) (l .i) (lentOf (l .total) (l .answer)) (k .walk-proof .last .1 .1 .1 .1 .1 .1 .1 .1 .0) (turn.Failed (c .before .len .given .0 .0))
+    ProofOutcomeIs (walkContext (a .table .now) (a .store .now) (a .state .now) (a .operation) (a .digest) (length (lentOf (l .total) (l .answer)))) (a .lock .now) (l .cursor) (l .i) (lentOf (l .total) (l .answer)) (k .walk-proof .last .1 .1 .1 .1 .1 .1 .1 .1 .0) (outcome.Failed (c .before .len .given .0 .0))
 failed-at c = rw (c .before .len .given .1) at (c .before .before .before .before .before .walk-proof .ensures)
 
 onward-at : (c : tie.After-known-told3 Inv-loop μ-loop) →
@@ -52,7 +52,7 @@ onward-at : (c : tie.After-known-told3 Inv-loop μ-loop) →
     let l = k .before .before .before .loop in
     let a = At k .args in
     let v = c .before .len2 .given .0 in
-    TurnIs (walkSetting (a .table .now) (a .store .now) (a .state .now) (a .operation) (a .digest) (length (lentOf (l .total) (l .answer)))) (a .lock .now) (l .cursor) (l .i) (lentOf (l .total) (l .answer)) (k .walk-proof .last .1 .1 .1 .1 .1 .1 .1 .1 .0) (turn.Onward (v .0) (v .1 .0) (v .1 .1 .0))
+    ProofOutcomeIs (walkContext (a .table .now) (a .store .now) (a .state .now) (a .operation) (a .digest) (length (lentOf (l .total) (l .answer)))) (a .lock .now) (l .cursor) (l .i) (lentOf (l .total) (l .answer)) (k .walk-proof .last .1 .1 .1 .1 .1 .1 .1 .1 .0) (outcome.Onward (v .0) (v .1 .0) (v .1 .1 .0))
 onward-at c = rw (c .before .len2 .given .1) at (c .before .before .before .before .before .walk-proof .ensures)
 
 -- a request was written
@@ -60,7 +60,7 @@ abbrev Written : (k : tie.After-walk-proof Inv-loop μ-loop) → ℕ → Type 0
 Written k len =
     let l = k .before .before .before .loop in
     let a = At k .args in
-    Wrote (walkSetting (a .table .now) (a .store .now) (a .state .now) (a .operation) (a .digest) (length (a .answer .now))) (a .answer .now) (l .answer) (l .inv .made) (l .total) (readAt (a .lock .now) (l .cursor .offset)) (k .walk-proof .last .1 .1 .1 .1 .1 .1 .1 .1 .0) len
+    Wrote (walkContext (a .table .now) (a .store .now) (a .state .now) (a .operation) (a .digest) (length (a .answer .now))) (a .answer .now) (l .answer) (l .inv .made) (l .total) (readAt (a .lock .now) (l .cursor .offset)) (k .walk-proof .last .1 .1 .1 .1 .1 .1 .1 .1 .0) len
 
 written-2 : (c : tie.After-known-told2 Inv-loop μ-loop) → Written (c .before .before .before .before .before) (c .before .len .given .0 .0)
 written-2 c =
@@ -89,13 +89,13 @@ returns c =
     (stopped (a .table .now) (a .store .now) (a .state .now) (a .operation) (a .digest) (l .inv) (k .before .before .loop-test .taken) _ _ (refused-at t))
     (l .inv .long)
     (unwritten (l .total) (l .answer) _ (refused-at t .1) ∙ l .inv .wrote)
-    (c .told .ensures)
+    (c .answer-of .ensures)
 
-add-told : tie.Need-add-told Inv-loop μ-loop
-add-told c = omega arith
+add-answer-of : tie.Need-add-answer-of Inv-loop μ-loop
+add-answer-of c = omega arith
 
-add-told-2 : tie.Need-add-told-2 Inv-loop μ-loop
-add-told-2 c = omega (arith, written-2 c .fits, At (c .before .before .before .before .before) .good)
+add-answer-of-2 : tie.Need-add-answer-of-2 Inv-loop μ-loop
+add-answer-of-2 c = omega (arith, written-2 c .fits, At (c .before .before .before .before .before) .good)
 
 same-length-2 : tie.Need-same-length-2 Inv-loop μ-loop
 same-length-2 c = written-2 (c .before) .kept
@@ -111,7 +111,7 @@ returns-2 c =
     (failed (a .table .now) (a .store .now) (a .state .now) (a .operation) (a .digest) (l .inv) (k .before .before .loop-test .taken) _ _ (failed-at t .0) (failed-at t .1))
     (w .long)
     (w .wrote)
-    (c .told2 .ensures)
+    (c .answer-of2 .ensures)
 
 add-weight : tie.Need-add-weight Inv-loop μ-loop
 add-weight c = omega (arith, c .before .before .before .before .before .before .before .before .loop .inv .bounded)
@@ -139,7 +139,7 @@ returns-3 c =
     (passed-all (a .table .now) (a .store .now) (a .state .now) (a .operation) (a .digest) h (omega (arith, c .before .before .loop-test .left)))
     (h .long)
     (h .wrote)
-    (rw (c .before .check-end .ensures) at (c .told3 .ensures))
+    (rw (c .before .check-end .ensures) at (c .answer-of3 .ensures))
 
 pub walk-lock-spec : {M : Type 1} → statement M
 walk-lock-spec =
@@ -159,8 +159,8 @@ walk-lock-spec =
     same-length
     returns
     (λ c. search needs)
-    add-told
-    add-told-2
+    add-answer-of
+    add-answer-of-2
     (λ c κs. search needs)
     same-length-2
     returns-2

@@ -1,18 +1,18 @@
 -- `proof_walk::walk::walk_proof` meets its contract, by its layout, its step and its verdict. Assumes nothing.
 use mathlib.Core.Path.{refl, sym, _∙_}
 use lib.ListN.{length}
-use Rattle.decision.specs.Proofs.{Setting}
-use Rattle.proof_walk.specs.Answer.{walkSetting}
-use Rattle.proof_walk.proofs.Turn.{turn-faulty, turn-refused, turn-made}
+use Rattle.decision.specs.Proofs.{Context}
+use Rattle.proof_walk.specs.Answer.{walkContext}
+use Rattle.proof_walk.proofs.OneProof.{turn-faulty, turn-refused, turn-made}
 use Rattle.proof_walk.proofs.WalkLaws.{verdict-lent}
 use borrow.Author.Needs.{needs}
 use Rattle.proof_walk.proofs.walk.walk_proof.Statement.{statement}
 use Rattle.proof_walk.proofs.walk.walk_proof.Tie as tie
 
-abbrev C : tie.Start → Setting
+abbrev C : tie.Start → Context
 C s =
     let a = s .args in
-    walkSetting (a .table .now) (a .store .now) (a .state .now) (a .operation) (a .digest) (length (a .out .now))
+    walkContext (a .table .now) (a .store .now) (a .state .now) (a .operation) (a .digest) (length (a .out .now))
 
 returns : tie.Need-returns
 returns c =
@@ -40,7 +40,7 @@ returns-3 c =
     let a = s .args in
     let h = sym (k .next-proof .ensures) ∙ t .proof .given .1 in
     let v = c .before .verdict .ensures ∙ verdict-lent (a .table .now) (a .store .now) (a .state .now) (a .operation) (a .digest) (length (a .out .now)) (a .place) in
-    rw (c .judged .ensures)
+    rw (c .apply-verdict .ensures)
     (turn-made (C s) (a .lock .now) (a .cursor) _ _ h (a .place) _ (r .before .before .part .ensures) (a .out .now) _ _ _ _ v
     (rw (c .before .before .before .len .given .1) at (r .make-request .ensures)))
 

@@ -1,7 +1,7 @@
 -- `proof_walk::walk::walk_proofs` meets its contract, by its operation. Assumes nothing.
 use mathlib.Core.Path.{refl, sym, ap, _∙_}
 use lib.ListN.{length}
-use Rattle.decision.specs.Walk.{Outcome, answered}
+use Rattle.decision.specs.Walk.{WalkOutcome, answered}
 use Rattle.proof_walk.specs.Answer.{walkedOf}
 use Rattle.proof_walk.proofs.WalkLaws.{finish, walk-known, walk-unknown}
 use borrow.Author.Needs.{needs}
@@ -14,7 +14,7 @@ returns c =
     let known = w .before .before in
     let a = known .before .before .before .before .before .before .before .args in
     let same = sym (walk-known (a .table .now) (a .store .now) (a .state .now) (a .operation) (a .digest) (length (a .answer .now)) (a .lock .now) (sym (known .before .is-operation .ensures) ∙ known .if1 .taken)) in
-    (w .walk-lock .ensures .0 ∙ ap walkedOf same, w .walk-lock .ensures .1 ∙ ap (λ (o : Outcome). answered (a .answer .now) (o .made)) same)
+    (w .walk-lock .ensures .0 ∙ ap walkedOf same, w .walk-lock .ensures .1 ∙ ap (λ (o : WalkOutcome). answered (a .answer .now) (o .made)) same)
 
 returns-2 : tie.Need-returns-2
 unfolding answered
@@ -24,7 +24,7 @@ returns-2 c =
     (walk-unknown (a .table .now) (a .store .now) (a .state .now) (a .operation) (a .digest) (length (a .answer .now)) (a .lock .now) (sym (c .before .before .is-operation .ensures) ∙ c .before .if1 .left))
     refl
     refl
-    (c .told .ensures)
+    (c .answer-of .ensures)
 
 pub walk-proofs-spec : {M : Type 1} → statement M
 walk-proofs-spec =

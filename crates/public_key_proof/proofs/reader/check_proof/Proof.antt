@@ -1,12 +1,12 @@
 -- `public_key_proof::reader::check_proof` meets its contract: the rows, last to first. Assumes nothing.
 use Rattle.protocol.specs.Rows.{decide}
-use Rattle.public_key_proof.specs.Reader.{proofRows, proofFault}
+use Rattle.public_key_proof.specs.Reader.{publicKeyProofRows, publicKeyProofFault}
 use borrow.Author.Needs.{needs}
 use Rattle.public_key_proof.proofs.reader.check_proof.Statement.{statement}
 use Rattle.public_key_proof.proofs.reader.check_proof.Tie as tie
 
 returns : tie.Need-returns
-unfolding proofFault proofRows decide
+unfolding publicKeyProofFault publicKeyProofRows decide
 returns c =
     let c2 = c .before .before .before in
     rw (

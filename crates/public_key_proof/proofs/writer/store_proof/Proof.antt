@@ -1,13 +1,13 @@
 -- `public_key_proof::writer::store_proof` meets its contract: the parts stored one behind another. Assumes nothing.
-use Rattle.octets.proofs.TableLaws.{storeNumbers}
-use Rattle.public_key_proof.specs.Reading.{proofHead}
+use Rattle.octets.proofs.LayoutLaws.{storeNumbers}
+use Rattle.public_key_proof.specs.Reading.{publicKeyProofHead}
 use Rattle.public_key_proof.proofs.Form.{parts-stored}
 use borrow.Author.Needs.{needs}
 use Rattle.public_key_proof.proofs.writer.store_proof.Statement.{statement}
 use Rattle.public_key_proof.proofs.writer.store_proof.Tie as tie
 
 returns : tie.Need-returns
-unfolding proofHead storeNumbers
+unfolding publicKeyProofHead storeNumbers
 returns c =
     let c5 = c .before .before in
     let c4 = c5 .before .before .before .before in

@@ -3,7 +3,7 @@ use mathlib.Core.Path.{_≡_, sym, _∙_}
 use borrow.Author.Needs.{needs}
 use mathlib.Core.Bool.{true, false}
 use borrow.Author.Tests.{eq-eqb, ne-eqb, not-true, not-false}
-use Rattle.scene_line.specs.Kind.{place, kindOf, follows, fieldCount, lineKind}
+use Rattle.scene_line.specs.Kind.{rank, kindOf, follows, fieldCount, lineKind}
 use Rattle.scene_line.proofs.kind.line_kind.Statement.{statement}
 use Rattle.scene_line.proofs.kind.line_kind.Tie as tie
 
@@ -11,7 +11,7 @@ returns : tie.Need-returns
 unfolding lineKind
 returns c =
     let a = c .before .before .before .before .before .before .args in
-    let no : follows (a .last) (place (kindOf (a .word .now))) ≡ false = rw (c .before .before .place-of .ensures, c .before .before .before .kind-of .ensures) at (sym (c .before .may-follow .ensures) ∙ not-true _ (c .if1 .taken)) in
+    let no : follows (a .last) (rank (kindOf (a .word .now))) ≡ false = rw (c .before .before .rank-of .ensures, c .before .before .before .kind-of .ensures) at (sym (c .before .may-follow .ensures) ∙ not-true _ (c .if1 .taken)) in
     rw no
 
 returns-2 : tie.Need-returns-2
@@ -19,7 +19,7 @@ unfolding lineKind
 returns-2 c =
     let a = c .before .before .before .before .before .before .before .before .before .args in
     let w = c .before .before .before .before .before .before .kind-of .ensures in
-    let yes : follows (a .last) (place (kindOf (a .word .now))) ≡ true = rw (c .before .before .before .before .before .place-of .ensures, w) at (sym (c .before .before .before .before .may-follow .ensures) ∙ not-false _ (c .before .before .before .if1 .left)) in
+    let yes : follows (a .last) (rank (kindOf (a .word .now))) ≡ true = rw (c .before .before .before .before .before .rank-of .ensures, w) at (sym (c .before .before .before .before .may-follow .ensures) ∙ not-false _ (c .before .before .before .if1 .left)) in
     let m : c .before .field-count .result ≡ fieldCount (kindOf (a .word .now)) = rw w at (c .before .field-count .ensures) in
     rw (yes, ne-eqb _ _ (λ q. c .if2 .taken (c .before .before .count .ensures ∙ q ∙ sym m)))
 
@@ -28,7 +28,7 @@ unfolding lineKind
 returns-3 c =
     let a = c .before .before .before .before .before .before .before .before .before .args in
     let w = c .before .before .before .before .before .before .kind-of .ensures in
-    let yes : follows (a .last) (place (kindOf (a .word .now))) ≡ true = rw (c .before .before .before .before .before .place-of .ensures, w) at (sym (c .before .before .before .before .may-follow .ensures) ∙ not-false _ (c .before .before .before .if1 .left)) in
+    let yes : follows (a .last) (rank (kindOf (a .word .now))) ≡ true = rw (c .before .before .before .before .before .rank-of .ensures, w) at (sym (c .before .before .before .before .may-follow .ensures) ∙ not-false _ (c .before .before .before .if1 .left)) in
     let m : c .before .field-count .result ≡ fieldCount (kindOf (a .word .now)) = rw w at (c .before .field-count .ensures) in
     rw (yes, eq-eqb _ _ (sym (c .before .before .count .ensures) ∙ c .if2 .left ∙ m)) w
 

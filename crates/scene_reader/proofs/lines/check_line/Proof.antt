@@ -9,7 +9,7 @@ use Rattle.scene_reader.proofs.lines.check_line.Tie as tie
 returns : tie.Need-returns
 unfolding lineRows decide fieldsFound
 returns c fs store table hf hr =
-    rw (c .require4 .ensures, c .before .before .before .require3 .ensures, c .before .before .before .before .require2 .ensures, c .before .before .before .before .before .require .ensures, c .before .before .before .before .before .before .seen-with .ensures, c .before .before .before .before .before .before .before .place-of .ensures, hf, hr)
+    rw (c .require4 .ensures, c .before .before .before .require3 .ensures, c .before .before .before .before .require2 .ensures, c .before .before .before .before .before .require .ensures, c .before .before .before .before .before .before .seen-with .ensures, c .before .before .before .before .before .before .before .rank-of .ensures, hf, hr)
 
 pub check-line-spec : {M : Type 1} → statement M
 check-line-spec =

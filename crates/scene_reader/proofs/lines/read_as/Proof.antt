@@ -4,7 +4,7 @@ use native.Mathlib.Omega.{arith}
 use borrow.Author.Needs.{needs}
 use lib.ListN.{length}
 use Rattle.scene_text.specs.Text.{pieces}
-use Rattle.scene_reader.specs.Room.{holding}
+use Rattle.scene_reader.specs.Room.{stateHolding}
 use Rattle.scene_reader.proofs.LineRows.{line-passes}
 use Rattle.scene_reader.proofs.PutDown.{found-as, counted, room, stepped, kept}
 use Rattle.scene_reader.proofs.lines.read_as.Statement.{statement}
@@ -25,7 +25,7 @@ put-line-requires c κs =
     let fs = pieces 44 (a .fields .now) in
     let f = found-as (a .s) st tb (a .k) fs _ _ (c .before .before .before .before .before .before .first-form .ensures) (c .before .before .before .before .before .check-fields .ensures .0) in
     let q = c .before .before .before .before .check-line .ensures fs st tb f refl in
-    let z = line-passes (holding (a .s) st tb) (a .k) fs (sym q ∙ c .before .before .enum-told .given .1) in
+    let z = line-passes (stateHolding (a .s) st tb) (a .k) fs (sym q ∙ c .before .before .enum-told .given .1) in
     let size = counted (a .s) st tb (a .k) fs _ f in
     let small = p .0 .small in
     let most = p .0 .few in
@@ -50,7 +50,7 @@ returns-2 c =
     let fs = pieces 44 (a .fields .now) in
     let f = found-as (a .s) st tb (a .k) fs _ _ (c .before .before .before .before .before .before .before .before .before .before .before .first-form .ensures) (c .before .before .before .before .before .before .before .before .before .before .check-fields .ensures .0) in
     let q = c .before .before .before .before .before .before .before .before .before .check-line .ensures fs st tb f refl in
-    let z = line-passes (holding (a .s) st tb) (a .k) fs (sym q ∙ c .before .before .before .before .before .before .before .enum-told .given .1) in
+    let z = line-passes (stateHolding (a .s) st tb) (a .k) fs (sym q ∙ c .before .before .before .before .before .before .before .enum-told .given .1) in
     let size = counted (a .s) st tb (a .k) fs _ f in
     let short = c .before .before .before .before .before .before .before .before .before .before .check-fields .ensures .1 in
     let e = c .before .before .before .before .put-line .ensures in

@@ -7,14 +7,14 @@ use Rattle.scene_reader.proofs.Runs.{kept-more, step-cut}
 use Rattle.protocol.specs.Rows.{_▷_, decide}
 use Rattle.scene_text.specs.Text.{pieces}
 use Rattle.scene_line.proofs.KindLaws.{shape, counted}
-use Rattle.scene_line.specs.Kind.{lineKind, kindOf, fieldsOf}
-use Rattle.scene_reader.specs.Reader.{lineRows, rowsOf}
-use Rattle.scene_reader.specs.Room.{holding}
+use Rattle.scene_line.specs.Kind.{lineKind, kindOf, lineFields}
+use Rattle.scene_reader.specs.Reader.{lineRows, rowsOfLine}
+use Rattle.scene_reader.specs.Room.{stateHolding}
 use Rattle.scene_reader.proofs.lines.read_line.Statement.{statement}
 use Rattle.scene_reader.proofs.lines.read_line.Tie as tie
 
 returns : tie.Need-returns
-unfolding rowsOf lineRows lineKind fieldsOf decide _▷_
+unfolding rowsOfLine lineRows lineKind lineFields decide _▷_
 returns c = (rw (c .before .find .ensures .whole (c .if1 .taken), counted (kindOf (take (c .before .find .result) (c .before .before .before .before .before .args .line .now))), and-false), tt)
 
 read-as-requires : tie.Need-read-as-requires
@@ -27,7 +27,7 @@ read-as-requires c κs =
 returns-2 : tie.Need-returns-2
 returns-2 c =
     let a = c .before .before .before .before .before .before .before .before .before .before .before .before .before .before .before .args in
-    let h = holding (a .s) (a .store .now) (a .table .now) in
+    let h = stateHolding (a .s) (a .store .now) (a .table .now) in
     let e = c .before .before .before .before .read-as .ensures in (
       step-cut h (a .line .now) (c .before .before .before .before .before .before .before .before .head .result .now) (c .before .before .before .before .before .before .before .before .before .tail .result .now) _ (c .before .before .before .before .before .before .before .line-kind .result) _ (c .before .before .before .before .before .before .before .before .before .before .before .find .ensures) (omega arith) (c .before .before .before .before .before .before .before .before .head .ensures .0) (c .before .before .before .before .before .before .before .before .before .tail .ensures .0) (c .before .before .before .before .before .before .before .line-kind .ensures) (e .0),
       kept-more (a .s) (length (c .before .before .before .before .before .before .before .before .before .tail .result .now)) (length (a .line .now)) (length (a .store .now)) (length (a .table .now)) (omega arith) (c .before .before .before .before .read-as .result) (e .1),

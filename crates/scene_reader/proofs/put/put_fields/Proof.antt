@@ -6,7 +6,7 @@ use borrow.Author.Needs.{needs}
 use lib.ListN.{length}
 use lib.Seq.{sets}
 use Rattle.scene_text.specs.Text.{pieces}
-use Rattle.scene_line.specs.Line.{fieldBytes, lineBytes, fieldNumbers, lineNumbers}
+use Rattle.scene_line.specs.Line.{fieldBytes, lineBytes, fieldEntries, lineEntries}
 use Rattle.scene_line.proofs.FieldLaws.{bytes-on, numbers-on}
 use Rattle.scene_reader.proofs.FieldsPut.{bytes-none, numbers-none, put-within, put-on, put-end}
 use Rattle.scene_reader.proofs.put.put_fields.Statement.{statement}
@@ -18,9 +18,9 @@ Inv-loop fields store₀ used table₀ filled rest₀ t₀ at₀ entry₀ store 
     × (length table ≡ length table₀)
     × (at + length rest ≤ used + length fields)
     × (length rest ≤ length fields)
-    × (entry + length (lineNumbers t (pieces 44 rest)) ≡ filled + length (lineNumbers t₀ (pieces 44 fields)))
+    × (entry + length (lineEntries t (pieces 44 rest)) ≡ filled + length (lineEntries t₀ (pieces 44 fields)))
     × (sets store₀ used (lineBytes t₀ (pieces 44 fields)) ≡ sets store at (lineBytes t (pieces 44 rest)))
-    × (sets table₀ filled (lineNumbers t₀ (pieces 44 fields)) ≡ sets table entry (lineNumbers t (pieces 44 rest)))
+    × (sets table₀ filled (lineEntries t₀ (pieces 44 fields)) ≡ sets table entry (lineEntries t (pieces 44 rest)))
 
 abbrev μ-loop : tie.MeasureT-loop
 μ-loop fields store₀ used table₀ filled rest₀ t₀ at₀ entry₀ store table rest t at entry = length rest
@@ -31,13 +31,13 @@ loop-holds c = (search needs, search needs, search needs, search needs, search n
 put-number-requires : tie.Need-put-number-requires Inv-loop μ-loop
 put-number-requires c κs =
     let l = c .before .before .before .loop in
-    let few = put-within fieldNumbers lineNumbers numbers-on numbers-none (l .t) (l .rest .now) (c .before .head .result .now) (c .before .before .find .result) (c .before .before .find .ensures) (c .before .head .ensures .0) in
+    let few = put-within fieldEntries lineEntries numbers-on numbers-none (l .t) (l .rest .now) (c .before .head .result .now) (c .before .before .find .result) (c .before .before .find .ensures) (c .before .head .ensures .0) in
     (omega (arith, few), omega arith)
 
 add-entry : tie.Need-add-entry Inv-loop μ-loop
 add-entry c =
     let l = c .before .before .before .before .before .before .loop in
-    let few = put-within fieldNumbers lineNumbers numbers-on numbers-none (l .t) (l .rest .now) (c .before .before .before .before .head .result .now) (c .before .before .before .before .before .find .result) (c .before .before .before .before .before .find .ensures) (c .before .before .before .before .head .ensures .0) in
+    let few = put-within fieldEntries lineEntries numbers-on numbers-none (l .t) (l .rest .now) (c .before .before .before .before .head .result .now) (c .before .before .before .before .before .find .result) (c .before .before .before .before .before .find .ensures) (c .before .before .before .before .head .ensures .0) in
     omega (arith, few)
 
 returns : tie.Need-returns Inv-loop μ-loop
@@ -45,7 +45,7 @@ returns c =
     let l = c .before .before .before .before .before .before .before .before .before .before .before .loop in
     let f = c .before .before .before .before .before .before .before .before .before .head .result .now in
     let e = c .before .before .before .before .before .before .before .before .before .before .find .result in
-    let n = put-end fieldNumbers lineNumbers numbers-on numbers-none (l .t) (l .rest .now) f e (c .before .before .before .before .before .before .before .before .before .before .find .ensures) (c .before .before .before .before .before .before .before .before .before .head .ensures .0) (l .table) _ (l .entry) _ (c .before .before .before .before .before .before .before .put-number .ensures .0) (c .before .before .before .before .before .before .before .put-number .ensures .1) (c .if1 .taken) in
+    let n = put-end fieldEntries lineEntries numbers-on numbers-none (l .t) (l .rest .now) f e (c .before .before .before .before .before .before .before .before .before .before .find .ensures) (c .before .before .before .before .before .before .before .before .before .head .ensures .0) (l .table) _ (l .entry) _ (c .before .before .before .before .before .before .before .put-number .ensures .0) (c .before .before .before .before .before .before .before .put-number .ensures .1) (c .if1 .taken) in
     let b = put-end fieldBytes lineBytes bytes-on bytes-none (l .t) (l .rest .now) f e (c .before .before .before .before .before .before .before .before .before .before .find .ensures) (c .before .before .before .before .before .before .before .before .before .head .ensures .0) (l .store) _ (l .at) _ (c .before .before .before .put-bytes .ensures .0) (c .before .before .before .put-bytes .ensures .1 .1) (c .if1 .taken) in
     (sym (n .0) ∙ l .inv .4, (sym (l .inv .5 ∙ b .1), sym (l .inv .6 ∙ n .1)))
 
@@ -55,7 +55,7 @@ loop-again c =
     let f = c .before .before .before .before .before .before .before .before .before .before .before .head .result .now in
     let e = c .before .before .before .before .before .before .before .before .before .before .before .before .find .result in
     let more : e < length (l .rest .now) = omega arith in
-    let n = put-on fieldNumbers lineNumbers numbers-on numbers-none (l .t) (l .rest .now) f e (c .before .before .before .before .before .before .before .before .before .before .before .before .find .ensures) (c .before .before .before .before .before .before .before .before .before .before .before .head .ensures .0) (l .table) _ (l .entry) _ (c .before .before .before .before .before .before .before .before .before .put-number .ensures .0) (c .before .before .before .before .before .before .before .before .before .put-number .ensures .1) _ _ more (c .before .next-form .ensures) (c .tail .ensures .0) in
+    let n = put-on fieldEntries lineEntries numbers-on numbers-none (l .t) (l .rest .now) f e (c .before .before .before .before .before .before .before .before .before .before .before .before .find .ensures) (c .before .before .before .before .before .before .before .before .before .before .before .head .ensures .0) (l .table) _ (l .entry) _ (c .before .before .before .before .before .before .before .before .before .put-number .ensures .0) (c .before .before .before .before .before .before .before .before .before .put-number .ensures .1) _ _ more (c .before .next-form .ensures) (c .tail .ensures .0) in
     let b = put-on fieldBytes lineBytes bytes-on bytes-none (l .t) (l .rest .now) f e (c .before .before .before .before .before .before .before .before .before .before .before .before .find .ensures) (c .before .before .before .before .before .before .before .before .before .before .before .head .ensures .0) (l .store) _ (l .at) _ (c .before .before .before .before .before .put-bytes .ensures .0) (c .before .before .before .before .before .put-bytes .ensures .1 .1) _ _ more (c .before .next-form .ensures) (c .tail .ensures .0) in (
       c .before .before .before .before .before .put-bytes .kept .1 .1 .0 ∙ l .inv .0,
       c .before .before .before .before .before .before .before .before .before .put-number .kept .1 .1 .0 ∙ l .inv .1,

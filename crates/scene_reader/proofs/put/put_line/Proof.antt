@@ -10,7 +10,7 @@ use Rattle.scene_reader.proofs.put.put_line.Statement.{statement}
 use Rattle.scene_reader.proofs.put.put_line.Tie as tie
 
 cast-table : tie.Need-cast-table
-cast-table c = let s = c .before .before .before .before .before .args .s in omega (arith, seen-few (s .last) (s .seen) (c .before .place-of .result))
+cast-table c = let s = c .before .before .before .before .before .args .s in omega (arith, seen-few (s .last) (s .seen) (c .before .rank-of .result))
 
 slice-write-table-2 : tie.Need-slice-write-table-2
 slice-write-table-2 c = simp length-set (omega arith)
@@ -27,7 +27,7 @@ returns : tie.Need-returns
 returns c =
     let a = c .before .before .before .before .before .before .before .before .before .before .before .before .before .args in
     let e = c .before .before .before .before .put-fields .ensures in
-    is-put (a .s) (a .store .now) (a .table .now) (a .k) (pieces 44 (a .fields .now)) _ _ _ _ _ _ _ (c .before .before .before .before .before .before .before .before .before .place-of .ensures) (c .before .before .before .before .before .before .before .before .seen-with .ensures) (c .before .before .before .before .before .before .before .first-form .ensures) (c .before .before .before .before .before .before .before .before .before .before .before .before .before .pre .0) (e .0) (e .1 .0) (e .1 .1)
+    is-put (a .s) (a .store .now) (a .table .now) (a .k) (pieces 44 (a .fields .now)) _ _ _ _ _ _ _ (c .before .before .before .before .before .before .before .before .before .rank-of .ensures) (c .before .before .before .before .before .before .before .before .seen-with .ensures) (c .before .before .before .before .before .before .before .first-form .ensures) (c .before .before .before .before .before .before .before .before .before .before .before .before .before .pre .0) (e .0) (e .1 .0) (e .1 .1)
 
 pub put-line-spec : {M : Type 1} → statement M
 put-line-spec =

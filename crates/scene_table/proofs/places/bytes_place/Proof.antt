@@ -1,12 +1,12 @@
 -- `scene_table::places::bytes_place` meets its contract. Assumes nothing.
-use Rattle.scene_table.specs.Places.{placeOf, bytesPlace}
+use Rattle.scene_table.specs.Places.{placeAt, bytesPlace}
 use borrow.Author.Needs.{needs}
 use Rattle.scene_table.proofs.places.bytes_place.Statement.{statement}
 use Rattle.scene_table.proofs.places.bytes_place.Tie as tie
 
 returns : tie.Need-returns
-unfolding placeOf bytesPlace
-returns c = rw (c .entry-at2 .ensures, c .before .entry-at .ensures)
+unfolding placeAt bytesPlace
+returns c = rw (c .table-entry2 .ensures, c .before .table-entry .ensures)
 
 pub bytes-place-spec : {M : Type 1} → statement M
 bytes-place-spec =

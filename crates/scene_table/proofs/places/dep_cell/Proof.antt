@@ -6,7 +6,7 @@ use Rattle.scene_table.proofs.places.dep_cell.Tie as tie
 
 returns : tie.Need-returns
 unfolding depPlaces
-returns c = rw (c .row-places .ensures, c .before .deps-at .ensures .0)
+returns c = rw (c .record-places .ensures, c .before .deps-at .ensures .0)
 
 pub dep-cell-spec : {M : Type 1} → statement M
 dep-cell-spec =

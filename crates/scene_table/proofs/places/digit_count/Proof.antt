@@ -6,7 +6,7 @@ use Rattle.scene_table.proofs.places.digit_count.Tie as tie
 
 returns : tie.Need-returns
 unfolding digitCount
-returns c = rw (c .entry-at .ensures, c .before .verdicts-at .ensures .0)
+returns c = rw (c .table-entry .ensures, c .before .verdicts-at .ensures .0)
 
 pub digit-count-spec : {M : Type 1} → statement M
 digit-count-spec = tie.close (tie.spec (λ c κs. search needs) (λ c. search needs) (λ c κs. search needs) returns)

@@ -7,7 +7,7 @@ use Rattle.scene_table.proofs.places.input_group.Tie as tie
 
 returns : tie.Need-returns
 unfolding inputsAt inputAt inputGroup
-returns c = rw (c .entry-at .ensures)
+returns c = rw (c .table-entry .ensures)
 
 pub input-group-spec : {M : Type 1} → statement M
 input-group-spec =

@@ -7,7 +7,7 @@ use Rattle.scene_table.proofs.places.input_since.Tie as tie
 
 returns : tie.Need-returns
 unfolding inputsAt inputAt inputSince
-returns c = rw (c .entry-at2 .ensures, c .before .entry-at .ensures)
+returns c = rw (c .table-entry2 .ensures, c .before .table-entry .ensures)
 
 pub input-since-spec : {M : Type 1} → statement M
 input-since-spec =

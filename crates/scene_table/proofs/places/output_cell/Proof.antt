@@ -6,7 +6,7 @@ use Rattle.scene_table.proofs.places.output_cell.Tie as tie
 
 returns : tie.Need-returns
 unfolding outputPlaces
-returns c = rw (c .row-places .ensures, c .before .outputs-at .ensures .0)
+returns c = rw (c .record-places .ensures, c .before .outputs-at .ensures .0)
 
 pub output-cell-spec : {M : Type 1} → statement M
 output-cell-spec =

@@ -1,12 +1,12 @@
 -- `scene_table::places::transaction_hash` meets its contract. Assumes nothing.
-use Rattle.scene_table.specs.Places.{placeOf, transactionPlace}
+use Rattle.scene_table.specs.Places.{placeAt, transactionPlace}
 use borrow.Author.Needs.{needs}
 use Rattle.scene_table.proofs.places.transaction_hash.Statement.{statement}
 use Rattle.scene_table.proofs.places.transaction_hash.Tie as tie
 
 returns : tie.Need-returns
-unfolding placeOf transactionPlace
-returns c = rw (c .entry-at .ensures)
+unfolding placeAt transactionPlace
+returns c = rw (c .table-entry .ensures)
 
 pub transaction-hash-spec : {M : Type 1} → statement M
 transaction-hash-spec = tie.close (tie.spec (λ c κs. search needs) (λ c. search needs) returns)

@@ -6,7 +6,7 @@ use Rattle.scene_table.proofs.validity.counts_valid.Tie as tie
 
 returns : tie.Need-returns
 unfolding need countsOk
-returns c = rw (c .require9 .ensures, c .before .digit-count .ensures, c .before .before .require8 .ensures, c .before .before .before .entry-at8 .ensures, c .before .before .before .before .require7 .ensures, c .before .before .before .before .before .entry-at7 .ensures, c .before .before .before .before .before .before .require6 .ensures, c .before .before .before .before .before .before .before .entry-at6 .ensures, c .before .before .before .before .before .before .before .before .require5 .ensures, c .before .before .before .before .before .before .before .before .before .entry-at5 .ensures, c .before .before .before .before .before .before .before .before .before .before .require4 .ensures, c .before .before .before .before .before .before .before .before .before .before .before .entry-at4 .ensures, c .before .before .before .before .before .before .before .before .before .before .before .before .require3 .ensures, c .before .before .before .before .before .before .before .before .before .before .before .before .before .entry-at3 .ensures, c .before .before .before .before .before .before .before .before .before .before .before .before .before .before .require2 .ensures, c .before .before .before .before .before .before .before .before .before .before .before .before .before .before .before .entry-at2 .ensures, c .before .before .before .before .before .before .before .before .before .before .before .before .before .before .before .before .require .ensures, c .before .before .before .before .before .before .before .before .before .before .before .before .before .before .before .before .before .entry-at .ensures)
+returns c = rw (c .require9 .ensures, c .before .digit-count .ensures, c .before .before .require8 .ensures, c .before .before .before .table-entry8 .ensures, c .before .before .before .before .require7 .ensures, c .before .before .before .before .before .table-entry7 .ensures, c .before .before .before .before .before .before .require6 .ensures, c .before .before .before .before .before .before .before .table-entry6 .ensures, c .before .before .before .before .before .before .before .before .require5 .ensures, c .before .before .before .before .before .before .before .before .before .table-entry5 .ensures, c .before .before .before .before .before .before .before .before .before .before .require4 .ensures, c .before .before .before .before .before .before .before .before .before .before .before .table-entry4 .ensures, c .before .before .before .before .before .before .before .before .before .before .before .before .require3 .ensures, c .before .before .before .before .before .before .before .before .before .before .before .before .before .table-entry3 .ensures, c .before .before .before .before .before .before .before .before .before .before .before .before .before .before .require2 .ensures, c .before .before .before .before .before .before .before .before .before .before .before .before .before .before .before .table-entry2 .ensures, c .before .before .before .before .before .before .before .before .before .before .before .before .before .before .before .before .require .ensures, c .before .before .before .before .before .before .before .before .before .before .before .before .before .before .before .before .before .table-entry .ensures)
 
 pub counts-valid-spec : {M : Type 1} → statement M
 counts-valid-spec =

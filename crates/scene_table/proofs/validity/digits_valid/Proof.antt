@@ -6,7 +6,7 @@ use native.Mathlib.Nat.{sub-zero, add-zero}
 use native.Mathlib.Omega.{arith}
 use borrow.Author.Tests.{le-ltb, lt-ltb}
 use lib.Dec.{ltb}
-use Rattle.scene_table.specs.Lent.{entryAt, rowsAt}
+use Rattle.scene_table.specs.Lent.{tableEntry, recordsAt}
 use Rattle.scene_table.specs.Valid.{every}
 use Rattle.scene_table.proofs.WalkLaws.{digits-turn, digits-end}
 use borrow.Author.Needs.{needs}
@@ -17,7 +17,7 @@ abbrev good : ℕ → Bool
 good d = ltb d 3
 
 abbrev Inv-loop : tie.InvT-loop
-Inv-loop table first n i₀ i = (i ≤ n) × (every good (rowsAt (entryAt table) 1 (n - i) (first + i)) ≡ every good (rowsAt (entryAt table) 1 n first))
+Inv-loop table first n i₀ i = (i ≤ n) × (every good (recordsAt (tableEntry table) 1 (n - i) (first + i)) ≡ every good (recordsAt (tableEntry table) 1 n first))
 
 abbrev μ-loop : tie.MeasureT-loop
 μ-loop table first n i₀ i = n - i
@@ -27,23 +27,23 @@ returns c =
     let l = c .before .before .before .loop in
     let a = c .before .before .before .before .before .args in
     let T = a .table .now in
-    let h : 3 ≤ entryAt T (a .first + l .i) = rw (c .before .entry-at .ensures) at (c .if1 .taken) in
-    sym (sym (l .inv .1) ∙ rw (digits-turn good (entryAt T) (a .n) (a .first) (l .i) (c .before .before .loop-test .taken), le-ltb (entryAt T (a .first + l .i)) 3 h))
+    let h : 3 ≤ tableEntry T (a .first + l .i) = rw (c .before .table-entry .ensures) at (c .if1 .taken) in
+    sym (sym (l .inv .1) ∙ rw (digits-turn good (tableEntry T) (a .n) (a .first) (l .i) (c .before .before .loop-test .taken), le-ltb (tableEntry T (a .first + l .i)) 3 h))
 
 loop-again : tie.Need-loop-again Inv-loop μ-loop
 loop-again c =
     let l = c .before .before .before .loop in
     let a = c .before .before .before .before .before .args in
     let T = a .table .now in
-    let h : entryAt T (a .first + l .i) ≤ 2 = rw (c .before .entry-at .ensures) at (c .if1 .left) in
-    let k : entryAt T (a .first + l .i) < 3 = omega arith in
-    (omega arith, sym (rw (lt-ltb (entryAt T (a .first + l .i)) 3 k) at (digits-turn good (entryAt T) (a .n) (a .first) (l .i) (c .before .before .loop-test .taken))) ∙ l .inv .1)
+    let h : tableEntry T (a .first + l .i) ≤ 2 = rw (c .before .table-entry .ensures) at (c .if1 .left) in
+    let k : tableEntry T (a .first + l .i) < 3 = omega arith in
+    (omega arith, sym (rw (lt-ltb (tableEntry T (a .first + l .i)) 3 k) at (digits-turn good (tableEntry T) (a .n) (a .first) (l .i) (c .before .before .loop-test .taken))) ∙ l .inv .1)
 
 returns-2 : tie.Need-returns-2 Inv-loop μ-loop
 returns-2 c =
     let l = c .before .loop in
     let a = c .before .before .before .args in
-    digits-end good (entryAt (a .table .now)) (a .n) (a .first + l .i) (l .i) (c .loop-test .left) ∙ l .inv .1
+    digits-end good (tableEntry (a .table .now)) (a .n) (a .first + l .i) (l .i) (c .loop-test .left) ∙ l .inv .1
 
 pub digits-valid-spec : {M : Type 1} → statement M
 digits-valid-spec =

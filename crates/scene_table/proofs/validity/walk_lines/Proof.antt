@@ -15,22 +15,22 @@ returns c =
     let head = inputs .before .before in
     rw (
       c .row2 .ensures,
-      c .before .entry-at6 .ensures,
+      c .before .table-entry6 .ensures,
       c .before .before .verdicts-at .ensures .0,
-      witnesses .walk-rows4 .ensures,
-      witnesses .before .entry-at5 .ensures,
+      witnesses .walk-records4 .ensures,
+      witnesses .before .table-entry5 .ensures,
       witnesses .before .before .witnesses-at .ensures .0,
-      deps .walk-rows3 .ensures,
-      deps .before .entry-at4 .ensures,
+      deps .walk-records3 .ensures,
+      deps .before .table-entry4 .ensures,
       deps .before .before .deps-at .ensures .0,
-      outputs .walk-rows2 .ensures,
-      outputs .before .entry-at3 .ensures,
+      outputs .walk-records2 .ensures,
+      outputs .before .table-entry3 .ensures,
       outputs .before .before .outputs-at .ensures .0,
-      inputs .walk-rows .ensures,
-      inputs .before .entry-at2 .ensures,
+      inputs .walk-records .ensures,
+      inputs .before .table-entry2 .ensures,
       head .row .ensures,
-      head .before .entry-at .ensures,
-      head .before .before .bytes-row .ensures,
+      head .before .table-entry .ensures,
+      head .before .before .bytes-record .ensures,
     )
 
 pub walk-lines-spec : {M : Type 1} → statement M

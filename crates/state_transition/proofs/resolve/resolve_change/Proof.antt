@@ -5,11 +5,11 @@ use Rattle.state_transition.specs.declared.resolve.ResolvedState.{Resolv
 use mathlib.Core.Path.{_≡_, refl, sym, ap, _∙_}
 use denote.Ref.{now}
 use Rattle.protocol.specs.Rows.{decide, _▷_, _then_}
-use Rattle.protocol.proofs.Hold.{decide-append, decide-then}
+use Rattle.protocol.proofs.AllPass.{decide-append, decide-then}
 use Rattle.protocol.specs.declared.check.Check.the-variants.{Passed}
-use Rattle.state_transition.specs.Resolve.{changeRows, typeRows, statePlaces, statePlace, stateCell}
+use Rattle.state_transition.specs.Resolve.{changeRows, typeRows, stateIndices, stateIndex, stateCell}
 use Rattle.state_transition.specs.Branches.{changeOf}
-use Rattle.scene_table.specs.Lent.{lentScene}
+use Rattle.scene_table.specs.Lent.{sceneIn}
 use Rattle.cell_search.specs.Search.{cellSearch, matches, cellsOf}
 use Rattle.cell_search.specs.declared.cells.Source.the-variants as source
 use Rattle.cell_search.proofs.CellLaws.{one-count, found-count, several-count}
@@ -21,10 +21,10 @@ abbrev resolvedAt : Check → ℕ → ℕ → ResolvedState
 resolvedAt found current successor = record { found = found; current = current; successor = successor }
 
 returns : tie.Need-returns
-unfolding changeOf changeRows statePlaces statePlace stateCell cellSearch decide
+unfolding changeOf changeRows stateIndices stateIndex stateCell cellSearch decide
 returns c =
     let a = c .before .before .before .before .before .before .before .before .before .before .before .before .before .before .before .before .before .args in
-    let s = lentScene (now (a .table)) (now (a .store)) in
+    let s = sceneIn (now (a .table)) (now (a .store)) in
     rw (
       c .and .ensures,
       c .before .check-types .ensures,
@@ -36,15 +36,15 @@ returns c =
       c .before .before .before .before .before .before .before .is-several .ensures,
       c .before .before .before .before .before .before .before .before .require .ensures,
       c .before .before .before .before .before .before .before .before .before .is-missing .ensures,
-      c .before .before .before .before .before .before .before .before .before .before .place2 .ensures,
-      c .before .before .before .before .before .before .before .before .before .before .before .place .ensures,
+      c .before .before .before .before .before .before .before .before .before .before .index2 .ensures,
+      c .before .before .before .before .before .before .before .before .before .before .before .index .ensures,
       c .before .before .before .before .before .before .before .before .before .before .before .before .search-cells2 .ensures,
       c .before .before .before .before .before .before .before .before .before .before .before .before .before .search-cells .ensures,
-      found-count (statePlaces source.Input (now (a .account-id)) s),
-      several-count (statePlaces source.Input (now (a .account-id)) s),
-      one-count (statePlaces source.Output (now (a .account-id)) s),
+      found-count (stateIndices source.Input (now (a .account-id)) s),
+      several-count (stateIndices source.Input (now (a .account-id)) s),
+      one-count (stateIndices source.Output (now (a .account-id)) s),
     )
-    (ap (λ (x : Check). resolvedAt x (statePlace source.Input (now (a .account-id)) s) (statePlace source.Output (now (a .account-id)) s)) (sym (decide-then _ (typeRows _ _))))
+    (ap (λ (x : Check). resolvedAt x (stateIndex source.Input (now (a .account-id)) s) (stateIndex source.Output (now (a .account-id)) s)) (sym (decide-then _ (typeRows _ _))))
 
 pub resolve-change-spec : {M : Type 1} → statement M
 resolve-change-spec =

@@ -2,9 +2,9 @@
 use mathlib.Core.Path.{_≡_, refl, sym, ap, _∙_}
 use denote.Ref.{now}
 use Rattle.protocol.specs.Rows.{decide, _▷_, _then_}
-use Rattle.state_transition.specs.Resolve.{spendRows, statePlaces, statePlace}
+use Rattle.state_transition.specs.Resolve.{spendRows, stateIndices, stateIndex}
 use Rattle.state_transition.specs.Branches.{spendOf}
-use Rattle.scene_table.specs.Lent.{lentScene}
+use Rattle.scene_table.specs.Lent.{sceneIn}
 use Rattle.cell_search.specs.Search.{cellSearch, matches, cellsOf}
 use Rattle.cell_search.specs.declared.cells.Source.the-variants as source
 use Rattle.cell_search.proofs.CellLaws.{missing-count, found-count, several-count}
@@ -13,12 +13,12 @@ use Rattle.state_transition.proofs.resolve.resolve_spend.Statement.{sta
 use Rattle.state_transition.proofs.resolve.resolve_spend.Tie as tie
 
 returns : tie.Need-returns
-unfolding spendOf spendRows statePlaces statePlace cellSearch decide
+unfolding spendOf spendRows stateIndices stateIndex cellSearch decide
 returns c =
     let a = c .before .before .before .before .before .before .before .before .before .before .before .before .args in
-    let s = lentScene (now (a .table)) (now (a .store)) in
+    let s = sceneIn (now (a .table)) (now (a .store)) in
     rw (
-      c .place .ensures,
+      c .index .ensures,
       c .before .require3 .ensures,
       c .before .before .is-several .ensures,
       c .before .before .before .require2 .ensures,
@@ -27,9 +27,9 @@ returns c =
       c .before .before .before .before .before .before .is-missing .ensures,
       c .before .before .before .before .before .before .before .search-cells2 .ensures,
       c .before .before .before .before .before .before .before .before .search-cells .ensures,
-      missing-count (statePlaces source.Input (now (a .account-id)) s),
-      found-count (statePlaces source.CellDep (now (a .account-id)) s),
-      several-count (statePlaces source.CellDep (now (a .account-id)) s),
+      missing-count (stateIndices source.Input (now (a .account-id)) s),
+      found-count (stateIndices source.CellDep (now (a .account-id)) s),
+      several-count (stateIndices source.CellDep (now (a .account-id)) s),
     )
 
 pub resolve-spend-spec : {M : Type 1} → statement M

@@ -8,7 +8,7 @@ use Rattle.protocol.specs.Rows.{row, _▷_, decide}
 use Rattle.protocol.specs.declared.error.ProtocolError.the-variants.{InvalidOperation}
 use Rattle.protocol.specs.declared.check.Check.{Check}
 use Rattle.protocol.specs.declared.check.Check.the-variants.{Passed}
-use Rattle.scene_table.specs.Lent.{lentScene}
+use Rattle.scene_table.specs.Lent.{sceneIn}
 use Rattle.state_transition.specs.Resolve.{resolveRows, stateSource, operationRow, resolvedOf}
 use Rattle.state_transition.specs.Branches.{spendOf, changeOf}
 use borrow.Author.Needs.{needs}
@@ -28,7 +28,7 @@ returns c =
     let k = c .before .before in
     let a = k .before .before .before .before .before .args in
     rw (eq-eqb _ 1 (c .before .if1 .taken))
-    (c .resolve-spend .ensures ∙ ap (λ (x : Check). spendOf x (now (a .account-id)) (lentScene (now (a .table)) (now (a .store)))) (known k))
+    (c .resolve-spend .ensures ∙ ap (λ (x : Check). spendOf x (now (a .account-id)) (sceneIn (now (a .table)) (now (a .store)))) (known k))
 
 returns-2 : tie.Need-returns-2
 unfolding resolvedOf changeOf resolveRows stateSource decide
@@ -36,7 +36,7 @@ returns-2 c =
     let k = c .before .before in
     let a = k .before .before .before .before .before .args in
     rw (ne-eqb _ 1 (c .before .if1 .left))
-    (c .resolve-change .ensures ∙ ap (λ (x : Check). changeOf x (now (a .account-id)) (lentScene (now (a .table)) (now (a .store)))) (known k))
+    (c .resolve-change .ensures ∙ ap (λ (x : Check). changeOf x (now (a .account-id)) (sceneIn (now (a .table)) (now (a .store)))) (known k))
 
 pub resolve-state-spec : {M : Type 1} → statement M
 resolve-state-spec =

@@ -3,7 +3,7 @@ use mathlib.Core.Path.{_≡_, refl, sym, ap, _∙_}
 use denote.Ref.{now}
 use lib.ListN.{List·getD-eq-default}
 use Rattle.scene_table.specs.Scene.{Input}
-use Rattle.scene_table.specs.Lent.{lentScene}
+use Rattle.scene_table.specs.Lent.{sceneIn}
 use Rattle.scene_table.proofs.PlaceLaws.{lentInput, lent-given}
 use Rattle.state_transition.specs.Resolve.{noInput}
 use borrow.Author.Needs.{needs}
@@ -21,7 +21,7 @@ returns-2 : tie.Need-returns-2
 unfolding noInput
 returns-2 c =
     let a = c .before .before .before .before .args in
-    sym (ap (λ (i : Input). i .since) (List·getD-eq-default (lentScene (now (a .table)) (now (a .store)) .inputs) noInput (rw (lent-given (now (a .table)) (now (a .store)) .inputs .long) (rw (c .before .input-count .ensures) at (c .if1 .left)))))
+    sym (ap (λ (i : Input). i .since) (List·getD-eq-default (sceneIn (now (a .table)) (now (a .store)) .inputs) noInput (rw (lent-given (now (a .table)) (now (a .store)) .inputs .long) (rw (c .before .input-count .ensures) at (c .if1 .left)))))
 
 pub state-since-spec : {M : Type 1} → statement M
 state-since-spec = tie.close (tie.spec (λ c κs. search needs) (λ c κs. search needs) returns returns-2)

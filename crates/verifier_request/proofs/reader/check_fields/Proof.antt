@@ -1,12 +1,12 @@
 -- `verifier_request::reader::check_fields` meets its contract: the rows, last to first. Assumes nothing.
 use Rattle.protocol.specs.Rows.{decide}
-use Rattle.verifier_request.specs.Reader.{fieldRows}
+use Rattle.verifier_request.specs.Reader.{requestFieldRows}
 use borrow.Author.Needs.{needs}
 use Rattle.verifier_request.proofs.reader.check_fields.Statement.{statement}
 use Rattle.verifier_request.proofs.reader.check_fields.Tie as tie
 
 returns : tie.Need-returns
-unfolding fieldRows decide
+unfolding requestFieldRows decide
 returns c =
     let c3 = c .before .before .before in
     let c1 = c3 .before .before .before .before in

@@ -1,12 +1,12 @@
 -- `verifier_request::reader::check_head` meets its contract: the rows, last to first. Assumes nothing.
 use Rattle.protocol.specs.Rows.{decide}
-use Rattle.verifier_request.specs.Reader.{headRows}
+use Rattle.verifier_request.specs.Reader.{requestHeaderRows}
 use borrow.Author.Needs.{needs}
 use Rattle.verifier_request.proofs.reader.check_head.Statement.{statement}
 use Rattle.verifier_request.proofs.reader.check_head.Tie as tie
 
 returns : tie.Need-returns
-unfolding headRows decide
+unfolding requestHeaderRows decide
 returns c =
     let c5 = c .before .before in
     let c4 = c5 .before .before in

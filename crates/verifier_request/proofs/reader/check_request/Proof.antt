@@ -2,8 +2,8 @@
 use mathlib.Core.Path.{sym, _∙_}
 use Rattle.protocol.specs.Rows.{decide}
 use Rattle.protocol.specs.declared.check.Check.the-variants.{Passed}
-use Rattle.protocol.proofs.Hold.{decide-append, decide-then}
-use Rattle.verifier_request.specs.Reader.{headRows, fieldRows, requestRows, requestFault}
+use Rattle.protocol.proofs.AllPass.{decide-append, decide-then}
+use Rattle.verifier_request.specs.Reader.{requestHeaderRows, requestFieldRows, requestRows, requestFault}
 use borrow.Author.Needs.{needs}
 use Rattle.verifier_request.proofs.reader.check_request.Statement.{statement}
 use Rattle.verifier_request.proofs.reader.check_request.Tie as tie
@@ -12,7 +12,7 @@ returns : tie.Need-returns
 unfolding requestFault requestRows
 returns c =
     rw (c .and .ensures, c .before .check-fields .ensures, c .before .before .check-head .ensures)
-    (sym (decide-append Passed (headRows _) (fieldRows _) ∙ decide-then (decide Passed (headRows _)) (fieldRows _)))
+    (sym (decide-append Passed (requestHeaderRows _) (requestFieldRows _) ∙ decide-then (decide Passed (requestHeaderRows _)) (requestFieldRows _)))
 
 pub check-request-spec : {M : Type 1} → statement M
 check-request-spec =

@@ -1,11 +1,11 @@
 -- `verifier_request::reader::fields_at` meets its contract: each field is its read. Assumes nothing.
-use Rattle.verifier_request.specs.Reader.{fieldsAt}
+use Rattle.verifier_request.specs.Reader.{requestFieldsOf}
 use borrow.Author.Needs.{needs}
 use Rattle.verifier_request.proofs.reader.fields_at.Statement.{statement}
 use Rattle.verifier_request.proofs.reader.fields_at.Tie as tie
 
 returns : tie.Need-returns
-unfolding fieldsAt
+unfolding requestFieldsOf
 returns c =
     let c2 = c .before .before .before in
     rw (

@@ -1,6 +1,6 @@
 -- `verifier_request::writer::store_head` meets its contract: the numbers of a table stored one behind another. Assumes nothing.
 use native.Mathlib.Omega.{arith}
-use Rattle.octets.proofs.TableLaws.{storeNumbers, numbers-stored}
+use Rattle.octets.proofs.LayoutLaws.{storeNumbers, numbers-stored}
 use Rattle.verifier_request.specs.Reading.{requestHead}
 use borrow.Author.Needs.{needs}
 use Rattle.verifier_request.proofs.writer.store_head.Statement.{statement}

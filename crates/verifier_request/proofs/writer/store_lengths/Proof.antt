@@ -1,5 +1,5 @@
 -- `verifier_request::writer::store_lengths` meets its contract: the numbers of a table stored one behind another. Assumes nothing.
-use Rattle.octets.proofs.TableLaws.{storeNumbers, numbers-stored}
+use Rattle.octets.proofs.LayoutLaws.{storeNumbers, numbers-stored}
 use Rattle.verifier_request.specs.Reading.{requestLengths}
 use borrow.Author.Needs.{needs}
 use Rattle.verifier_request.proofs.writer.store_lengths.Statement.{statement}

@@ -1,6 +1,6 @@
 -- `verifier_request::writer::store_request` meets its contract: the parts stored one behind another. Assumes nothing.
 use native.Mathlib.Omega.{arith}
-use Rattle.verifier_request.specs.Reading.{RequestReading, reading}
+use Rattle.verifier_request.specs.Reading.{RequestReading, requestWith}
 use Rattle.verifier_request.proofs.Form.{Sized, parts-stored}
 use borrow.Author.Needs.{needs}
 use Rattle.verifier_request.proofs.writer.store_request.Statement.{statement}
@@ -19,7 +19,7 @@ returns c =
     let c1 = c2 .before .before .before .before .before in
     let s = c1 .before .before .before .before .before in
     let a = s .args in
-    let r : RequestReading = reading (a .algorithm) (a .slot) (a .operation) (a .profile) (a .t5) (a .t6) (a .aux .now) (a .proof .now) in
+    let r : RequestReading = requestWith (a .algorithm) (a .slot) (a .operation) (a .profile) (a .t5) (a .t6) (a .aux .now) (a .proof .now) in
     let z : Sized r = record { digest = omega (arith, s .good); key = omega (arith, s .good) } in
     rw (
       c6 .store-bytes4 .ensures,

@@ -9,7 +9,7 @@ use native.Mathlib.Omega.{arith}
 use Rattle.protocol.specs.declared.error.ProtocolError.{ProtocolError}
 use Rattle.protocol.specs.declared.check.Check.{Check}
 use Rattle.protocol.specs.declared.check.Check.the-variants.{Passed, Failed}
-use Rattle.protocol.specs.Rows.{Row, _▷_, _then_, decide, Hold, First}
+use Rattle.protocol.specs.Rows.{Row, _▷_, _then_, decide, AllPass, FirstFailed}
 
 -- a refusal is no passing
 pub failed-passed : {A : Type 0} (e : ProtocolError) → Failed e ≡ Passed → A
@@ -38,25 +38,25 @@ unfolding decide _▷_
 first-row r rs true e h = (e, rw e at h)
 first-row r rs false e h = failed-passed (r .error) (sym (decide-failed rs (r .error)) ∙ (rw e at h))
 
-pub passed-hold : (rs : List Row) → decide Passed rs ≡ Passed → Hold rs
-passed-hold [] h = tt
-passed-hold (r ∷ rs) h =
+pub passed-all-pass : (rs : List Row) → decide Passed rs ≡ Passed → AllPass rs
+passed-all-pass [] h = tt
+passed-all-pass (r ∷ rs) h =
     let z = first-row r rs (r .test) refl h in
-    (z .0, passed-hold rs (z .1))
+    (z .0, passed-all-pass rs (z .1))
 
-pub hold-passed : (rs : List Row) → Hold rs → decide Passed rs ≡ Passed
+pub all-pass-passed : (rs : List Row) → AllPass rs → decide Passed rs ≡ Passed
 unfolding decide _▷_
-hold-passed [] h = refl
-hold-passed (r ∷ rs) h = rw (h .0) (hold-passed rs (h .1))
+all-pass-passed [] h = refl
+all-pass-passed (r ∷ rs) h = rw (h .0) (all-pass-passed rs (h .1))
 
 -- every row of two lists passes where every row of each does
-pub hold-append : (ps qs : List Row) → Hold ps → Hold qs → Hold (ps ++ qs)
-hold-append [] qs h k = k
-hold-append (p ∷ ps) qs h k = (h .0, hold-append ps qs (h .1) k)
+pub all-pass-append : (ps qs : List Row) → AllPass ps → AllPass qs → AllPass (ps ++ qs)
+all-pass-append [] qs h k = k
+all-pass-append (p ∷ ps) qs h k = (h .0, all-pass-append ps qs (h .1) k)
 
-pub hold-split : (ps qs : List Row) → Hold (ps ++ qs) → Hold ps × Hold qs
-hold-split [] qs h = (tt, h)
-hold-split (p ∷ ps) qs h = let z = hold-split ps qs (h .1) in ((h .0, z .0), z .1)
+pub all-pass-split : (ps qs : List Row) → AllPass (ps ++ qs) → AllPass ps × AllPass qs
+all-pass-split [] qs h = (tt, h)
+all-pass-split (p ∷ ps) qs h = let z = all-pass-split ps qs (h .1) in ((h .0, z .0), z .1)
 
 -- what is found is the refusal of the first row that fails
 first-step : (r : Row) (rs : List Row) (e : ProtocolError) (b : Bool) → r .test ≡ b → decide Passed (r ∷ rs) ≡ Failed e
@@ -68,13 +68,13 @@ first-step r rs e false t h = inl (refl, same-error (sym (decide-failed rs (r .e
     same-error : Failed (r .error) ≡ Failed e → r .error ≡ e
     same-error k = cc
 
-pub failed-first : (rs : List Row) (e : ProtocolError) → decide Passed rs ≡ Failed e → First rs e
+pub failed-first : (rs : List Row) (e : ProtocolError) → decide Passed rs ≡ Failed e → FirstFailed rs e
 unfolding decide
 failed-first [] e h = failed-passed e (sym h)
 failed-first (r ∷ rs) e h =
     ⊎-elim (λ f. inl f) (λ p. inr (p .0, failed-first rs e (p .1))) (first-step r rs e (r .test) refl h)
 
-pub first-failed : (rs : List Row) (e : ProtocolError) → First rs e → decide Passed rs ≡ Failed e
+pub first-failed : (rs : List Row) (e : ProtocolError) → FirstFailed rs e → decide Passed rs ≡ Failed e
 unfolding decide _▷_
 first-failed [] e f = absurd f
 first-failed (r ∷ rs) e (inl f) = rw (f .0, f .1) (decide-failed rs e)
