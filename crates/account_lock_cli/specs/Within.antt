@@ -1,4 +1,5 @@
--- What the program's functions that read promise one another. No public contract cites it.
+-- Private: no public contract cites this file.
+-- What the program's own functions promise one another.
 use Prim.Native.Nat.{ℕ, _≤_}
 use Rattle.account_lock_cli.specs.declared.Input.{Input}
 use Rattle.account_lock_cli.specs.declared.Input.the-variants.{Read, Failed}
