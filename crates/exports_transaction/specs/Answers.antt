@@ -34,7 +34,7 @@ unfoldable pub lentDigest : ℕ → List ℕ → ℕ → List ℕ → List ℕ �
 lentDigest operation account sequence state sighash =
     digestAnswer (decide (sizesFault account sighash) (operationRows operation)) (digestOf operation account sequence state sighash)
 
--- 01, of the lock: "a table that the reader, scene length aside, leaves for no accepted scene with a store this long: 7"
+-- 01, of the lock: "a table that the reader, scene length aside, leaves for no accepted scene with a store this long", 7
 unfoldable pub lentSighash : List ℕ → List ℕ → Sighash
 lentSighash table store =
     cond (validTable table (length store)) (groupAnswer (sceneIn table store)) (sighashFound (Failed SlicesDisagree) [])

@@ -10,7 +10,7 @@ use Rattle.scene_line.specs.declared.form.Form.the-variants.{Group, Type
 use Rattle.scene_line.specs.declared.kind.Kind.{Kind}
 use Rattle.scene_line.specs.declared.kind.Kind.the-variants.{Script, Tx, Input, Output, Dep, Witness, Verdicts, Unknown}
 
--- 01: "in this order of kinds": a kind's place in it, 0 for none
+-- 01: "in this order of kinds": a kind's rank in it, 0 for none
 abbrev pub rank : Kind → ℕ
 rank Script = 1
 rank Tx = 2
@@ -74,8 +74,8 @@ kindOf w =
     (cond (same w output) Output
     (cond (same w dep) Dep (cond (same w witness) Witness (cond (same w verdicts) Verdicts Unknown))))))
 
--- 01: "in this order of kinds", "Script, tx and verdicts stand once; each other kind 0 to 64 times": whether a line at place k
--- may follow one at place last, 0 at the start: script, tx, then the others in order up to verdicts
+-- 01: "in this order of kinds", "Script, tx and verdicts stand once; each other kind 0 to 64 times": whether a line of rank k
+-- may follow one of rank last, 0 at the start: script, tx, then the others in order up to verdicts
 unfoldable pub follows : ℕ → ℕ → Bool
 follows last k = cond (ltb last 2) (eqb k (last + 1)) (leb 3 k && (leb last k && not (eqb last 7)))
 

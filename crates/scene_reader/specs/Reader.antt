@@ -15,7 +15,7 @@ use Rattle.scene_line.specs.declared.kind.Kind.{Kind}
 use Rattle.scene_line.specs.Line.{formsOk, lineBytes, lineEntries}
 use Rattle.scene_line.specs.Kind.{rank, firstForm, lineKind, lineFields}
 
--- 01: "Lines are tested one by one": what is held between two lines. The place of the last kind and how many lines of it were
+-- 01: "Lines are tested one by one": what is held between two lines. The rank of the last kind and how many lines of it were
 -- read, the store with its count of bytes, the table with its count of entries
 pub record ReaderState : Type 0 where
   pub last : ℕ
@@ -48,7 +48,7 @@ put h k fs = record {
 }
 
 -- 01, "Where each refusal is raised", the line rows, of a line of kind k with the fields fs: "kind, order, field count", 2, where
--- the kind has no place; "65th of a kind", 4; "a field's form, or just one of TYPEHASH and TYPESCRIPT empty", 3; "store too short
+-- the kind has no rank; "65th of a kind", 4; "a field's form, or just one of TYPEHASH and TYPESCRIPT empty", 3; "store too short
 -- for the field", 6
 unfoldable pub lineRows : ReaderState → Kind → List (List ℕ) → List Row
 lineRows h k fs =

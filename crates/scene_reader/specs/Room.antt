@@ -32,7 +32,7 @@ step h line = outcomeAfter (decide Passed (rowsOfLine h line)) (linePut h line)
 abbrev pub finish : ReaderState → List ℕ → ReaderOutcome
 finish h rest = outcomeAfter (decide Passed (sceneEndRows h rest)) h
 
--- the table's entries in use after lines up to the seen-th of the kind at place last, at most: 8 counts, 6 for each line before
+-- the table's entries in use after lines up to the seen-th of the kind of rank last, at most: 8 counts, 6 for each line before
 -- verdicts, 18 for verdicts
 unfoldable pub limit : ℕ → ℕ → ℕ
 limit last seen = 8 + 6 * min last 2 + 400 * (last - 3) + 6 * min seen (64 * (last - 2))

@@ -12,13 +12,13 @@ use Rattle.scene_line.specs.Kind.{rank, follows}
 use Rattle.scene_reader.specs.Reader.{seenWith}
 use Rattle.scene_table.proofs.Truth.{and-both}
 
--- the kinds of the lines that are left, after `seen` lines of the kind at place `last`
+-- the kinds of the lines that are left, after `seen` lines of the kind of rank `last`
 unfoldable pub Order : ℕ → ℕ → List Kind → Type 0
 Order last seen [] = last ≡ 7
 Order last seen (k ∷ ks) =
     (follows last (rank k) ≡ true) × ((seenWith last seen (rank k) ≤ 64) × Order (rank k) (seenWith last seen (rank k)) ks)
 
--- how many more lines of the kind at place p may come
+-- how many more lines of the kind of rank p may come
 unfoldable pub left : ℕ → ℕ → ℕ → ℕ
 left last seen p = cond (ltb p last) 0 (cond (eqb p last) (64 - seen) 64)
 

@@ -24,7 +24,7 @@ use Rattle.scene_reader.proofs.Runs.{run-passed, run-failed, run-last, held-pas
 use Rattle.scene_reading.specs.Lines.{wordOf, kindOfLine, fieldsOfLine, countOk, formOk, bytesOfLine}
 use Rattle.scene_table.proofs.Truth.{and-both}
 
--- a line passes the line rows, after `seen` lines of the kind at place `last`, with `used` of `size` bytes of the store filled
+-- a line passes the line rows, after `seen` lines of the kind of rank `last`, with `used` of `size` bytes of the store filled
 pub record LinePasses (last seen used size : ℕ) (l : List ℕ) : Type 0 where
   pub order : follows last (rank (kindOfLine l)) ≡ true
   pub count : countOk l ≡ true
@@ -83,7 +83,7 @@ module _ (last : ℕ) where
 pub held-same : (g h : ReaderState) → held g ≡ held h → g ≡ h
 held-same g h e = cc
 
--- every row passes a line of a kind with a place
+-- every row passes a line of a kind with a rank
 record Rows (h : ReaderState) (k : Kind) (fs : List (List ℕ)) : Type 0 where
   known : eqb (rank k) 0 ≡ false
   few : seenWith (h .last) (h .seen) (rank k) ≤ 64
