@@ -11,8 +11,8 @@ use lib.Dec.{eqb, leb}
 use lib.ListN.{length, drop, length-append, length-drop, length-take}
 use lib.Seq.{length-take-le}
 use borrow.Author.Tests.{leb-true}
-use Rattle.octets.specs.Le.{toLe, numberAt}
-use Rattle.octets.specs.Lists.{joined}
+use Rattle.octets.specs.Le.{toLe}
+use Rattle.octets.specs.Lists.{joined, every}
 use Rattle.octets.proofs.LeLaws.{length-to}
 use Rattle.octets.proofs.Filled.{length-tabulate}
 use Rattle.blake2b.specs.Rfc7693.{bytesOf, halves, F, hashWords, hashOf}
@@ -23,6 +23,7 @@ use Rattle.protocol.proofs.AllPass.{all-pass-split, passed-all-pass, all-pass-p
 use Rattle.protocol.specs.declared.error.ProtocolError.the-variants.{InvalidWitness, SlicesDisagree}
 use Rattle.protocol.specs.declared.check.Check.{Check}
 use Rattle.protocol.specs.declared.check.Check.the-variants.{Passed, Failed}
+use Rattle.molecule.specs.Table3.{secondOffsetOf}
 use Rattle.molecule.specs.Canonical.{canonicalOf}
 use Rattle.molecule.proofs.Form.{passes}
 use Rattle.molecule.proofs.CanonicalForm.{length-canonical}
@@ -32,15 +33,15 @@ use Rattle.authorization.specs.Sighash.{hashedWitnesses, sighashInput}
 use Rattle.authorization.proofs.SighashTheorem.{sighash-theorem}
 use Rattle.scene_table.specs.Scene.{Input, Scene}
 use Rattle.scene_table.specs.Lent.{tableEntry, sceneFrom, storeBytes, sceneIn, blankScene}
-use Rattle.scene_table.specs.Valid.{every, validTable}
-use Rattle.scene_table.proofs.Truth.{and-both}
+use Rattle.scene_table.specs.Valid.{validTable}
+use Rattle.octets.proofs.Truth.{and-both}
 use Rattle.scene_table.proofs.Rows.{length-rows}
 use Rattle.scene_table.proofs.SceneBack.{sayable}
 use Rattle.scene_table.proofs.PlaceLaws.{lent-given}
 use Rattle.group_sighash.specs.Witnesses.{groupWitnesses, groupOf, firstWitness, otherWitnesses, firstWitnessRows, witnessFits, groupRows, otherRows}
 use Rattle.group_sighash.specs.GroupSighash.{groupSighash}
 use Rattle.state_transition.specs.Resolve.{resolveRows}
-use Rattle.state_transition.specs.Transition.{sequenceOf}
+use Rattle.account_state.specs.Fields.{sequenceOf}
 use Rattle.account_lock.specs.Lock.{account, operation, current, statesRows, lateRows, earlyRows, digest, Result, refused, walked, orWalked, walkResult, lockScene, lockOf}
 use Rattle.account_lock.proofs.LockLaws.{group-table}
 use Rattle.account_lock.proofs.LockTheorem.{late, lock-valid}
@@ -110,7 +111,7 @@ module _ (s : Scene) where
       let whole = length-append (s .transaction ++ hashedWitness canonical) (hashedWitnesses others) in
       let k₁ = hashed-length canonical in
       let k₂ = length-canonical first (passes InvalidWitness first (group-table s g)) in
-      let k₃ = length-drop (numberAt first 8 4) first in
+      let k₃ = length-drop (secondOffsetOf first) first in
       let short : length first ≤ 132096 = leb-true _ _ (g .1 .0) in
       let k₄ = others-length others (o .0) in
       let k₅ = others-few in

@@ -9,7 +9,6 @@ use lib.Dec.{leb}
 use lib.ListN.{length, take, drop, length-drop}
 use lib.Seq.{length-take-le}
 use borrow.Author.Tests.{eqb-true, leb-true}
-use Rattle.octets.specs.Le.{numberAt}
 use Rattle.protocol.specs.Args.{argsRows, accountOf}
 use Rattle.protocol.specs.Policy.{isOperation}
 use Rattle.protocol.specs.Rows.{Row, AllPass, decide, _▷_, _then_}
@@ -20,11 +19,13 @@ use Rattle.protocol.specs.declared.check.Check.{Check}
 use Rattle.protocol.specs.declared.check.Check.the-variants.{Passed, Failed}
 use Rattle.molecule.specs.Table3.{tableRows}
 use Rattle.molecule.specs.Bytes as molecule
+use Rattle.account_witness.specs.Fields.{proofCountOf}
 use Rattle.account_witness.specs.Header.{witnessHeaderRows}
 use Rattle.scene_table.specs.Scene.{Scene}
 use Rattle.group_sighash.specs.Witnesses.{firstWitness, lockIn, firstWitnessRows, countRows, groupRows, otherRows, witnessFits}
 use Rattle.group_sighash.specs.GroupSighash.{sighashRows}
 use Rattle.state_transition.specs.Resolve.{resolveRows, operationRow, resolvedOf}
+use Rattle.account_state.specs.Fields.{flagsOf}
 use Rattle.account_lock.specs.Lock.{argsIn, accountIn, scriptRows, account, operation, statesRows, lateRows, earlyRows, witnessLock, Result, refused, orWalked, walkResult, lateResult, lockScene}
 use Rattle.account_lock.specs.Settled.{Authorized, Named, resolved}
 
@@ -109,7 +110,7 @@ module _ (s : Scene) (h : AllPass (groupRows s)) where
   unfolding witnessLock witnessHeaderRows
   group-length = leb-true _ _ (all-pass-split (witnessHeaderRows (lockIn (firstWitness s))) (countRows (lockIn (firstWitness s))) (lock-rows .1) .0 .1 .0)
 
-  pub group-count : numberAt (witnessLock s) 6 1 ≤ 16
+  pub group-count : proofCountOf (witnessLock s) ≤ 16
   unfolding witnessLock countRows
   group-count = leb-true _ _ (all-pass-split (witnessHeaderRows (lockIn (firstWitness s))) (countRows (lockIn (firstWitness s))) (lock-rows .1) .1 .0)
 
@@ -118,7 +119,7 @@ pub group-hashed : (s : Scene) → AllPass (groupRows s) → AllPass (otherRows 
 unfolding sighashRows groupRows firstWitnessRows witnessFits
 group-hashed s g o = (g .0, (g .1 .0, all-pass-append (tableRows InvalidWitness (firstWitness s)) (otherRows s) (group-table s g) o))
 
-pub named-authorized : (id bytes : List ℕ) (s : Scene) → Named id bytes s → AllPass (otherRows s) → Authorized (numberAt bytes 5 1) id s
+pub named-authorized : (id bytes : List ℕ) (s : Scene) → Named id bytes s → AllPass (otherRows s) → Authorized (flagsOf bytes) id s
 unfolding operation account
 named-authorized id bytes s n o =
     record {

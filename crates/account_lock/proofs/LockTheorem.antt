@@ -9,13 +9,13 @@ use native.Mathlib.Omega.{arith}
 use lib.Dec.{eqb, leb}
 use lib.ListN.{length, drop}
 use borrow.Author.Tests.{leb-true}
-use Rattle.octets.specs.Le.{numberAt}
 use Rattle.protocol.specs.Policy.{isOperation}
 use Rattle.protocol.specs.Rows.{Row, AllPass, decide}
 use Rattle.protocol.proofs.AllPass.{passed-all-pass, all-pass-passed, all-pass-split, failed-passed}
 use Rattle.protocol.specs.declared.error.ProtocolError.the-variants.{SlicesDisagree}
 use Rattle.protocol.specs.declared.check.Check.{Check}
 use Rattle.protocol.specs.declared.check.Check.the-variants.{Passed, Failed}
+use Rattle.account_state.specs.Fields.{entryCountOf, flagsOf, recoveryThresholdOf, rotateThresholdOf, spendThresholdOf}
 use Rattle.account_state.specs.State as state
 use Rattle.scene_table.specs.Scene.{Scene}
 use Rattle.scene_table.specs.Lent.{sceneIn}
@@ -36,14 +36,14 @@ use Rattle.account_lock.proofs.LockLaws.{group-operation}
 
 -- a state whose rows pass has spend and rotate thresholds, and where recovery is on a recovery threshold
 pub record Thresholds (s : List ℕ) : Type 0 where
-  pub spend : 1 ≤ numberAt s 16 2
-  pub rotate : 1 ≤ numberAt s 18 2
-  pub recovery : eqb (numberAt s 5 1 % 2) 1 ≡ true → 1 ≤ numberAt s 20 2
+  pub spend : 1 ≤ spendThresholdOf s
+  pub rotate : 1 ≤ rotateThresholdOf s
+  pub recovery : eqb (flagsOf s % 2) 1 ≡ true → 1 ≤ recoveryThresholdOf s
 
 state-thresholds : (s : List ℕ) → AllPass (state.stateRows s) → Thresholds s
 unfolding state.stateRows state.stateTailRows state.stateEndRows state.thresholdRows state.recoveryThresholdRows
 state-thresholds s h =
-    let e = all-pass-split (state.entriesRows (numberAt s 22 1) (drop 32 s) 0) _ (all-pass-split (state.stateHeaderRows s) _ h .1) .1 in
+    let e = all-pass-split (state.entriesRows (entryCountOf s) (drop 32 s) 0) _ (all-pass-split (state.stateHeaderRows s) _ h .1) .1 in
     record {
       spend = leb-true 1 _ (e .1 .0);
       rotate = leb-true 1 _ (e .1 .1 .0);
@@ -70,7 +70,7 @@ module _ (s : Scene) (h : AllPass (earlyRows s)) where
   thresholds = state-thresholds (current s) state-passes
 
   -- only a recovery asks for recovery, and it is on then
-  recovery-on : eqb (operation s) 1 ≡ false → eqb (operation s) 3 ≡ true → eqb (numberAt (current s) 5 1 % 2) 1 ≡ true
+  recovery-on : eqb (operation s) 1 ≡ false → eqb (operation s) 3 ≡ true → eqb (flagsOf (current s) % 2) 1 ≡ true
   unfolding transitionRows successionRows recoveryRows
   recovery-on p q =
       let c : AllPass (successionRows (operation s) (stateSince (operation s) (account s) s) (current s) (successor s)) =
@@ -84,7 +84,7 @@ module _ (s : Scene) (h : AllPass (earlyRows s)) where
   threshold-above = go (eqb (operation s) 1) (eqb (operation s) 2) (eqb (operation s) 3) refl refl refl
     where
       go : (a b c : Bool) → eqb (operation s) 1 ≡ a → eqb (operation s) 2 ≡ b → eqb (operation s) 3 ≡ c
-          → 0 < cond (eqb (operation s) 1) (numberAt (current s) 16 2) (cond (eqb (operation s) 2) (numberAt (current s) 18 2) (numberAt (current s) 20 2))
+          → 0 < cond (eqb (operation s) 1) (spendThresholdOf (current s)) (cond (eqb (operation s) 2) (rotateThresholdOf (current s)) (recoveryThresholdOf (current s)))
       go true b c p q r = rw p (thresholds .spend)
       go false true c p q r = rw (p, q) (thresholds .rotate)
       go false false true p q r = rw (p, q) (thresholds .recovery (recovery-on p r))

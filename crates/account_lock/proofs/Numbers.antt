@@ -9,7 +9,6 @@ use Prim.Native.Nat.{ℕ, zero, suc, _+_, _%_, _≤_}
 use native.Mathlib.Omega.{arith}
 use lib.Dec.{eqb}
 use lib.ListN.{length, drop}
-use Rattle.octets.specs.Le.{numberAt}
 use Rattle.protocol.specs.Args.{argsRows}
 use Rattle.protocol.specs.Errors.{errorNumber}
 use Rattle.protocol.specs.Rows.{decide, checkNumber}
@@ -20,7 +19,7 @@ use Rattle.protocol.specs.declared.check.Check.the-variants.{Passed, Failed}
 use Rattle.protocol.proofs.Each.{Each, Refuses, each-append, each-cond, each-refuses, each-failed}
 use Rattle.molecule.specs.Table3.{tableRows}
 use Rattle.molecule.specs.Bytes as molecule
-use Rattle.account_state.specs.Reading.{entryLengthOf, entrySlotOf}
+use Rattle.account_state.specs.Fields.{entryLengthOf, entrySlotOf, entryCountOf}
 use Rattle.account_state.specs.State as state
 use Rattle.account_witness.specs.Header.{witnessHeaderRows}
 use Rattle.account_witness.specs.Reading.{ProofReading}
@@ -76,7 +75,7 @@ state-early : (s : List ℕ) → Each Early (state.stateRows s)
 unfolding state.stateRows
 state-early s =
     each-append Early (state.stateHeaderRows s) _ (head-early s)
-    (each-append Early (state.entriesRows (numberAt s 22 1) (drop 32 s) 0) _ (entries-early _ _ 0) (tail-early s _ _))
+    (each-append Early (state.entriesRows (entryCountOf s) (drop 32 s) 0) _ (entries-early _ _ 0) (tail-early s _ _))
 
 -- the script
 script-early : (script : List ℕ) → Each Early (lock.scriptRows script)

@@ -12,7 +12,7 @@ use Rattle.authorization.specs.Sighash.{sighashInput}
 use Rattle.scene_table.specs.Lent.{sceneIn}
 use Rattle.scene_table.specs.Valid.{validTable}
 use Rattle.group_sighash.specs.Witnesses.{firstWitness, otherWitnesses}
-use Rattle.state_transition.specs.Transition.{sequenceOf}
+use Rattle.account_state.specs.Fields.{sequenceOf}
 use Rattle.decision.specs.Proofs.{requestsOf}
 use Rattle.decision.specs.Walk.{answered}
 use Rattle.decision.specs.Requests.{RequestsRead}

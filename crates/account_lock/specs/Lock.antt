@@ -4,7 +4,6 @@ use mathlib.Core.Bool.{Bool, true, false, cond}
 use mathlib.Core.List.{List, [], _∷_, _++_}
 use lib.ListN.{length, replicate}
 use lib.Dec.{leb}
-use Rattle.octets.specs.Le.{numberAt}
 use Rattle.protocol.specs.Args.{argsRows, accountOf}
 use Rattle.protocol.specs.Rows.{Row, row, decide}
 use Rattle.protocol.specs.declared.error.ProtocolError.the-variants.{InvalidArgs, SlicesDisagree}
@@ -18,9 +17,11 @@ use Rattle.scene_table.specs.Valid.{validTable}
 use Rattle.group_sighash.specs.Witnesses.{firstWitness, lockIn, groupRows, otherRows}
 use Rattle.group_sighash.specs.GroupSighash.{groupSighash}
 use Rattle.state_transition.specs.Resolve.{resolveRows, currentState, successorState, stateSince}
-use Rattle.state_transition.specs.Transition.{dataRows, transitionRows, sequenceOf}
+use Rattle.state_transition.specs.Transition.{dataRows, transitionRows}
 use Rattle.decision.specs.Proofs.{Context, contextFor}
 use Rattle.decision.specs.Walk.{WalkOutcome, walkLock}
+use Rattle.account_witness.specs.Fields.{operationOf, witnessSequenceOf}
+use Rattle.account_state.specs.Fields.{sequenceOf}
 use Rattle.account_lock.specs.declared.answer.LockAnswer.{LockAnswer}
 
 -- a script's args, and the account id in them
@@ -42,10 +43,10 @@ unfoldable pub witnessLock : Scene → List ℕ
 witnessLock s = lockIn (firstWitness s)
 
 unfoldable pub operation : Scene → ℕ
-operation s = numberAt (witnessLock s) 5 1
+operation s = operationOf (witnessLock s)
 
 unfoldable pub witnessSequence : Scene → ℕ
-witnessSequence s = numberAt (witnessLock s) 8 8
+witnessSequence s = witnessSequenceOf (witnessLock s)
 
 -- the account's current state, and its successor
 unfoldable pub current : Scene → List ℕ

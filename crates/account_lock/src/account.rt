@@ -22,8 +22,8 @@ ghost use Rattle.protocol.specs.Rows.{decide};
 ghost use Rattle.authorization.specs.Digest.{digestOf};
 ghost use Rattle.scene_table.specs.Lent.{sceneIn};
 ghost use Rattle.group_sighash.specs.GroupSighash.{groupSighash};
-ghost use Rattle.state_transition.specs.Transition.{sequenceOf};
 ghost use Rattle.decision.specs.Walk.{answered};
+ghost use Rattle.account_state.specs.Fields.{sequenceOf};
 ghost use Rattle.account_lock.specs.Lock.{witnessLock, statesRows, lateRows, lateResult, walkResult, answerOf};
 ghost use Rattle.account_lock.specs.Settled.{Named, Authorized, Settled, resolved};
 

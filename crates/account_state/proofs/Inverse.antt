@@ -7,14 +7,15 @@ use native.Mathlib.Omega.{arith}
 use borrow.Author.Tests.{leb-true, eqb-true}
 use lib.ListN.{length, take, drop, length-append, take-append-drop}
 use lib.Seq.{take-length}
-use Rattle.octets.specs.Le.{numberAt, Bytes}
+use Rattle.octets.specs.Le.{Bytes}
 use Rattle.octets.specs.Layout.{layoutBytes, layoutAt}
 use Rattle.octets.proofs.LeLaws.{number-lt, bytes-drop}
 use Rattle.octets.proofs.LayoutLaws.{table-back}
 use Rattle.octets.proofs.Parts.{join, part-length}
 use Rattle.protocol.specs.Rows.{AllPass}
 use Rattle.protocol.proofs.AllPass.{all-pass-split}
-use Rattle.account_state.specs.Reading.{EntryReading, StateReading, stateMagic, entrySize, entryHeadFields, entryLengthFields, entryBytes, entriesBytes, stateHeaderFields, stateHead, stateBytes, entryLengthOf, entrySlotOf, keyLengthOf, auxLengthOf, entryOf, entriesOf, stateReading, EntryTyped, EntriesTyped, StateTyped}
+use Rattle.account_state.specs.Fields.{auxLengthOf, entryCountOf, entryLengthOf, entrySlotOf, keyLengthOf, stateHeaderLengthOf, stateMagicOf, stateReservedOf, stateVersionOf}
+use Rattle.account_state.specs.Reading.{EntryReading, StateReading, stateMagic, entrySize, entryHeadFields, entryLengthFields, entryBytes, entriesBytes, stateHeaderFields, stateHead, stateBytes, entryOf, entriesOf, stateReading, EntryTyped, EntriesTyped, StateTyped}
 use Rattle.account_state.specs.State.{stateHeaderRows, entryLayoutRows, entryFieldRows, entryRows, entriesRows, behindEntries, stateEndRows, stateTailRows, stateRows}
 
 -- what an entry that passes says of its lengths
@@ -113,10 +114,10 @@ length-entries (suc n) e = ap suc (length-entries n (drop (entryLengthOf e) e))
 -- what a header that passes says
 record Head (s : List ℕ) : Type 0 where
   present : 32 ≤ length s
-  magic : numberAt s 0 4 ≡ stateMagic
-  version : numberAt s 4 1 ≡ 1
-  size : numberAt s 6 2 ≡ 32
-  zeroByte : numberAt s 23 1 ≡ 0
+  magic : stateMagicOf s ≡ stateMagic
+  version : stateVersionOf s ≡ 1
+  size : stateHeaderLengthOf s ≡ 32
+  zeroByte : stateReservedOf s ≡ 0
 
 head : (s : List ℕ) → AllPass (stateHeaderRows s) → Head s
 unfolding stateHeaderRows
@@ -135,7 +136,7 @@ nothing (x ∷ l) e = absurd (omega arith)
 
 module _ (s : List ℕ) (b : Bytes s) (h : AllPass (stateRows s)) where
   abbrev n : ℕ
-  n = numberAt s 22 1
+  n = entryCountOf s
 
   pub parts : AllPass (stateHeaderRows s) × (AllPass (entriesRows n (drop 32 s) 0) × AllPass (stateTailRows s n (drop 32 s)))
   unfolding stateRows

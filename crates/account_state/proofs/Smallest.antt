@@ -7,10 +7,9 @@ use Prim.Native.Nat.{ℕ, zero, suc, _+_, _-_, _≤_}
 use native.Mathlib.Omega.{arith}
 use borrow.Author.Tests.{leb-true, eqb-true}
 use lib.ListN.{length, drop, length-drop}
-use Rattle.octets.specs.Le.{numberAt}
 use Rattle.protocol.specs.Rows.{AllPass}
 use Rattle.protocol.proofs.AllPass.{all-pass-split}
-use Rattle.account_state.specs.Reading.{entryLengthOf, keyLengthOf, auxLengthOf}
+use Rattle.account_state.specs.Fields.{auxLengthOf, entryCountOf, entryLengthOf, keyLengthOf}
 use Rattle.account_state.specs.State.{stateHeaderRows, entryLayoutRows, entryFieldRows, entryRows, entriesRows, stateTailRows, stateRows}
 
 -- an entry that passes has 81 bytes
@@ -34,7 +33,7 @@ entries-smallest (suc n) e least some h = entry-smallest e least (all-pass-split
 pub state-smallest : (s : List ℕ) → AllPass (stateRows s) → 113 ≤ length s
 unfolding stateRows stateHeaderRows
 state-smallest s h =
-    let count = numberAt s 22 1 in
+    let count = entryCountOf s in
     let e = drop 32 s in
     let z = all-pass-split (stateHeaderRows s) (entriesRows count e 0 ++ stateTailRows s count e) h in
     let entries = all-pass-split (entriesRows count e 0) (stateTailRows s count e) (z .1) .0 in

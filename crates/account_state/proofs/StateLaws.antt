@@ -13,6 +13,7 @@ use Rattle.protocol.specs.declared.error.ProtocolError.{ProtocolError}
 use Rattle.protocol.specs.declared.check.Check.{Check}
 use Rattle.protocol.specs.declared.check.Check.the-variants.{Passed, Failed}
 use Rattle.protocol.proofs.AllPass.{passed-all-pass, decide-append, decide-failed}
+use Rattle.account_state.specs.Fields.{entryCountOf}
 use Rattle.account_state.specs.Reading.{entriesOf}
 use Rattle.account_state.specs.State.{stateHeaderRows, entriesRows, stateTailRows, stateRows, stateFault, summaryOf}
 use Rattle.account_state.specs.Walk.{walkAnswer, walkOf, walkEntries, endFault}
@@ -32,7 +33,7 @@ unfolding numberAt
 front-number s n at k h = ap fromLe (front-part n at k s h)
 
 -- what the header tells of the walk
-pub head-room : (s : List ℕ) → decide Passed (stateHeaderRows s) ≡ Passed → (32 ≤ length s) × (numberAt s 22 1 ≤ 16)
+pub head-room : (s : List ℕ) → decide Passed (stateHeaderRows s) ≡ Passed → (32 ≤ length s) × (entryCountOf s ≤ 16)
 unfolding stateHeaderRows
 head-room s h = let z = passed-all-pass _ h in (leb-true _ _ (z .0), leb-true _ _ (z .1 .1 .1 .1 .1 .1 .1 .1 .0))
 
@@ -51,15 +52,15 @@ walked-failed Passed v e h = absurd (let z : _≡_ {A = ℕ} 0 1 = cc in omega a
 walked-failed (Failed x) v e h = cc
 
 module _ (s : List ℕ) (h : decide Passed (stateHeaderRows s) ≡ Passed) where
-  pub fault-entries : (e : ProtocolError) → walkEntries (numberAt s 22 1) (drop 32 s) ≡ Refused e → stateFault s ≡ Failed e
+  pub fault-entries : (e : ProtocolError) → walkEntries (entryCountOf s) (drop 32 s) ≡ Refused e → stateFault s ≡ Failed e
   unfolding stateFault stateRows walkEntries
   fault-entries e w =
       let k = walked-failed _ _ e w in
-      decide-append Passed (stateHeaderRows s) _ ∙ rw h (decide-append Passed (entriesRows (numberAt s 22 1) (drop 32 s) 0) _ ∙ rw k (decide-failed _ e))
+      decide-append Passed (stateHeaderRows s) _ ∙ rw h (decide-append Passed (entriesRows (entryCountOf s) (drop 32 s) 0) _ ∙ rw k (decide-failed _ e))
 
-  pub fault-end : (w : Walk) → walkEntries (numberAt s 22 1) (drop 32 s) ≡ Walked w
-      → (stateFault s ≡ endFault s w) × (summaryOf (entriesOf (numberAt s 22 1) (drop 32 s)) ≡ w .summary)
+  pub fault-end : (w : Walk) → walkEntries (entryCountOf s) (drop 32 s) ≡ Walked w
+      → (stateFault s ≡ endFault s w) × (summaryOf (entriesOf (entryCountOf s) (drop 32 s)) ≡ w .summary)
   unfolding stateFault stateRows stateTailRows walkEntries walkOf endFault summaryOf
   fault-end w k =
       let z = walked-passed _ _ w k in
-      (decide-append Passed (stateHeaderRows s) _ ∙ rw h (decide-append Passed (entriesRows (numberAt s 22 1) (drop 32 s) 0) _ ∙ rw (z .0, ← z .1)), ap (λ (v : Walk). v .summary) (z .1))
+      (decide-append Passed (stateHeaderRows s) _ ∙ rw h (decide-append Passed (entriesRows (entryCountOf s) (drop 32 s) 0) _ ∙ rw (z .0, ← z .1)), ap (λ (v : Walk). v .summary) (z .1))

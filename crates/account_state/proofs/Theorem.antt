@@ -10,7 +10,7 @@ use native.Mathlib.Omega.{arith}
 use lib.ListN.{drop}
 use lib.Seq.{drop-drop}
 use borrow.Author.Tests.{leb-true}
-use Rattle.octets.specs.Le.{numberAt, Bytes}
+use Rattle.octets.specs.Le.{Bytes}
 use Rattle.octets.specs.Lists.{Rising}
 use Rattle.protocol.specs.Rows.{decide, AllPass, FirstFailed}
 use Rattle.protocol.specs.Reading.{OneReading}
@@ -19,7 +19,8 @@ use Rattle.protocol.specs.declared.check.Check.{Check}
 use Rattle.protocol.specs.declared.check.Check.the-variants.{Passed, Failed}
 use Rattle.protocol.proofs.AllPass.{passed-all-pass, all-pass-passed, all-pass-split}
 use Rattle.protocol.proofs.Answers.{answer-accepts, answer-refuses}
-use Rattle.account_state.specs.Reading.{stateBytes, entryLengthOf, entrySlotOf, keyLengthOf, entryOf, entriesOf, stateReading, entrySlots, StateTyped}
+use Rattle.account_state.specs.Fields.{entryCountOf, entryLengthOf, entrySlotOf, keyLengthOf}
+use Rattle.account_state.specs.Reading.{stateBytes, entryOf, entriesOf, stateReading, entrySlots, StateTyped}
 use Rattle.account_state.specs.State.{stateRows, stateFault, stateHeaderOf, summaryOf, stateAnswer, readState, entryRows, entriesRows, entryAt, firstEntry, entryCursorBehind, entryStepAnswer, entryStep, entryGiven, EntryStepsGive, stateHeaderRows, stateTailRows, entryLayoutRows, stateHeaderAnswer, readStateHeader, StateHeaderGives, StateGives}
 use Rattle.account_state.specs.declared.header.StateHeader.{StateHeader}
 use Rattle.account_state.specs.declared.header.StateHeaderAnswer.{StateHeaderAnswer}
@@ -118,7 +119,7 @@ header-of s =
       rotate = refl;
       recovery = refl;
       since = refl;
-      count = sym (length-entries (numberAt s 22 1) (drop 32 s));
+      count = sym (length-entries (entryCountOf s) (drop 32 s));
     }
 
 -- an answer that gives a header gives the one it was made from
@@ -150,7 +151,7 @@ entries-rising (suc n) e least h =
 pub state-slots : (s : List ℕ) → AllPass (stateRows s) → Rising 0 (entrySlots (stateReading s .entries))
 unfolding stateRows stateReading
 state-slots s h =
-    let n = numberAt s 22 1 in
+    let n = entryCountOf s in
     entries-rising n (drop 32 s) 0
     (all-pass-split (entriesRows n (drop 32 s) 0) (stateTailRows s n (drop 32 s)) (all-pass-split (stateHeaderRows s) _ h .1) .0)
 
@@ -171,10 +172,10 @@ steps-from s (suc n) at least h =
     (entryAt s at, (entryCursorBehind s at, (rw (all-pass-passed _ (p .0)), (given s at, rw (drop-drop (entryLengthOf (drop at s)) at s) r))))
 
 -- where a state is accepted, the steps hand out its entries in order
-pub state-steps : (s : List ℕ) → AllPass (stateRows s) → EntryStepsGive s (numberAt s 22 1) firstEntry (stateReading s .entries)
+pub state-steps : (s : List ℕ) → AllPass (stateRows s) → EntryStepsGive s (entryCountOf s) firstEntry (stateReading s .entries)
 unfolding stateRows stateReading
 state-steps s h =
-    let n = numberAt s 22 1 in
+    let n = entryCountOf s in
     steps-from s n 32 0 (all-pass-split (entriesRows n (drop 32 s) 0) (stateTailRows s n (drop 32 s)) (all-pass-split (stateHeaderRows s) _ h .1) .0)
 
 -- what an answer says of the checks

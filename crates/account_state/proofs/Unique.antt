@@ -6,11 +6,11 @@ use Prim.Native.Nat.{ℕ, zero, suc, _+_, _^_, _≤_, _<_}
 use native.Mathlib.Omega.{arith}
 use lib.ListN.{length, take, drop, length-append}
 use lib.Seq.{drop-at}
-use Rattle.octets.specs.Le.{numberAt}
 use Rattle.octets.specs.Layout.{layoutBytes, layoutAt, fieldValue}
 use Rattle.octets.proofs.LayoutLaws.{numbers-back, length-numbers}
 use Rattle.octets.proofs.Parts.{part-back}
-use Rattle.account_state.specs.Reading.{EntryReading, StateReading, entrySize, entryHeadFields, entryLengthFields, entryBytes, entriesBytes, stateHeaderFields, stateHead, stateBytes, entryLengthOf, entryOf, entriesOf, stateReading, EntryTyped, EntriesTyped, StateTyped}
+use Rattle.account_state.specs.Fields.{abiOf, algorithmOf, auxLengthOf, entryCountOf, entryLengthOf, entrySlotOf, flagsOf, hashTypeOf, keyLengthOf, recoverySinceOf, recoveryThresholdOf, rotateThresholdOf, sequenceOf, spendThresholdOf, capabilitiesOf, weightOf}
+use Rattle.account_state.specs.Reading.{EntryReading, StateReading, entrySize, entryHeadFields, entryLengthFields, entryBytes, entriesBytes, stateHeaderFields, stateHead, stateBytes, entryOf, entriesOf, stateReading, EntryTyped, EntriesTyped, StateTyped}
 
 -- an entry at the front of bytes s
 module _ (e : EntryReading) (t s : List ℕ) (y : EntryTyped e) (q : s ≡ entryBytes e ++ t) where
@@ -53,14 +53,14 @@ module _ (e : EntryReading) (t s : List ℕ) (y : EntryTyped e) (q : s ≡ entry
   pub entry-read : entryOf s ≡ e
   unfolding entryOf entryHeadFields entryLengthFields layoutAt
   entry-read =
-      let e₁ : numberAt s 2 2 ≡ e .slot = ap (fieldValue 1) head-read in
-      let e₂ : numberAt s 4 2 ≡ e .algorithm = ap (fieldValue 2) head-read in
-      let e₃ : numberAt s 6 2 ≡ e .capabilities = ap (fieldValue 3) head-read in
-      let e₄ : numberAt s 8 2 ≡ e .weight = ap (fieldValue 4) head-read in
-      let e₅ : numberAt s 10 1 ≡ e .hashType = ap (fieldValue 5) head-read in
-      let e₆ : numberAt s 11 1 ≡ e .abi = ap (fieldValue 6) head-read in
-      let e₇ : numberAt s 44 2 ≡ length (e .key) = ap (fieldValue 0) lengths-read in
-      let e₈ : numberAt s 46 2 ≡ length (e .aux) = ap (fieldValue 1) lengths-read in
+      let e₁ : entrySlotOf s ≡ e .slot = ap (fieldValue 1) head-read in
+      let e₂ : algorithmOf s ≡ e .algorithm = ap (fieldValue 2) head-read in
+      let e₃ : capabilitiesOf s ≡ e .capabilities = ap (fieldValue 3) head-read in
+      let e₄ : weightOf s ≡ e .weight = ap (fieldValue 4) head-read in
+      let e₅ : hashTypeOf s ≡ e .hashType = ap (fieldValue 5) head-read in
+      let e₆ : abiOf s ≡ e .abi = ap (fieldValue 6) head-read in
+      let e₇ : keyLengthOf s ≡ length (e .key) = ap (fieldValue 0) lengths-read in
+      let e₈ : auxLengthOf s ≡ length (e .aux) = ap (fieldValue 1) lengths-read in
       rw (e₁, e₂, e₃, e₄, e₅, e₆, e₇, e₈, hash-read, key-read, aux-read)
 
 pub entries-read : (es : List EntryReading) → EntriesTyped es → entriesOf (length es) (entriesBytes es) ≡ es
@@ -90,11 +90,11 @@ unfolding stateReading stateHead stateHeaderFields layoutAt
 state-read r y =
     let s = stateBytes r in
     let h = head-numbers r y in
-    let e₁ : numberAt s 5 1 ≡ r .flags = ap (fieldValue 2) h in
-    let e₂ : numberAt s 8 8 ≡ r .sequence = ap (fieldValue 4) h in
-    let e₃ : numberAt s 16 2 ≡ r .spend = ap (fieldValue 5) h in
-    let e₄ : numberAt s 18 2 ≡ r .rotate = ap (fieldValue 6) h in
-    let e₅ : numberAt s 20 2 ≡ r .recovery = ap (fieldValue 7) h in
-    let e₆ : numberAt s 24 8 ≡ r .since = ap (fieldValue 10) h in
-    let e₇ : numberAt s 22 1 ≡ length (r .entries) = ap (fieldValue 8) h in
+    let e₁ : flagsOf s ≡ r .flags = ap (fieldValue 2) h in
+    let e₂ : sequenceOf s ≡ r .sequence = ap (fieldValue 4) h in
+    let e₃ : spendThresholdOf s ≡ r .spend = ap (fieldValue 5) h in
+    let e₄ : rotateThresholdOf s ≡ r .rotate = ap (fieldValue 6) h in
+    let e₅ : recoveryThresholdOf s ≡ r .recovery = ap (fieldValue 7) h in
+    let e₆ : recoverySinceOf s ≡ r .since = ap (fieldValue 10) h in
+    let e₇ : entryCountOf s ≡ length (r .entries) = ap (fieldValue 8) h in
     rw (e₁, e₂, e₃, e₄, e₅, e₆, e₇, behind-head r, entries-read (r .entries) (y .entries))

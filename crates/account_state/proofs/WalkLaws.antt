@@ -9,14 +9,15 @@ use native.Mathlib.Omega.{arith}
 use borrow.Author.Tests.{leb-true}
 use lib.ListN.{length, drop, length-drop}
 use lib.Seq.{drop-drop}
-use Rattle.octets.specs.Le.{numberAt, Bytes}
+use Rattle.octets.specs.Le.{Bytes}
 use Rattle.octets.proofs.LeLaws.{number-lt, bytes-drop}
 use Rattle.protocol.specs.Policy.{hasCapability}
 use Rattle.protocol.specs.Rows.{decide}
 use Rattle.protocol.specs.declared.error.ProtocolError.{ProtocolError}
 use Rattle.protocol.specs.declared.check.Check.the-variants.{Passed, Failed}
 use Rattle.protocol.proofs.AllPass.{passed-all-pass, decide-append, decide-failed, all-pass-split}
-use Rattle.account_state.specs.Reading.{entryLengthOf, entrySlotOf, entryOf, entriesOf, capableShare, capableWeight}
+use Rattle.account_state.specs.Fields.{entryLengthOf, entrySlotOf, capabilitiesOf, weightOf}
+use Rattle.account_state.specs.Reading.{entryOf, entriesOf, capableShare, capableWeight}
 use Rattle.account_state.specs.State.{entryLayoutRows, entryRows, entriesRows, behindEntries, firstEntry, entryCursorBehind, summaryOf}
 use Rattle.account_state.specs.Walk.{withEntry, Light}
 use Rattle.account_state.specs.declared.entry.EntryCursor.{EntryCursor}
@@ -105,26 +106,26 @@ module _ (s : List ℕ) (count left : ℕ) (c : EntryCursor) (t : StateSummary) 
 
   -- the weights with an entry's added
   share-next : (bit sum : ℕ) → sum + capableWeight bit (entriesOf left (drop (c .offset) s)) ≡ capableWeight bit (entriesOf count (drop 32 s))
-      → sum + capableShare bit (numberAt (drop (c .offset) s) 6 2) (numberAt (drop (c .offset) s) 8 2)
+      → sum + capableShare bit (capabilitiesOf (drop (c .offset) s)) (weightOf (drop (c .offset) s))
       + capableWeight bit (entriesOf (left - 1) (drop (entryLengthOf (drop (c .offset) s)) (drop (c .offset) s))) ≡ capableWeight bit (entriesOf count (drop 32 s))
   unfolding capableWeight entriesOf entryOf
   share-next bit sum h =
       add-assoc sum _ _ ∙ (sym (ap (λ (n : ℕ). sum + capableWeight bit (entriesOf n (drop (c .offset) s))) one) ∙ h)
 
-  light-next : Bytes s → Light (left - 1) (withEntry t (numberAt (drop (c .offset) s) 6 2) (numberAt (drop (c .offset) s) 8 2))
+  light-next : Bytes s → Light (left - 1) (withEntry t (capabilitiesOf (drop (c .offset) s)) (weightOf (drop (c .offset) s)))
   unfolding withEntry
   light-next b =
       let l = w .light in
-      let n : numberAt (drop (c .offset) s) 8 2 < 65536 = number-lt (drop (c .offset) s) 8 2 (bytes-drop (c .offset) s b) in
+      let n : weightOf (drop (c .offset) s) < 65536 = number-lt (drop (c .offset) s) 8 2 (bytes-drop (c .offset) s b) in
       let m : 65535 * left ≡ 65535 * (left - 1) + 65535 = omega arith in
-      let x = share-le 1 (numberAt (drop (c .offset) s) 6 2) (numberAt (drop (c .offset) s) 8 2) in
-      let y = share-le 2 (numberAt (drop (c .offset) s) 6 2) (numberAt (drop (c .offset) s) 8 2) in
-      let z = share-le 4 (numberAt (drop (c .offset) s) 6 2) (numberAt (drop (c .offset) s) 8 2) in
+      let x = share-le 1 (capabilitiesOf (drop (c .offset) s)) (weightOf (drop (c .offset) s)) in
+      let y = share-le 2 (capabilitiesOf (drop (c .offset) s)) (weightOf (drop (c .offset) s)) in
+      let z = share-le 4 (capabilitiesOf (drop (c .offset) s)) (weightOf (drop (c .offset) s)) in
       record { spend = omega arith; rotate = omega arith; recovery = omega arith }
 
   -- an entry that passes leaves the rest to walk
   pub walking-next : Bytes s → decide Passed (entryRows (drop (c .offset) s) (c .least)) ≡ Passed
-      → Walking s count (left - 1) (entryCursorBehind s (c .offset)) (withEntry t (numberAt (drop (c .offset) s) 6 2) (numberAt (drop (c .offset) s) 8 2))
+      → Walking s count (left - 1) (entryCursorBehind s (c .offset)) (withEntry t (capabilitiesOf (drop (c .offset) s)) (weightOf (drop (c .offset) s)))
   unfolding entryCursorBehind withEntry behindEntries
   walking-next b h =
       let p = entry-present (drop (c .offset) s) (c .least) h in

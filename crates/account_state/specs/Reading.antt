@@ -3,10 +3,10 @@ use mathlib.Core.Path.{_≡_}
 use Prim.Native.Nat.{ℕ, zero, suc, _+_, _^_, _<_}
 use mathlib.Core.Bool.{cond}
 use mathlib.Core.List.{List, [], _∷_, _++_}
-use lib.ListN.{length, take, drop}
-use Rattle.octets.specs.Le.{numberAt}
+use lib.ListN.{length, drop}
 use Rattle.octets.specs.Layout.{Field, layoutBytes}
 use Rattle.protocol.specs.Policy.{hasCapability}
+use Rattle.account_state.specs.Fields.{flagsOf, sequenceOf, spendThresholdOf, rotateThresholdOf, recoveryThresholdOf, entryCountOf, recoverySinceOf, entryLengthOf, entrySlotOf, algorithmOf, capabilitiesOf, weightOf, hashTypeOf, abiOf, entryBytesOf, codeHashOf, keyOf, auxOf}
 
 pub record EntryReading : Type 0 where
   pub slot : ℕ
@@ -81,31 +81,19 @@ stateHead r = stateHeaderFields (r .flags) (r .sequence) (r .spend) (r .rotate) 
 unfoldable pub stateBytes : StateReading → List ℕ
 stateBytes r = layoutBytes (stateHead r) ++ entriesBytes (r .entries)
 
--- the fields of the entry at the front of the bytes
-abbrev pub entryLengthOf : List ℕ → ℕ
-entryLengthOf e = numberAt e 0 2
-
-abbrev pub entrySlotOf : List ℕ → ℕ
-entrySlotOf e = numberAt e 2 2
-
-abbrev pub keyLengthOf : List ℕ → ℕ
-keyLengthOf e = numberAt e 44 2
-
-abbrev pub auxLengthOf : List ℕ → ℕ
-auxLengthOf e = numberAt e 46 2
-
+-- the entry at the front of the bytes
 unfoldable pub entryOf : List ℕ → EntryReading
 entryOf e =
     record {
       slot = entrySlotOf e;
-      algorithm = numberAt e 4 2;
-      capabilities = numberAt e 6 2;
-      weight = numberAt e 8 2;
-      hashType = numberAt e 10 1;
-      abi = numberAt e 11 1;
-      codeHash = take 32 (drop 12 e);
-      key = take (keyLengthOf e) (drop 48 e);
-      aux = take (auxLengthOf e) (drop (48 + keyLengthOf e) e);
+      algorithm = algorithmOf e;
+      capabilities = capabilitiesOf e;
+      weight = weightOf e;
+      hashType = hashTypeOf e;
+      abi = abiOf e;
+      codeHash = codeHashOf e;
+      key = keyOf e;
+      aux = auxOf e;
     }
 
 -- n entries one behind another
@@ -113,16 +101,20 @@ unfoldable pub entriesOf : ℕ → List ℕ → List EntryReading
 entriesOf zero e = []
 entriesOf (suc n) e = entryOf e ∷ entriesOf n (drop (entryLengthOf e) e)
 
+-- the entries of a state
+abbrev pub stateEntries : List ℕ → List EntryReading
+stateEntries s = entriesOf (entryCountOf s) (entryBytesOf s)
+
 unfoldable pub stateReading : List ℕ → StateReading
 stateReading s =
     record {
-      flags = numberAt s 5 1;
-      sequence = numberAt s 8 8;
-      spend = numberAt s 16 2;
-      rotate = numberAt s 18 2;
-      recovery = numberAt s 20 2;
-      since = numberAt s 24 8;
-      entries = entriesOf (numberAt s 22 1) (drop 32 s);
+      flags = flagsOf s;
+      sequence = sequenceOf s;
+      spend = spendThresholdOf s;
+      rotate = rotateThresholdOf s;
+      recovery = recoveryThresholdOf s;
+      since = recoverySinceOf s;
+      entries = stateEntries s;
     }
 
 -- the slots of the entries

@@ -5,14 +5,14 @@ use mathlib.Core.Bool.{cond}
 use mathlib.Core.List.{List, [], _∷_, _++_}
 use lib.ListN.{length, take, drop}
 use lib.Dec.{leb, eqb}
-use Rattle.octets.specs.Le.{numberAt}
 use Rattle.protocol.specs.Errors.{errorNumber}
 use Rattle.protocol.specs.Policy.{isSupportedAlgorithm}
 use Rattle.protocol.specs.Rows.{Row, row, decide}
 use Rattle.protocol.specs.declared.error.ProtocolError.the-variants.{InvalidState, InvalidVerifierRef, UnsupportedVersion, UnsupportedAlgorithm, UnsatisfiableThreshold}
 use Rattle.protocol.specs.declared.check.Check.{Check}
 use Rattle.protocol.specs.declared.check.Check.the-variants.{Passed, Failed}
-use Rattle.account_state.specs.Reading.{EntryReading, stateMagic, entryLengthOf, entrySlotOf, keyLengthOf, auxLengthOf, entriesOf, stateReading, capableWeight}
+use Rattle.account_state.specs.Fields.{stateMagicOf, stateVersionOf, flagsOf, stateHeaderLengthOf, sequenceOf, spendThresholdOf, rotateThresholdOf, recoveryThresholdOf, entryCountOf, stateReservedOf, recoverySinceOf, entryLengthOf, entrySlotOf, algorithmOf, capabilitiesOf, weightOf, hashTypeOf, abiOf, keyLengthOf, auxLengthOf, entryBytesOf}
+use Rattle.account_state.specs.Reading.{EntryReading, stateMagic, entriesOf, stateEntries, stateReading, capableWeight}
 use Rattle.account_state.specs.declared.header.StateHeader.{StateHeader}
 use Rattle.account_state.specs.declared.header.StateHeaderAnswer.{StateHeaderAnswer}
 use Rattle.account_state.specs.declared.header.StateHeaderAnswer.the-variants as header
@@ -30,13 +30,13 @@ unfoldable pub stateHeaderRows : List ℕ → List Row
 stateHeaderRows s =
     row (leb 32 (length s)) InvalidState
     ∷ row (leb (length s) 16384) InvalidState
-    ∷ row (eqb (numberAt s 0 4) stateMagic) InvalidState
-    ∷ row (eqb (numberAt s 4 1) 1) UnsupportedVersion
-    ∷ row (leb (numberAt s 5 1) 3) InvalidState
-    ∷ row (eqb (numberAt s 6 2) 32) InvalidState
-    ∷ row (eqb (numberAt s 23 1) 0) InvalidState
-    ∷ row (leb 1 (numberAt s 22 1)) InvalidState
-    ∷ row (leb (numberAt s 22 1) 16) InvalidState
+    ∷ row (eqb (stateMagicOf s) stateMagic) InvalidState
+    ∷ row (eqb (stateVersionOf s) 1) UnsupportedVersion
+    ∷ row (leb (flagsOf s) 3) InvalidState
+    ∷ row (eqb (stateHeaderLengthOf s) 32) InvalidState
+    ∷ row (eqb (stateReservedOf s) 0) InvalidState
+    ∷ row (leb 1 (entryCountOf s)) InvalidState
+    ∷ row (leb (entryCountOf s) 16) InvalidState
     ∷ []
 
 -- 01, each entry: "Order: 48 bytes present, entry length equal to 48 + key + aux, entry inside the state, slot above its
@@ -53,11 +53,11 @@ entryLayoutRows e least =
 
 unfoldable pub entryFieldRows : List ℕ → List Row
 entryFieldRows e =
-    row (leb 1 (numberAt e 8 2)) InvalidState
-    ∷ row (leb (numberAt e 6 2) 0x000f) InvalidState
-    ∷ row (leb (numberAt e 10 1) 1) InvalidVerifierRef
-    ∷ row (eqb (numberAt e 11 1) 1) InvalidVerifierRef
-    ∷ row (isSupportedAlgorithm (numberAt e 4 2)) UnsupportedAlgorithm
+    row (leb 1 (weightOf e)) InvalidState
+    ∷ row (leb (capabilitiesOf e) 0x000f) InvalidState
+    ∷ row (leb (hashTypeOf e) 1) InvalidVerifierRef
+    ∷ row (eqb (abiOf e) 1) InvalidVerifierRef
+    ∷ row (isSupportedAlgorithm (algorithmOf e)) UnsupportedAlgorithm
     ∷ row (eqb (keyLengthOf e) 32) InvalidState
     ∷ row (leb 1 (auxLengthOf e)) InvalidState
     ∷ []
@@ -94,7 +94,7 @@ thresholdRows flags spend rotate recovery since spendWeight rotateWeight recover
 unfoldable pub stateEndRows : List ℕ → ℕ → ℕ → ℕ → ℕ → List Row
 stateEndRows s tail spend rotate recovery =
     row (eqb tail 0) InvalidState
-    ∷ thresholdRows (numberAt s 5 1) (numberAt s 16 2) (numberAt s 18 2) (numberAt s 20 2) (numberAt s 24 8) spend rotate recovery
+    ∷ thresholdRows (flagsOf s) (spendThresholdOf s) (rotateThresholdOf s) (recoveryThresholdOf s) (recoverySinceOf s) spend rotate recovery
 
 -- the checks after the last entry; spend, rotate and recovery are capability bits 1, 2 and 4
 unfoldable pub stateTailRows : List ℕ → ℕ → List ℕ → List Row
@@ -103,7 +103,7 @@ stateTailRows s n e =
 
 -- all checks of a state
 unfoldable pub stateRows : List ℕ → List Row
-stateRows s = stateHeaderRows s ++ (entriesRows (numberAt s 22 1) (drop 32 s) 0 ++ stateTailRows s (numberAt s 22 1) (drop 32 s))
+stateRows s = stateHeaderRows s ++ (entriesRows (entryCountOf s) (entryBytesOf s) 0 ++ stateTailRows s (entryCountOf s) (entryBytesOf s))
 
 unfoldable pub stateFault : List ℕ → Check
 stateFault s = decide Passed (stateRows s)
@@ -112,13 +112,13 @@ stateFault s = decide Passed (stateRows s)
 unfoldable pub stateHeaderOf : List ℕ → StateHeader
 stateHeaderOf s =
     record {
-      flags = numberAt s 5 1;
-      sequence = numberAt s 8 8;
-      «spend_threshold» = numberAt s 16 2;
-      «rotate_threshold» = numberAt s 18 2;
-      «recovery_threshold» = numberAt s 20 2;
-      «authenticator_count» = numberAt s 22 1;
-      «recovery_since» = numberAt s 24 8;
+      flags = flagsOf s;
+      sequence = sequenceOf s;
+      «spend_threshold» = spendThresholdOf s;
+      «rotate_threshold» = rotateThresholdOf s;
+      «recovery_threshold» = recoveryThresholdOf s;
+      «authenticator_count» = entryCountOf s;
+      «recovery_since» = recoverySinceOf s;
     }
 
 unfoldable pub stateHeaderAnswer : Check → StateHeader → StateHeaderAnswer
@@ -143,11 +143,11 @@ unfoldable pub entryAt : List ℕ → ℕ → AuthenticatorEntry
 entryAt s at =
     record {
       slot = entrySlotOf (drop at s);
-      «algorithm_id» = numberAt (drop at s) 4 2;
-      capabilities = numberAt (drop at s) 6 2;
-      weight = numberAt (drop at s) 8 2;
-      «verifier_hash_type» = numberAt (drop at s) 10 1;
-      «verifier_abi» = numberAt (drop at s) 11 1;
+      «algorithm_id» = algorithmOf (drop at s);
+      capabilities = capabilitiesOf (drop at s);
+      weight = weightOf (drop at s);
+      «verifier_hash_type» = hashTypeOf (drop at s);
+      «verifier_abi» = abiOf (drop at s);
       «verifier_code_hash» = at + 12;
       «key_id» = at + 48;
       «key_len» = keyLengthOf (drop at s);
@@ -203,7 +203,7 @@ stateAnswer Passed h t = answer.Valid h t
 stateAnswer (Failed e) h t = answer.Refused e
 
 unfoldable pub readState : List ℕ → StateAnswer
-readState s = stateAnswer (stateFault s) (stateHeaderOf s) (summaryOf (entriesOf (numberAt s 22 1) (drop 32 s)))
+readState s = stateAnswer (stateFault s) (stateHeaderOf s) (summaryOf (stateEntries s))
 
 -- what the readers hand out of a state, with the header h and the weights t of its answer, is its reading: the header's fields, the
 -- weights of the entries, and at each step the next entry

@@ -1,4 +1,5 @@
 // The account state: header, authenticator entries one by one, and the whole state validated.
+mod fields; // fields.rt
 mod header; // header.rt
 mod entry; // entry.rt
 mod walk; // walk.rt
@@ -24,6 +25,22 @@ pub use self::entry::AuthenticatorEntry;
 pub use self::entry::EntryCursor;
 pub use self::entry::EntryStep;
 pub use self::entry::next_entry;
+pub use self::fields::algorithm_of;
+pub use self::fields::aux_of;
+pub use self::fields::capabilities_of;
+pub use self::fields::code_hash_of;
+pub use self::fields::entry_count_of;
+pub use self::fields::entry_length_of;
+pub use self::fields::entry_slot_of;
+pub use self::fields::flags_of;
+pub use self::fields::hash_type_of;
+pub use self::fields::key_of;
+pub use self::fields::recovery_since_of;
+pub use self::fields::recovery_threshold_of;
+pub use self::fields::rotate_threshold_of;
+pub use self::fields::sequence_of;
+pub use self::fields::spend_threshold_of;
+pub use self::fields::weight_of;
 pub use self::header::StateHeader;
 pub use self::header::StateHeaderAnswer;
 pub use self::thresholds::check_thresholds;

@@ -9,7 +9,6 @@ use borrow.Author.Tests.{eq-eqb, le-leb, leb-true}
 use lib.Dec.{leb, eqb}
 use lib.ListN.{length, drop, length-append}
 use lib.Seq.{drop-at}
-use Rattle.octets.specs.Le.{numberAt}
 use Rattle.octets.specs.Layout.{layoutBytes, layoutAt, fieldValue}
 use Rattle.octets.proofs.LayoutLaws.{length-numbers}
 use Rattle.protocol.specs.Rows.{row, _▷_, _then_, decide}
@@ -18,7 +17,8 @@ use Rattle.protocol.specs.declared.error.ProtocolError.the-variants.{InvalidSta
 use Rattle.protocol.specs.declared.check.Check.{Check}
 use Rattle.protocol.specs.declared.check.Check.the-variants.{Passed, Failed}
 use Rattle.protocol.proofs.AllPass.{decide-append, decide-failed, decide-then, passed-all-pass}
-use Rattle.account_state.specs.Reading.{EntryReading, StateReading, EntryTyped, EntriesTyped, StateTyped, stateMagic, entryHeadFields, entryLengthFields, entryBytes, entriesBytes, stateHeaderFields, stateHead, stateBytes, entryLengthOf, entrySlotOf, keyLengthOf, auxLengthOf, entryOf, capableWeight}
+use Rattle.account_state.specs.Fields.{auxLengthOf, entryLengthOf, entrySlotOf, keyLengthOf, abiOf, algorithmOf, capabilitiesOf, entryCountOf, flagsOf, hashTypeOf, recoverySinceOf, recoveryThresholdOf, rotateThresholdOf, spendThresholdOf, stateMagicOf, stateReservedOf, stateVersionOf, weightOf}
+use Rattle.account_state.specs.Reading.{EntryReading, StateReading, EntryTyped, EntriesTyped, StateTyped, stateMagic, entryHeadFields, entryLengthFields, entryBytes, entriesBytes, stateHeaderFields, stateHead, stateBytes, entryOf, capableWeight}
 use Rattle.account_state.specs.State.{stateHeaderRows, entryLayoutRows, entryFieldRows, entryRows, entriesRows, behindEntries, thresholdRows, stateEndRows, stateTailRows, stateRows, stateFault}
 use Rattle.account_state.proofs.Inverse.{Keys}
 use Rattle.account_state.proofs.Unique.{lengths-read, size-read, entry-read, entries-read, head-numbers, behind-head}
@@ -64,11 +64,11 @@ module _ (e : EntryReading) (t : List ℕ) (y : EntryTyped e) (k : length (e .ke
       let e₂ : eqb (entryLengthOf s) (48 + keyLengthOf s + auxLengthOf s) ≡ true = eq-eqb (entryLengthOf s) (48 + keyLengthOf s + auxLengthOf s) (omega arith) in
       let e₃ : leb (entryLengthOf s) (length s) ≡ true = le-leb (entryLengthOf s) (length s) (omega arith) in
       let e₄ : eqb (keyLengthOf s) 32 ≡ true = eq-eqb (keyLengthOf s) 32 m in
-      let f₁ : numberAt s 4 2 ≡ e .algorithm = ap (λ (x : EntryReading). x .algorithm) r in
-      let f₂ : numberAt s 6 2 ≡ e .capabilities = ap (λ (x : EntryReading). x .capabilities) r in
-      let f₃ : numberAt s 8 2 ≡ e .weight = ap (λ (x : EntryReading). x .weight) r in
-      let f₄ : numberAt s 10 1 ≡ e .hashType = ap (λ (x : EntryReading). x .hashType) r in
-      let f₅ : numberAt s 11 1 ≡ e .abi = ap (λ (x : EntryReading). x .abi) r in
+      let f₁ : algorithmOf s ≡ e .algorithm = ap (λ (x : EntryReading). x .algorithm) r in
+      let f₂ : capabilitiesOf s ≡ e .capabilities = ap (λ (x : EntryReading). x .capabilities) r in
+      let f₃ : weightOf s ≡ e .weight = ap (λ (x : EntryReading). x .weight) r in
+      let f₄ : hashTypeOf s ≡ e .hashType = ap (λ (x : EntryReading). x .hashType) r in
+      let f₅ : abiOf s ≡ e .abi = ap (λ (x : EntryReading). x .abi) r in
       rw (e₁, e₂, e₃, e₄, a, slot-read, f₁, f₂, f₃, f₄, f₅) (simp row-true)
 
 -- entries one behind another
@@ -96,11 +96,11 @@ module _ (r : StateReading) (y : StateTyped r) (k : Keys (r .entries)) (h : leng
   abbrev n : ℕ
   n = length (r .entries)
 
-  flags-read : numberAt b 5 1 ≡ r .flags
+  flags-read : flagsOf b ≡ r .flags
   unfolding stateHead stateHeaderFields layoutAt
   flags-read = ap (fieldValue 2) (head-numbers r y)
 
-  count-read : numberAt b 22 1 ≡ n
+  count-read : entryCountOf b ≡ n
   unfolding stateHead stateHeaderFields layoutAt
   count-read = ap (fieldValue 8) (head-numbers r y)
 
@@ -116,10 +116,10 @@ module _ (r : StateReading) (y : StateTyped r) (k : Keys (r .entries)) (h : leng
       let m = head-numbers r y in
       let e₁ : leb 32 (length b) ≡ true = le-leb 32 (length b) present in
       let e₂ : leb (length b) 16384 ≡ true = le-leb (length b) 16384 h in
-      let e₃ : eqb (numberAt b 0 4) stateMagic ≡ true = eq-eqb (numberAt b 0 4) stateMagic (ap (fieldValue 0) m) in
-      let e₄ : eqb (numberAt b 4 1) 1 ≡ true = eq-eqb (numberAt b 4 1) 1 (ap (fieldValue 1) m) in
-      let e₅ : eqb (numberAt b 6 2) 32 ≡ true = eq-eqb (numberAt b 6 2) 32 (ap (fieldValue 3) m) in
-      let e₆ : eqb (numberAt b 23 1) 0 ≡ true = eq-eqb (numberAt b 23 1) 0 (ap (fieldValue 9) m) in
+      let e₃ : eqb (stateMagicOf b) stateMagic ≡ true = eq-eqb (stateMagicOf b) stateMagic (ap (fieldValue 0) m) in
+      let e₄ : eqb (stateVersionOf b) 1 ≡ true = eq-eqb (stateVersionOf b) 1 (ap (fieldValue 1) m) in
+      let e₅ : eqb (capabilitiesOf b) 32 ≡ true = eq-eqb (capabilitiesOf b) 32 (ap (fieldValue 3) m) in
+      let e₆ : eqb (stateReservedOf b) 0 ≡ true = eq-eqb (stateReservedOf b) 0 (ap (fieldValue 9) m) in
       rw (e₁, e₂, e₃, e₄, e₅, e₆, flags-read, count-read) (simp row-true)
 
   end-checked : (c : Check) → decide c (stateTailRows b n (entriesBytes (r .entries)))
@@ -127,10 +127,10 @@ module _ (r : StateReading) (y : StateTyped r) (k : Keys (r .entries)) (h : leng
   unfolding stateTailRows stateEndRows stateHead stateHeaderFields layoutAt decide
   end-checked c =
       let m = head-numbers r y in
-      let f₁ : numberAt b 16 2 ≡ r .spend = ap (fieldValue 5) m in
-      let f₂ : numberAt b 18 2 ≡ r .rotate = ap (fieldValue 6) m in
-      let f₃ : numberAt b 20 2 ≡ r .recovery = ap (fieldValue 7) m in
-      let f₄ : numberAt b 24 8 ≡ r .since = ap (fieldValue 10) m in
+      let f₁ : spendThresholdOf b ≡ r .spend = ap (fieldValue 5) m in
+      let f₂ : rotateThresholdOf b ≡ r .rotate = ap (fieldValue 6) m in
+      let f₃ : recoveryThresholdOf b ≡ r .recovery = ap (fieldValue 7) m in
+      let f₄ : recoverySinceOf b ≡ r .since = ap (fieldValue 10) m in
       rw (entries-behind (r .entries) (y .entries), entries-read (r .entries) (y .entries), flags-read, f₁, f₂, f₃, f₄)
       (ap (λ (x : Check). decide x (thresholdRows (r .flags) (r .spend) (r .rotate) (r .recovery) (r .since) (capableWeight 1 (r .entries)) (capableWeight 2 (r .entries)) (capableWeight 4 (r .entries)))) (row-true c InvalidState))
 

@@ -17,9 +17,10 @@ use Rattle.octets.proofs.LeLaws.{length-to, bytes-drop, number-lt}
 use Rattle.octets.proofs.Parts.{join, part-length}
 use Rattle.octets.proofs.Stores.{sets-append, sets-lent}
 use borrow.Rule.Slice.PartMut.{midOf, putMid}
+use Rattle.account_state.specs.Fields.{recoverySinceOf, sequenceOf}
 use Rattle.account_state.specs.Reading.{EntryReading, EntryTyped, EntriesTyped, entrySize, entryHeadFields, entryLengthFields, entryBytes, entriesBytes, stateHeaderFields, capableShare, capableWeight}
 use Rattle.account_state.proofs.Inverse.{Keys}
-use Rattle.account_state_writer.specs.Writer.{auxOf, entryFrom, entryFieldNumbers, lengthNumbers, entryFront, entriesFrom, neededBytes}
+use Rattle.account_state_writer.specs.Writer.{lentAuxLength, entryFrom, entryFieldNumbers, lengthNumbers, entryFront, entriesFrom, neededBytes}
 use Rattle.account_state_writer.specs.Checks.{entryChecks, entriesChecks, lentWeight}
 use Rattle.protocol.specs.Rows.{decide}
 use Rattle.protocol.specs.declared.error.ProtocolError.{ProtocolError}
@@ -48,7 +49,7 @@ module _ (fields : List ℕ) (count i : ℕ) (h : i < count) where
       let e : 5 * i + 5 ≡ 5 * (i + 1) = omega arith in
       drop-drop 5 (5 * i) fields ∙ ap (λ (n : ℕ). drop n fields) e
 
-  aux-at : auxOf (drop (5 * i) fields) ≡ getD fields (5 * i + 4) 0
+  aux-at : lentAuxLength (drop (5 * i) fields) ≡ getD fields (5 * i + 4) 0
   aux-at = getD-drop (5 * i) fields 4 0
 
   pub needed-turn : neededBytes (count - i) (drop (5 * i) fields) ≡ 66 + getD fields (5 * i + 4) 0 + neededBytes (count - (i + 1)) (drop (5 * (i + 1)) fields)
@@ -91,7 +92,7 @@ pub weight-lent : (bit n : ℕ) (fields bytes : List ℕ) → capableWeight bit 
 unfolding capableWeight entriesFrom entryFrom lentWeight
 weight-lent bit zero fields bytes = refl
 weight-lent bit (suc n) fields bytes =
-    ap (λ (m : ℕ). capableShare bit (getD fields 2 0) (getD fields 3 0) + m) (weight-lent bit n (drop 5 fields) (drop (66 + auxOf fields) bytes))
+    ap (λ (m : ℕ). capableShare bit (getD fields 2 0) (getD fields 3 0) + m) (weight-lent bit n (drop 5 fields) (drop (66 + lentAuxLength fields) bytes))
 
 pub entries-none : (n : ℕ) (fields bytes : List ℕ) → n ≡ 0 → entriesBytes (entriesFrom n fields bytes) ≡ []
 unfolding entriesFrom entriesBytes
@@ -103,7 +104,7 @@ length-fields fields = length-numbers (entryFieldNumbers fields)
 
 -- a verifier's 34 bytes, stored as numbers
 pub verifier-stored : (v l : List ℕ) → Bytes v → length v ≡ 34
-    → sets (sets (sets (sets (sets l 10 (toLe 8 (numberAt v 0 8))) 18 (toLe 8 (numberAt v 8 8))) 26 (toLe 8 (numberAt v 16 8))) 34 (toLe 8 (numberAt v 24 8))) 42 (toLe 2 (numberAt v 32 2)) ≡ sets l 10 v
+    → sets (sets (sets (sets (sets l 10 (toLe 8 (numberAt v 0 8))) 18 (toLe 8 (numberAt v 8 8))) 26 (toLe 8 (numberAt v 16 8))) 34 (toLe 8 (recoverySinceOf v))) 42 (toLe 2 (numberAt v 32 2)) ≡ sets l 10 v
 verifier-stored v l b h =
     let part : (at : ℕ) → at + 8 ≤ 34 → length (take 8 (drop at v)) ≡ 8 = λ at k. part-length v at 8 (omega arith) in
     rw (
@@ -130,21 +131,21 @@ length-front fields verifier h =
     rw (length-append, length-fields fields, length-append, h, length-numbers (lengthNumbers fields))
 
 pub front-stored : (fields verifier l : List ℕ) → length verifier ≡ 34
-    → sets (sets (sets (sets l 0 (layoutBytes (entryFieldNumbers fields))) 10 verifier) 44 (toLe 2 32)) 46 (toLe 2 (auxOf fields)) ≡ sets l 0 (entryFront fields verifier)
+    → sets (sets (sets (sets l 0 (layoutBytes (entryFieldNumbers fields))) 10 verifier) 44 (toLe 2 32)) 46 (toLe 2 (lentAuxLength fields)) ≡ sets l 0 (entryFront fields verifier)
 unfolding entryFront lengthNumbers layoutBytes
 front-stored fields verifier l h =
     let f = layoutBytes (entryFieldNumbers fields) in
     rw (
-      sets-append (sets (sets l 0 f) 10 verifier) 44 (toLe 2 32) (toLe 2 (auxOf fields)) 46 (rw (length-to 2 32)),
-      sets-append (sets l 0 f) 10 verifier (toLe 2 32 ++ toLe 2 (auxOf fields)) 44 (rw h),
-      sets-append l 0 f (verifier ++ (toLe 2 32 ++ toLe 2 (auxOf fields))) 10 (rw (length-fields fields)),
-      append-nil (toLe 2 (auxOf fields)),
+      sets-append (sets (sets l 0 f) 10 verifier) 44 (toLe 2 32) (toLe 2 (lentAuxLength fields)) 46 (rw (length-to 2 32)),
+      sets-append (sets l 0 f) 10 verifier (toLe 2 32 ++ toLe 2 (lentAuxLength fields)) 44 (rw h),
+      sets-append l 0 f (verifier ++ (toLe 2 32 ++ toLe 2 (lentAuxLength fields))) 10 (rw (length-fields fields)),
+      append-nil (toLe 2 (lentAuxLength fields)),
     )
 
 -- the bytes of an entry: its numbers, 34 bytes as they are lent, two lengths, and the key and aux as they are lent
-module _ (fields bytes : List ℕ) (b : Bytes bytes) (h : 66 + auxOf fields ≤ length bytes) where
+module _ (fields bytes : List ℕ) (b : Bytes bytes) (h : 66 + lentAuxLength fields ≤ length bytes) where
   abbrev a : ℕ
-  a = auxOf fields
+  a = lentAuxLength fields
 
   pub entry-form : entryBytes (entryFrom fields bytes) ≡ layoutBytes (entryFieldNumbers fields) ++ (take 34 bytes ++ (layoutBytes (lengthNumbers fields) ++ take (32 + a) (drop 34 bytes)))
   unfolding entryBytes entryFrom entryHeadFields entryLengthFields entryFieldNumbers lengthNumbers layoutBytes
@@ -191,9 +192,9 @@ unfolding entriesBytes
 entries-next fields bytes count i at from out after whole h b room stored left =
     let f = drop (5 * i) fields in
     let g = drop from bytes in
-    let x : auxOf f ≡ getD fields (5 * i + 4) 0 = getD-drop (5 * i) fields 4 0 in
+    let x : lentAuxLength f ≡ getD fields (5 * i + 4) 0 = getD-drop (5 * i) fields 4 0 in
     let l : length g ≡ length bytes - from = length-drop from bytes in
-    let n : length (entryBytes (entryFrom f g)) ≡ 80 + auxOf f = length-entry f g (bytes-drop from bytes b) (omega arith) in
+    let n : length (entryBytes (entryFrom f g)) ≡ 80 + lentAuxLength f = length-entry f g (bytes-drop from bytes b) (omega arith) in
     rw (stored, sets-append out at (entryBytes (entryFrom f g)) _ (at + (80 + getD fields (5 * i + 4) 0)) (rw n (omega arith)))
     (ap (sets out at) (ap entriesBytes (sym (entries-turn fields count i h bytes from))) ∙ left)
 
@@ -203,7 +204,7 @@ pub entries-typed : (n : ℕ) (fields bytes : List ℕ) → ((i : ℕ) → getD 
 unfolding entriesFrom entryFrom neededBytes
 entries-typed zero fields bytes f b h k = (tt, tt)
 entries-typed (suc n) fields bytes f b h k =
-    let a = auxOf fields in
+    let a = lentAuxLength fields in
     let l : length (drop (66 + a) bytes) ≡ length bytes - (66 + a) = length-drop (66 + a) bytes in
     let m : length (take 32 (drop 34 bytes)) ≡ 32 = part-length bytes 34 32 (omega arith) in
     let x : length (take a (drop 66 bytes)) ≡ a = part-length bytes 66 a (omega arith) in
@@ -224,7 +225,7 @@ entries-typed (suc n) fields bytes f b h k =
 pub length-entries : (n : ℕ) (fields bytes : List ℕ) → length (entriesFrom n fields bytes) ≡ n
 unfolding entriesFrom
 length-entries zero fields bytes = refl
-length-entries (suc n) fields bytes = ap suc (length-entries n (drop 5 fields) (drop (66 + auxOf fields) bytes))
+length-entries (suc n) fields bytes = ap suc (length-entries n (drop 5 fields) (drop (66 + lentAuxLength fields) bytes))
 
 -- the length of what is written
 pub length-all : (n : ℕ) (fields bytes : List ℕ) → Bytes bytes → neededBytes n fields ≤ length bytes
@@ -232,10 +233,10 @@ pub length-all : (n : ℕ) (fields bytes : List ℕ) → Bytes bytes → neededB
 unfolding entriesFrom entriesBytes neededBytes
 length-all zero fields bytes b h = refl
 length-all (suc n) fields bytes b h =
-    let g = drop (66 + auxOf fields) bytes in
-    let l : length g ≡ length bytes - (66 + auxOf fields) = length-drop (66 + auxOf fields) bytes in
-    let e : length (entryBytes (entryFrom fields bytes)) ≡ 80 + auxOf fields = length-entry fields bytes b (omega arith) in
-    let r = length-all n (drop 5 fields) g (bytes-drop (66 + auxOf fields) bytes b) (omega arith) in
+    let g = drop (66 + lentAuxLength fields) bytes in
+    let l : length g ≡ length bytes - (66 + lentAuxLength fields) = length-drop (66 + lentAuxLength fields) bytes in
+    let e : length (entryBytes (entryFrom fields bytes)) ≡ 80 + lentAuxLength fields = length-entry fields bytes b (omega arith) in
+    let r = length-all n (drop 5 fields) g (bytes-drop (66 + lentAuxLength fields) bytes b) (omega arith) in
     rw (length-append, e, r) (omega arith)
 
 pub length-head : (flags sequence spend rotate recovery count since : ℕ) → length (layoutBytes (stateHeaderFields flags sequence spend rotate recovery count since)) ≡ 32

@@ -9,7 +9,7 @@ use borrow.Author.Tests.{eq-eqb, le-leb}
 use lib.Dec.{leb, eqb, lit<}
 use lib.ListN.{length, take, drop, getD, length-append}
 use lib.Seq.{drop-at, take-at}
-use Rattle.octets.specs.Le.{numberAt, Bytes}
+use Rattle.octets.specs.Le.{Bytes}
 use Rattle.octets.specs.Layout.{layoutBytes}
 use Rattle.octets.proofs.LayoutLaws.{length-numbers}
 use Rattle.octets.proofs.LeLaws.{number-one, number-lt, bytes-take, bytes-drop, bytes-append}
@@ -18,10 +18,11 @@ use Rattle.protocol.specs.Rows.{AllPass}
 use Rattle.protocol.specs.Reading.{WritesBack}
 use Rattle.protocol.proofs.AllPass.{all-pass-append}
 use Rattle.protocol.proofs.Back.{writes-back}
-use Rattle.account_state.specs.Reading.{EntryReading, StateReading, EntryTyped, EntriesTyped, entryHeadFields, entryLengthFields, entryBytes, entriesBytes, stateHead, stateBytes, entryLengthOf, keyLengthOf, auxLengthOf, entryOf, entriesOf, stateReading}
+use Rattle.account_state.specs.Fields.{auxLengthOf, entryLengthOf, keyLengthOf, entryCountOf}
+use Rattle.account_state.specs.Reading.{EntryReading, StateReading, EntryTyped, EntriesTyped, entryHeadFields, entryLengthFields, entryBytes, entriesBytes, stateHead, stateBytes, entryOf, entriesOf, stateReading}
 use Rattle.account_state.specs.State.{stateRows}
 use Rattle.account_state.proofs.Inverse.{Keys, state-back, state-typed, state-keys, state-limits}
-use Rattle.account_state_writer.specs.Writer.{auxOf, entryFrom, entriesFrom, neededBytes, entryCount, stateTotal, sliceRows, stateWriterRows, stateFrom, stateWritten, stateStored, entriesFields, entriesPayload, StateFits}
+use Rattle.account_state_writer.specs.Writer.{lentAuxLength, entryFrom, entriesFrom, neededBytes, entryCount, stateTotal, sliceRows, stateWriterRows, stateFrom, stateWritten, stateStored, entriesFields, entriesPayload, StateFits}
 use Rattle.account_state_writer.proofs.Lent.{length-head}
 
 -- the first entry's part of the bytes
@@ -176,7 +177,7 @@ module _ (s : List ℕ) (b : Bytes s) (h : AllPass (stateRows s)) where
         recovery = y .recovery;
         since = y .since;
         fields = fields-fit (r .entries) (y .entries);
-        bytes = entries-bytes (numberAt s 22 1) (drop 32 s) (bytes-drop 32 s b);
+        bytes = entries-bytes (entryCountOf s) (drop 32 s) (bytes-drop 32 s b);
         lengths = (omega arith, omega arith);
       }
 

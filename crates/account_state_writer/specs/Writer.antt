@@ -15,8 +15,8 @@ use Rattle.account_state.specs.Reading.{EntryReading, StateReading, stateBytes}
 use Rattle.account_state.specs.State.{stateRows}
 
 -- the length of the aux of the first entry
-abbrev pub auxOf : List ℕ → ℕ
-auxOf fields = getD fields 4 0
+abbrev pub lentAuxLength : List ℕ → ℕ
+lentAuxLength fields = getD fields 4 0
 
 unfoldable pub entryFrom : List ℕ → List ℕ → EntryReading
 entryFrom fields bytes =
@@ -29,13 +29,13 @@ entryFrom fields bytes =
       abi = numberAt bytes 1 1;
       codeHash = take 32 (drop 2 bytes);
       key = take 32 (drop 34 bytes);
-      aux = take (auxOf fields) (drop 66 bytes);
+      aux = take (lentAuxLength fields) (drop 66 bytes);
     }
 
 -- the first five numbers of an entry's layout, whose key has 32 bytes
 unfoldable pub entryFieldNumbers : List ℕ → List Field
 entryFieldNumbers fields =
-    record { width = 2; value = 80 + auxOf fields }
+    record { width = 2; value = 80 + lentAuxLength fields }
     ∷ record { width = 2; value = getD fields 0 0 }
     ∷ record { width = 2; value = getD fields 1 0 }
     ∷ record { width = 2; value = getD fields 2 0 }
@@ -44,19 +44,19 @@ entryFieldNumbers fields =
 
 -- the 48 bytes before an entry's key: these numbers, the bytes of its verifier, and the lengths of key and aux
 unfoldable pub lengthNumbers : List ℕ → List Field
-lengthNumbers fields = record { width = 2; value = 32 } ∷ record { width = 2; value = auxOf fields } ∷ []
+lengthNumbers fields = record { width = 2; value = 32 } ∷ record { width = 2; value = lentAuxLength fields } ∷ []
 
 unfoldable pub entryFront : List ℕ → List ℕ → List ℕ
 entryFront fields verifier = layoutBytes (entryFieldNumbers fields) ++ (verifier ++ layoutBytes (lengthNumbers fields))
 
 unfoldable pub entriesFrom : ℕ → List ℕ → List ℕ → List EntryReading
 entriesFrom zero fields bytes = []
-entriesFrom (suc n) fields bytes = entryFrom fields bytes ∷ entriesFrom n (drop 5 fields) (drop (66 + auxOf fields) bytes)
+entriesFrom (suc n) fields bytes = entryFrom fields bytes ∷ entriesFrom n (drop 5 fields) (drop (66 + lentAuxLength fields) bytes)
 
 -- how many bytes n entries have
 unfoldable pub neededBytes : ℕ → List ℕ → ℕ
 neededBytes zero fields = 0
-neededBytes (suc n) fields = 66 + auxOf fields + neededBytes n (drop 5 fields)
+neededBytes (suc n) fields = 66 + lentAuxLength fields + neededBytes n (drop 5 fields)
 
 unfoldable pub entryCount : List ℕ → ℕ
 entryCount fields = length fields / 5

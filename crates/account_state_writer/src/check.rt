@@ -18,7 +18,7 @@ ghost use lib.ListN.{length};
 ghost use Rattle.protocol.specs.Rows.{decide};
 ghost use Rattle.protocol.specs.declared.check.Check.the-variants.{Passed};
 ghost use Rattle.account_state.specs.State.{thresholdRows};
-ghost use Rattle.account_state_writer.specs.Writer.{auxOf, entryFrom, entriesFrom, neededBytes, entryCount};
+ghost use Rattle.account_state_writer.specs.Writer.{lentAuxLength, entryFrom, entriesFrom, neededBytes, entryCount};
 ghost use Rattle.account_state_writer.specs.Checks.{headChecks, entryChecks, entriesChecks, stateChecks, lentWeight};
 
 fn check_head(flags: u8, count: usize) -> Check
@@ -33,7 +33,7 @@ fn check_head(flags: u8, count: usize) -> Check
 
 // The entry at the front of the slices.
 fn check_entry(fields: &[u16], bytes: &[u8], least: u32) -> Check
-    requires { ⌜ (5 ≤ length (now fields)) × (66 + auxOf (now fields) ≤ length (now bytes)) ⌝ }
+    requires { ⌜ (5 ≤ length (now fields)) × (66 + lentAuxLength (now fields) ≤ length (now bytes)) ⌝ }
     ensures { λ r. ⌜ r ≡ decide Passed (entryChecks (entryFrom (now (fields .entry)) (now (bytes .entry))) least) ⌝ }
 {
     let invalid = ProtocolError::InvalidState;

@@ -11,7 +11,7 @@ ghost use lib.ListN.{length};
 ghost use lib.Seq.{sets};
 ghost use Rattle.octets.specs.Layout.{layoutBytes};
 ghost use Rattle.account_state.specs.Reading.{stateHeaderFields, stateBytes, entryBytes, entriesBytes};
-ghost use Rattle.account_state_writer.specs.Writer.{auxOf, entryFieldNumbers, entryFront, entryFrom, entriesFrom, neededBytes, entryCount, stateFrom};
+ghost use Rattle.account_state_writer.specs.Writer.{lentAuxLength, entryFieldNumbers, entryFront, entryFrom, entriesFrom, neededBytes, entryCount, stateFrom};
 
 fn store_head(
     out: &mut [u8],
@@ -75,7 +75,7 @@ fn store_front(front: &mut [u8], fields: &[u16], verifier: &[u8])
 
 // The entry at the front of the slices. Its first part is lent just its 48 bytes, so that no store there looks for the end.
 fn store_entry(out: &mut [u8], at: usize, fields: &[u16], bytes: &[u8])
-    requires { ⌜ (at + 80 + auxOf (now fields) ≤ length (now out)) × ((5 ≤ length (now fields)) × (66 + auxOf (now fields) ≤ length (now bytes))) ⌝ }
+    requires { ⌜ (at + 80 + lentAuxLength (now fields) ≤ length (now out)) × ((5 ≤ length (now fields)) × (66 + lentAuxLength (now fields) ≤ length (now bytes))) ⌝ }
     ensures { λ _. ⌜ now (out .exit) ≡ sets (now (out .entry)) at (entryBytes (entryFrom (now (fields .entry)) (now (bytes .entry)))) ⌝ }
 {
     let key = at + 48;

@@ -4,7 +4,6 @@ use mathlib.Core.Path.{_≡_, refl}
 use mathlib.Core.List.{List}
 use mathlib.Core.Logic.{_↔_}
 use Prim.Native.Nat.{ℕ, zero, suc}
-use Rattle.octets.specs.Le.{numberAt}
 use Rattle.protocol.specs.Errors.{errorNumber}
 use Rattle.protocol.specs.Rows.{decide, AllPass, FirstFailed}
 use Rattle.protocol.specs.declared.error.ProtocolError.{ProtocolError}
@@ -13,6 +12,7 @@ use Rattle.protocol.specs.declared.check.Check.the-variants.{Passed, Failed}
 use Rattle.protocol.proofs.AllPass.{passed-all-pass}
 use Rattle.protocol.proofs.Answers.{answer-found, answer-given, answer-accepts, answer-refuses}
 use Rattle.protocol.proofs.Each.{Each, each-append, each-failed}
+use Rattle.account_witness.specs.Fields.{proofCountOf}
 use Rattle.account_witness.specs.declared.header.AccountWitnessHeader.{AccountWitnessHeader}
 use Rattle.account_witness.specs.declared.header.WitnessHeaderAnswer.{WitnessHeaderAnswer}
 use Rattle.account_witness.specs.declared.header.WitnessHeaderAnswer.the-variants as header
@@ -46,7 +46,7 @@ proofs-only s (suc n) off least = each-append Is22 (proofLayoutRows s off least)
 
 witness-only : (s : List ℕ) → Each Is22 (witnessRows s)
 unfolding witnessRows
-witness-only s = each-append Is22 (witnessHeaderRows s) _ (header-only s) (refl, proofs-only s (numberAt s 6 1) 16 0)
+witness-only s = each-append Is22 (witnessHeaderRows s) _ (header-only s) (refl, proofs-only s (proofCountOf s) 16 0)
 
 -- the header: what the checks found, by the answer
 abbrev pub headerFound : WitnessHeaderAnswer → Check

@@ -9,7 +9,7 @@ use native.Mathlib.Omega.{arith}
 use borrow.Author.Tests.{leb-true, eqb-true}
 use lib.ListN.{length, take, drop}
 use lib.Seq.{take-add, take-all}
-use Rattle.octets.specs.Le.{numberAt, Bytes}
+use Rattle.octets.specs.Le.{Bytes}
 use Rattle.octets.specs.Lists.{joined}
 use Rattle.octets.specs.Layout.{layoutBytes, layoutAt}
 use Rattle.octets.proofs.LeLaws.{number-lt}
@@ -18,6 +18,7 @@ use Rattle.octets.proofs.Parts.{part-length, join}
 use Rattle.protocol.specs.Policy.{isOperation}
 use Rattle.protocol.specs.Rows.{AllPass}
 use Rattle.protocol.proofs.AllPass.{all-pass-split}
+use Rattle.account_witness.specs.Fields.{operationOf, proofCountOf, proofLengthAt, proofSlotAt, witnessMagicOf, witnessReservedOf, witnessSequenceOf, witnessVersionOf}
 use Rattle.account_witness.specs.Header.{witnessMagic, witnessHeaderRows, witnessHeaderFields}
 use Rattle.account_witness.specs.Walk.{proofLayoutRows, proofAt, proofsLayoutRows}
 use Rattle.account_witness.specs.Witness.{witnessRows}
@@ -28,12 +29,12 @@ use Rattle.account_witness.proofs.WalkLaws.{ProofHolds, proof-holds}
 pub record WitnessHolds (s : List ℕ) : Type 0 where
   pub present : 16 ≤ length s
   pub most : length s ≤ 131072
-  pub magic : numberAt s 0 4 ≡ witnessMagic
-  pub version : numberAt s 4 1 ≡ 1
-  pub operation : isOperation (numberAt s 5 1) ≡ true
-  pub zeros : numberAt s 7 1 ≡ 0
-  pub count : numberAt s 6 1 ≤ 16
-  pub proofs : AllPass (proofsLayoutRows s (numberAt s 6 1) 16 0)
+  pub magic : witnessMagicOf s ≡ witnessMagic
+  pub version : witnessVersionOf s ≡ 1
+  pub operation : isOperation (operationOf s) ≡ true
+  pub zeros : witnessReservedOf s ≡ 0
+  pub count : proofCountOf s ≤ 16
+  pub proofs : AllPass (proofsLayoutRows s (proofCountOf s) 16 0)
 
 pub witness-holds : (s : List ℕ) → AllPass (witnessRows s) → WitnessHolds s
 unfolding witnessRows witnessHeaderRows
@@ -51,7 +52,7 @@ witness-holds s h =
 
 -- the rows of one proof, and of those behind it
 pub proofs-split : (s : List ℕ) (n off least : ℕ) → AllPass (proofsLayoutRows s (suc n) off least)
-    → ProofHolds s off least × AllPass (proofsLayoutRows s n (off + 8 + numberAt s (off + 4) 4) (numberAt s off 2 + 1))
+    → ProofHolds s off least × AllPass (proofsLayoutRows s n (off + 8 + proofLengthAt s off) (proofSlotAt s off + 1))
 unfolding proofsLayoutRows
 proofs-split s n off least h = let z = all-pass-split (proofLayoutRows s off least) _ h in (proof-holds s off least (z .0), z .1)
 
@@ -67,10 +68,10 @@ length-readings s (suc n) off = ap suc (length-readings s n _)
 module _ (s : List ℕ) (b : Bytes s) where
   -- a proof is written back
   proof-back : (off least : ℕ) → ProofHolds s off least
-      → proofBytes (proofReading s (proofAt s off)) ≡ take (8 + numberAt s (off + 4) 4) (drop off s)
+      → proofBytes (proofReading s (proofAt s off)) ≡ take (8 + proofLengthAt s off) (drop off s)
   unfolding proofBytes proofFields proofReading proofAt layoutAt
   proof-back off least z =
-      let n = numberAt s (off + 4) 4 in
+      let n = proofLengthAt s off in
       let i = z .inside in
       let head = rw (z .zeros) at (simp add-assoc at (table-back (2 ∷ 2 ∷ 4 ∷ []) s off b (omega arith))) in
       rw (part-length s (off + 8) n i, head, join s off 8 n (off + 8) refl)
@@ -78,7 +79,7 @@ module _ (s : List ℕ) (b : Bytes s) where
   proof-typed : (off least : ℕ) → ProofHolds s off least → ProofTyped (proofReading s (proofAt s off))
   unfolding proofReading proofAt
   proof-typed off least z =
-      record { slot = number-lt s off 2 b; len = rw (part-length s (off + 8) (numberAt s (off + 4) 4) (z .inside)) (number-lt s (off + 4) 4 b) }
+      record { slot = number-lt s off 2 b; len = rw (part-length s (off + 8) (proofLengthAt s off) (z .inside)) (number-lt s (off + 4) 4 b) }
 
   -- n proofs are, to the end
   proofs-back : (n off least : ℕ) → AllPass (proofsLayoutRows s n off least) → take off s ++ proofsBytes (proofReadings s n off) ≡ s
@@ -88,7 +89,7 @@ module _ (s : List ℕ) (b : Bytes s) where
       append-nil (take off s) ∙ take-all off s (omega arith)
   proofs-back (suc n) off least h =
       let z = proofs-split s n off least h in
-      rw (proof-back off least (z .0), ← append-assoc, ← take-add off (8 + numberAt s (off + 4) 4) s, ← add-assoc) (proofs-back n _ _ (z .1))
+      rw (proof-back off least (z .0), ← append-assoc, ← take-add off (8 + proofLengthAt s off) s, ← add-assoc) (proofs-back n _ _ (z .1))
 
   proofs-typed : (n off least : ℕ) → AllPass (proofsLayoutRows s n off least) → ProofsTyped (proofReadings s n off)
   unfolding proofReadings
@@ -97,7 +98,7 @@ module _ (s : List ℕ) (b : Bytes s) where
       let z = proofs-split s n off least h in
       (proof-typed off least (z .0), proofs-typed n _ _ (z .1))
 
-  header-back : WitnessHolds s → layoutBytes (witnessHeaderFields (numberAt s 5 1) (numberAt s 6 1) (numberAt s 8 8)) ≡ take 16 s
+  header-back : WitnessHolds s → layoutBytes (witnessHeaderFields (operationOf s) (proofCountOf s) (witnessSequenceOf s)) ≡ take 16 s
   unfolding witnessHeaderFields layoutAt
   header-back z = rw (z .magic, z .version, z .zeros) at (table-back (4 ∷ 1 ∷ 1 ∷ 1 ∷ 1 ∷ 8 ∷ []) s 0 b (z .present))
 
@@ -106,7 +107,7 @@ module _ (s : List ℕ) (b : Bytes s) where
   unfolding witnessBytes witnessReading
   witness-back h =
       let z = witness-holds s h in
-      rw (length-readings s (numberAt s 6 1) 16, header-back z) (proofs-back (numberAt s 6 1) 16 0 (z .proofs))
+      rw (length-readings s (proofCountOf s) 16, header-back z) (proofs-back (proofCountOf s) 16 0 (z .proofs))
 
   pub witness-typed : AllPass (witnessRows s) → WitnessTyped (witnessReading s)
   unfolding witnessReading
@@ -114,6 +115,6 @@ module _ (s : List ℕ) (b : Bytes s) where
       record {
         operation = number-lt s 5 1 b;
         sequence = number-lt s 8 8 b;
-        count = rw (length-readings s (numberAt s 6 1) 16) (number-lt s 6 1 b);
-        proofs = proofs-typed (numberAt s 6 1) 16 0 (witness-holds s h .proofs);
+        count = rw (length-readings s (proofCountOf s) 16) (number-lt s 6 1 b);
+        proofs = proofs-typed (proofCountOf s) 16 0 (witness-holds s h .proofs);
       }

@@ -6,9 +6,9 @@ use Prim.Native.Nat.{ℕ, zero, suc, _+_, _<_}
 use native.Mathlib.Nat.{add-zero, zero-add}
 use native.Mathlib.Omega.{arith}
 use lib.ListN.{length, getD}
-use Rattle.octets.specs.Le.{numberAt}
 use Rattle.protocol.specs.Rows.{AllPass}
 use Rattle.protocol.proofs.AllPass.{all-pass-split}
+use Rattle.account_witness.specs.Fields.{proofCountOf}
 use Rattle.account_witness.specs.declared.walk.Proof.{Proof}
 use Rattle.account_witness.specs.declared.walk.ProofCursor.{ProofCursor}
 use Rattle.account_witness.specs.declared.walk.ProofStep.the-variants.{Next}
@@ -42,10 +42,10 @@ readings-from s d (suc n) k (suc i) h =
     let l : i < n = omega arith in
     rw (readings-unrolled s n k, e) (readings-from s d n (suc k) i l)
 
-pub reading-at : (s : List ℕ) (d : ProofReading) (i : ℕ) → i < numberAt s 6 1
+pub reading-at : (s : List ℕ) (d : ProofReading) (i : ℕ) → i < proofCountOf s
     → getD (witnessReading s .proofs) i d ≡ proofReading s (proofAt s (proofCursorAt s i .offset))
 unfolding witnessReading proofCursorAt
-reading-at s d i h = rw zero-add at (readings-from s d (numberAt s 6 1) 0 i h)
+reading-at s d i h = rw zero-add at (readings-from s d (proofCountOf s) 0 i h)
 
 -- where the rows of n proofs hold, so do those of each,
 rows-from : (s : List ℕ) (n k i : ℕ) → AllPass (proofsLayoutRows s n (proofCursorAt s k .offset) (proofCursorAt s k .least)) → i < n
@@ -72,20 +72,20 @@ unfolding proofCursorAt
 step-on s i p d h = let z = step-next s (proofCursorAt s i) p d h in (z .1, z .2)
 
 -- so that what it hands out reads as the i-th proof, whatever follows
-pub step-given : (s : List ℕ) (i : ℕ) (p : Proof) (d : ProofCursor) → i < numberAt s 6 1 → proofStep s (proofCursorAt s i) ≡ Next p d
+pub step-given : (s : List ℕ) (i : ℕ) (p : Proof) (d : ProofCursor) → i < proofCountOf s → proofStep s (proofCursorAt s i) ≡ Next p d
     → (q : ProofReading) → getD (witnessReading s .proofs) i q ≡ proofReading s p
 step-given s i p d l h q = reading-at s q i l ∙ ap (proofReading s) (step-on s i p d h .0)
 
 -- in an accepted witness lock each step goes on, with its proof of the reading
-pub steps : (s : List ℕ) → AllPass (witnessRows s) → (i : ℕ) → i < numberAt s 6 1 → ProofStepGives s i
+pub steps : (s : List ℕ) → AllPass (witnessRows s) → (i : ℕ) → i < proofCountOf s → ProofStepGives s i
 unfolding proofCursorAt
 steps s h i l =
     record {
-      step = proof-step-accepts s (proofCursorAt s i) .1 (rw zero-add at (rows-from s (numberAt s 6 1) 0 i (witness-holds s h .proofs) l));
+      step = proof-step-accepts s (proofCursorAt s i) .1 (rw zero-add at (rows-from s (proofCountOf s) 0 i (witness-holds s h .proofs) l));
       reading = λ d. reading-at s d i l;
     }
 
 -- after them the cursor is at the end
-pub steps-end : (s : List ℕ) → AllPass (witnessRows s) → proofCursorAt s (numberAt s 6 1) .offset ≡ length s
+pub steps-end : (s : List ℕ) → AllPass (witnessRows s) → proofCursorAt s (proofCountOf s) .offset ≡ length s
 unfolding proofCursorAt
-steps-end s h = rw zero-add at (end-from s (numberAt s 6 1) 0 (witness-holds s h .proofs))
+steps-end s h = rw zero-add at (end-from s (proofCountOf s) 0 (witness-holds s h .proofs))

@@ -6,11 +6,11 @@ use Prim.Native.Nat.{ℕ, _+_}
 use native.Mathlib.Nat.{add-assoc}
 use native.Mathlib.Omega.{arith}
 use lib.ListN.{length, take, drop, length-append}
-use Rattle.octets.specs.Le.{numberAt}
 use Rattle.octets.specs.Lists.{joined}
 use Rattle.octets.specs.Layout.{layoutBytes, layoutAt, fieldValue}
 use Rattle.octets.proofs.LayoutLaws.{numbers-back, length-numbers}
 use Rattle.octets.proofs.Parts.{part-back}
+use Rattle.account_witness.specs.Fields.{operationOf, proofCountOf, proofLengthAt, proofSlotAt, witnessSequenceOf}
 use Rattle.account_witness.specs.Header.{witnessHeaderFields}
 use Rattle.account_witness.specs.Walk.{proofAt}
 use Rattle.account_witness.specs.Reading.{ProofReading, WitnessReading, proofFields, proofBytes, proofsBytes, witnessBytes, proofReading, proofReadings, witnessReading, ProofTyped, ProofsTyped, WitnessTyped}
@@ -26,7 +26,7 @@ module _ (s p t : List ℕ) (off : ℕ) (q : ProofReading) (y : ProofTyped q) (e
   unfolding proofBytes proofFields
   table-read = numbers-back (proofFields (q .slot) (length (q .bytes))) s p (q .bytes ++ t) off (omega arith) (e ∙ simp append-assoc) l
 
-  pub len-read : numberAt s (off + 4) 4 ≡ length (q .bytes)
+  pub len-read : proofLengthAt s off ≡ length (q .bytes)
   unfolding proofFields layoutAt
   len-read = simp add-assoc at (ap (fieldValue 2) table-read)
 
@@ -40,7 +40,7 @@ module _ (s p t : List ℕ) (off : ℕ) (q : ProofReading) (y : ProofTyped q) (e
   proof-read : proofReading s (proofAt s off) ≡ q
   unfolding proofReading proofAt proofFields layoutAt
   proof-read =
-      let v : numberAt s off 2 ≡ q .slot = ap (fieldValue 0) table-read in
+      let v : proofSlotAt s off ≡ q .slot = ap (fieldValue 0) table-read in
       rw (v, len-read, bytes-read)
 
 -- proofs one behind another
@@ -51,9 +51,9 @@ proofs-read [] s p t off y e l = refl
 proofs-read (q ∷ qs) s p t off y e l =
     let e₁ : s ≡ p ++ (proofBytes q ++ (proofsBytes qs ++ t)) = e ∙ simp append-assoc in
     let e₂ : s ≡ (p ++ proofBytes q) ++ (proofsBytes qs ++ t) = e ∙ simp append-assoc in
-    let n : numberAt s (off + 4) 4 ≡ length (q .bytes) = len-read s p (proofsBytes qs ++ t) off q (y .0) e₁ l in
-    let l₂ : length (p ++ proofBytes q) ≡ off + 8 + numberAt s (off + 4) 4 = rw (length-append p (proofBytes q), l, length-proof q, n, add-assoc) in
-    rw (proof-read s p (proofsBytes qs ++ t) off q (y .0) e₁ l, proofs-read qs s (p ++ proofBytes q) t (off + 8 + numberAt s (off + 4) 4) (y .1) e₂ l₂)
+    let n : proofLengthAt s off ≡ length (q .bytes) = len-read s p (proofsBytes qs ++ t) off q (y .0) e₁ l in
+    let l₂ : length (p ++ proofBytes q) ≡ off + 8 + proofLengthAt s off = rw (length-append p (proofBytes q), l, length-proof q, n, add-assoc) in
+    rw (proof-read s p (proofsBytes qs ++ t) off q (y .0) e₁ l, proofs-read qs s (p ++ proofBytes q) t (off + 8 + proofLengthAt s off) (y .1) e₂ l₂)
 
 -- the header
 pub header-read : (r : WitnessReading) → WitnessTyped r
@@ -69,7 +69,7 @@ witness-read r y =
     let t = witnessHeaderFields (r .operation) (length (r .proofs)) (r .sequence) in
     let s = witnessBytes r in
     let h = header-read r y in
-    let e₁ : numberAt s 5 1 ≡ r .operation = ap (fieldValue 2) h in
-    let e₂ : numberAt s 6 1 ≡ length (r .proofs) = ap (fieldValue 3) h in
-    let e₃ : numberAt s 8 8 ≡ r .sequence = ap (fieldValue 5) h in
+    let e₁ : operationOf s ≡ r .operation = ap (fieldValue 2) h in
+    let e₂ : proofCountOf s ≡ length (r .proofs) = ap (fieldValue 3) h in
+    let e₃ : witnessSequenceOf s ≡ r .sequence = ap (fieldValue 5) h in
     rw (e₁, e₂, e₃, proofs-read (r .proofs) s (layoutBytes t) [] 16 (y .proofs) (simp append-nil) (length-numbers t))

@@ -8,7 +8,6 @@ use native.Mathlib.Omega.{arith}
 use borrow.Author.Tests.{leb-true, eqb-true}
 use lib.Dec.{eqb}
 use lib.ListN.{length}
-use Rattle.octets.specs.Le.{numberAt}
 use Rattle.protocol.specs.Rows.{row, _▷_, decide, AllPass}
 use Rattle.protocol.specs.declared.error.ProtocolError.{ProtocolError}
 use Rattle.protocol.specs.declared.error.ProtocolError.the-variants.{InvalidWitness}
@@ -16,6 +15,7 @@ use Rattle.protocol.specs.declared.check.Check.{Check}
 use Rattle.protocol.specs.declared.check.Check.the-variants.{Passed, Failed}
 use Rattle.protocol.proofs.AllPass.{decide-append, decide-failed}
 use Rattle.protocol.proofs.Answers.{answer-found, answer-given}
+use Rattle.account_witness.specs.Fields.{proofLengthAt, proofReservedAt, proofSlotAt}
 use Rattle.account_witness.specs.declared.walk.Proof.{Proof}
 use Rattle.account_witness.specs.declared.walk.ProofCursor.{ProofCursor}
 use Rattle.account_witness.specs.declared.walk.ProofStep.the-variants.{Next, Refused}
@@ -29,10 +29,10 @@ row-passed b e h = rw h
 
 -- what the rows of a proof say
 pub record ProofHolds (s : List ℕ) (off least : ℕ) : Type 0 where
-  pub zeros : numberAt s (off + 2) 2 ≡ 0
-  pub inside : off + 8 + numberAt s (off + 4) 4 ≤ length s
-  pub some : 1 ≤ numberAt s (off + 4) 4
-  pub above : least ≤ numberAt s off 2
+  pub zeros : proofReservedAt s off ≡ 0
+  pub inside : off + 8 + proofLengthAt s off ≤ length s
+  pub some : 1 ≤ proofLengthAt s off
+  pub above : least ≤ proofSlotAt s off
 
 pub proof-holds : (s : List ℕ) (off least : ℕ) → AllPass (proofLayoutRows s off least) → ProofHolds s off least
 unfolding proofLayoutRows
@@ -62,7 +62,7 @@ step-refused s c e h = answer-found (stepBy s c) stepFound (step-back _ _) _ (Fa
 -- a proof's rows, and then those of the proofs behind it
 pub walk-more : (s : List ℕ) (left off least : ℕ) → 0 < left
     → decide Passed (proofsLayoutRows s left off least)
-    ≡ decide (decide Passed (proofLayoutRows s off least)) (proofsLayoutRows s (left - 1) (off + 8 + numberAt s (off + 4) 4) (numberAt s off 2 + 1))
+    ≡ decide (decide Passed (proofLayoutRows s off least)) (proofsLayoutRows s (left - 1) (off + 8 + proofLengthAt s off) (proofSlotAt s off + 1))
 unfolding proofsLayoutRows
 walk-more s left off least p =
     let l : left ≡ suc (left - 1) = omega arith in

@@ -4,7 +4,6 @@ use Prim.Native.Nat.{ℕ}
 use mathlib.Core.List.{List, [], _∷_}
 use lib.Dec.{leb, eqb}
 use lib.ListN.{length}
-use Rattle.octets.specs.Le.{numberAt}
 use Rattle.octets.specs.Layout.{Field}
 use Rattle.protocol.specs.Errors.{errorNumber}
 use Rattle.protocol.specs.Policy.{isOperation}
@@ -12,6 +11,7 @@ use Rattle.protocol.specs.Rows.{Row, row, decide}
 use Rattle.protocol.specs.declared.error.ProtocolError.the-variants.{InvalidWitness}
 use Rattle.protocol.specs.declared.check.Check.{Check}
 use Rattle.protocol.specs.declared.check.Check.the-variants.{Passed, Failed}
+use Rattle.account_witness.specs.Fields.{witnessMagicOf, witnessVersionOf, operationOf, proofCountOf, witnessReservedOf, witnessSequenceOf}
 use Rattle.account_witness.specs.declared.header.AccountWitnessHeader.{AccountWitnessHeader}
 use Rattle.account_witness.specs.declared.header.WitnessHeaderAnswer.{WitnessHeaderAnswer}
 use Rattle.account_witness.specs.declared.header.WitnessHeaderAnswer.the-variants.{Header, Refused}
@@ -24,17 +24,17 @@ unfoldable pub witnessHeaderRows : List ℕ → List Row
 witnessHeaderRows s =
     row (leb 16 (length s)) InvalidWitness
     ∷ row (leb (length s) 131072) InvalidWitness
-    ∷ row (eqb (numberAt s 0 4) witnessMagic) InvalidWitness
-    ∷ row (eqb (numberAt s 4 1) 1) InvalidWitness
-    ∷ row (isOperation (numberAt s 5 1)) InvalidWitness
-    ∷ row (eqb (numberAt s 7 1) 0) InvalidWitness
+    ∷ row (eqb (witnessMagicOf s) witnessMagic) InvalidWitness
+    ∷ row (eqb (witnessVersionOf s) 1) InvalidWitness
+    ∷ row (isOperation (operationOf s)) InvalidWitness
+    ∷ row (eqb (witnessReservedOf s) 0) InvalidWitness
     ∷ []
 
 unfoldable pub witnessHeaderFault : List ℕ → Check
 witnessHeaderFault s = decide Passed (witnessHeaderRows s)
 
 unfoldable pub witnessHeaderOf : List ℕ → AccountWitnessHeader
-witnessHeaderOf s = record { operation = numberAt s 5 1; «proof_count» = numberAt s 6 1; «state_sequence» = numberAt s 8 8 }
+witnessHeaderOf s = record { operation = operationOf s; «proof_count» = proofCountOf s; «state_sequence» = witnessSequenceOf s }
 
 unfoldable pub witnessHeaderAnswer : Check → AccountWitnessHeader → WitnessHeaderAnswer
 witnessHeaderAnswer Passed h = Header h

@@ -4,9 +4,9 @@ use mathlib.Core.Path.{_≡_}
 use Prim.Native.Nat.{ℕ, zero, suc, _+_, _^_, _<_}
 use mathlib.Core.List.{List, [], _∷_, _++_, map}
 use lib.ListN.{length, take, drop, getD}
-use Rattle.octets.specs.Le.{numberAt}
 use Rattle.octets.specs.Lists.{joined}
 use Rattle.octets.specs.Layout.{Field, layoutBytes}
+use Rattle.account_witness.specs.Fields.{operationOf, proofCountOf, witnessSequenceOf, proofLengthAt}
 use Rattle.account_witness.specs.declared.header.AccountWitnessHeader.{AccountWitnessHeader}
 use Rattle.account_witness.specs.declared.walk.Proof.{Proof}
 use Rattle.account_witness.specs.declared.walk.ProofStep.the-variants.{Next}
@@ -42,11 +42,11 @@ proofReading s p = record { slot = p .slot; bytes = take (p .len) (drop (p .star
 unfoldable pub proofReadings : List ℕ → ℕ → ℕ → List ProofReading
 proofReadings s zero off = []
 proofReadings s (suc n) off =
-    proofReading s (proofAt s off) ∷ proofReadings s n (off + 8 + numberAt s (off + 4) 4)
+    proofReading s (proofAt s off) ∷ proofReadings s n (off + 8 + proofLengthAt s off)
 
 unfoldable pub witnessReading : List ℕ → WitnessReading
 witnessReading s =
-    record { operation = numberAt s 5 1; sequence = numberAt s 8 8; proofs = proofReadings s (numberAt s 6 1) 16 }
+    record { operation = operationOf s; sequence = witnessSequenceOf s; proofs = proofReadings s (proofCountOf s) 16 }
 
 -- numbers, lengths and the count fit their fields
 pub record ProofTyped (p : ProofReading) : Type 0 where

@@ -3,12 +3,12 @@ use Prim.Native.Nat.{ℕ, zero, suc, _+_}
 use mathlib.Core.List.{List, [], _∷_, _++_}
 use lib.Dec.{leb, eqb}
 use lib.ListN.{length}
-use Rattle.octets.specs.Le.{numberAt}
 use Rattle.protocol.specs.Errors.{errorNumber}
 use Rattle.protocol.specs.Rows.{Row, row, decide}
 use Rattle.protocol.specs.declared.error.ProtocolError.the-variants.{InvalidWitness}
 use Rattle.protocol.specs.declared.check.Check.{Check}
 use Rattle.protocol.specs.declared.check.Check.the-variants.{Passed, Failed}
+use Rattle.account_witness.specs.Fields.{proofSlotAt, proofReservedAt, proofLengthAt}
 use Rattle.account_witness.specs.declared.walk.Proof.{Proof}
 use Rattle.account_witness.specs.declared.walk.ProofCursor.{ProofCursor}
 use Rattle.account_witness.specs.declared.walk.ProofStep.{ProofStep}
@@ -18,18 +18,18 @@ use Rattle.account_witness.specs.declared.walk.ProofStep.the-variants.{N
 unfoldable pub proofLayoutRows : List ℕ → ℕ → ℕ → List Row
 proofLayoutRows s off least =
     row (leb (off + 8) (length s)) InvalidWitness
-    ∷ row (eqb (numberAt s (off + 2) 2) 0) InvalidWitness
-    ∷ row (leb (off + 8 + numberAt s (off + 4) 4) (length s)) InvalidWitness
-    ∷ row (leb 1 (numberAt s (off + 4) 4)) InvalidWitness
-    ∷ row (leb least (numberAt s off 2)) InvalidWitness
+    ∷ row (eqb (proofReservedAt s off) 0) InvalidWitness
+    ∷ row (leb (off + 8 + proofLengthAt s off) (length s)) InvalidWitness
+    ∷ row (leb 1 (proofLengthAt s off)) InvalidWitness
+    ∷ row (leb least (proofSlotAt s off)) InvalidWitness
     ∷ []
 
 unfoldable pub proofAt : List ℕ → ℕ → Proof
-proofAt s off = record { slot = numberAt s off 2; start = off + 8; len = numberAt s (off + 4) 4 }
+proofAt s off = record { slot = proofSlotAt s off; start = off + 8; len = proofLengthAt s off }
 
 -- behind the proof at `off`: the next one begins where its bytes end, and has a higher slot
 unfoldable pub proofCursorBehind : List ℕ → ℕ → ProofCursor
-proofCursorBehind s off = record { offset = off + 8 + numberAt s (off + 4) 4; least = numberAt s off 2 + 1 }
+proofCursorBehind s off = record { offset = off + 8 + proofLengthAt s off; least = proofSlotAt s off + 1 }
 
 unfoldable pub proofStepAnswer : Check → Proof → ProofCursor → ProofStep
 proofStepAnswer Passed p c = Next p c
@@ -53,7 +53,7 @@ proofCursorAt s (suc i) = proofCursorBehind s (proofCursorAt s i .offset)
 unfoldable pub proofsLayoutRows : List ℕ → ℕ → ℕ → ℕ → List Row
 proofsLayoutRows s zero off least = row (eqb off (length s)) InvalidWitness ∷ []
 proofsLayoutRows s (suc n) off least =
-    proofLayoutRows s off least ++ proofsLayoutRows s n (off + 8 + numberAt s (off + 4) 4) (numberAt s off 2 + 1)
+    proofLayoutRows s off least ++ proofsLayoutRows s n (off + 8 + proofLengthAt s off) (proofSlotAt s off + 1)
 
 -- document 01's number of a step
 abbrev pub proofStepNumber : ProofStep → ℕ

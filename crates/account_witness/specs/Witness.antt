@@ -2,12 +2,12 @@
 use Prim.Native.Nat.{ℕ}
 use mathlib.Core.List.{List, _∷_, _++_}
 use lib.Dec.{leb}
-use Rattle.octets.specs.Le.{numberAt}
 use Rattle.protocol.specs.Errors.{errorNumber}
 use Rattle.protocol.specs.Rows.{Row, row, decide}
 use Rattle.protocol.specs.declared.error.ProtocolError.the-variants.{InvalidWitness}
 use Rattle.protocol.specs.declared.check.Check.{Check}
 use Rattle.protocol.specs.declared.check.Check.the-variants.{Passed, Failed}
+use Rattle.account_witness.specs.Fields.{proofCountOf}
 use Rattle.account_witness.specs.declared.header.AccountWitnessHeader.{AccountWitnessHeader}
 use Rattle.account_witness.specs.declared.witness.WitnessAnswer.{WitnessAnswer}
 use Rattle.account_witness.specs.declared.witness.WitnessAnswer.the-variants.{Witness, Refused}
@@ -16,11 +16,11 @@ use Rattle.account_witness.specs.Walk.{proofsLayoutRows}
 
 -- 01: "Counts 17 to 255 pass `parse_witness_header`; `run` refuses them with 22 before it looks for the state."
 abbrev pub countRow : List ℕ → Row
-countRow s = row (leb (numberAt s 6 1) 16) InvalidWitness
+countRow s = row (leb (proofCountOf s) 16) InvalidWitness
 
 -- then the proofs
 unfoldable pub witnessRows : List ℕ → List Row
-witnessRows s = witnessHeaderRows s ++ (countRow s ∷ proofsLayoutRows s (numberAt s 6 1) 16 0)
+witnessRows s = witnessHeaderRows s ++ (countRow s ∷ proofsLayoutRows s (proofCountOf s) 16 0)
 
 unfoldable pub witnessFault : List ℕ → Check
 witnessFault s = decide Passed (witnessRows s)

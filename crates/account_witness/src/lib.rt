@@ -1,8 +1,12 @@
 // The reader of witness locks: the header, the walk over the proofs, the whole.
+mod fields; // fields.rt
 mod header; // header.rt
 mod walk; // walk.rt
 mod witness; // witness.rt
 
+pub use self::fields::operation_of;
+pub use self::fields::proof_count_of;
+pub use self::fields::witness_sequence_of;
 pub use self::header::AccountWitnessHeader;
 pub use self::header::WitnessHeaderAnswer;
 pub use self::header::parse_witness_header;

@@ -1,7 +1,7 @@
 -- The writer's laws: a turn of each of its loops, the lengths of what the slices lend, and the parts stored one behind another.
 -- Assumes nothing.
 use mathlib.Core.Path.{_≡_, refl, sym, ap, _∙_}
-use mathlib.Core.Bool.{Bool, true, false}
+use mathlib.Core.Bool.{Bool, true, false, _&&_}
 use mathlib.Core.List.{List, [], _∷_, _++_}
 use Prim.Native.Nat.{ℕ, suc, _+_, _*_, _-_, _≤_, _<_}
 use native.Mathlib.Nat.{add-assoc}
@@ -12,7 +12,7 @@ use lib.Dec.{eqb, leb}
 use lib.ListN.{length, take, drop, getD, length-append, length-drop, drop-of-length-le}
 use lib.Seq.{sets, drop-cons, drop-drop, length-take-le}
 use Rattle.octets.specs.Le.{toLe}
-use Rattle.octets.specs.Lists.{both, joined}
+use Rattle.octets.specs.Lists.{joined}
 use Rattle.octets.specs.Layout.{layoutBytes}
 use Rattle.octets.proofs.Parts.{part-length}
 use Rattle.octets.proofs.Stores.{sets-append, sets-front}
@@ -43,7 +43,7 @@ unfolding sum
 sum-end l i h = rw (drop-of-length-le l h)
 
 -- a turn of the loop that looks for an empty proof, and its end
-pub filled-turn : (l : List ℕ) (i : ℕ) → i < length l → filled (drop i l) ≡ both (leb 1 (getD l i 0)) (filled (drop (i + 1) l))
+pub filled-turn : (l : List ℕ) (i : ℕ) → i < length l → filled (drop i l) ≡ (leb 1 (getD l i 0) && filled (drop (i + 1) l))
 unfolding filled
 filled-turn l i h = rw (add-one, drop-cons l i 0)
 
@@ -53,7 +53,7 @@ filled-end l i h = rw (drop-of-length-le l h)
 
 -- a turn of the loop over the slots, and its end
 pub rising-turn : (l : List ℕ) (least i : ℕ) → i < length l
-    → rising least (drop i l) ≡ both (leb least (getD l i 0)) (rising (getD l i 0 + 1) (drop (i + 1) l))
+    → rising least (drop i l) ≡ (leb least (getD l i 0) && rising (getD l i 0 + 1) (drop (i + 1) l))
 unfolding rising
 rising-turn l least i h = rw (add-one i, drop-cons l i 0)
 

@@ -8,12 +8,13 @@ use native.Mathlib.Omega.{arith}
 use borrow.Author.Tests.{le-leb, eq-eqb}
 use lib.ListN.{length, length-append, length-map}
 use lib.Seq.{take-append-seam, drop-append-seam}
-use Rattle.octets.specs.Le.{numberAt, Bytes}
+use Rattle.octets.specs.Le.{Bytes}
 use Rattle.octets.specs.Lists.{joined}
 use Rattle.octets.specs.Layout.{layoutBytes}
 use Rattle.octets.proofs.Parts.{part-length}
 use Rattle.octets.proofs.LayoutLaws.{length-numbers}
 use Rattle.protocol.specs.Rows.{AllPass}
+use Rattle.account_witness.specs.Fields.{proofCountOf, proofLengthAt, proofSlotAt}
 use Rattle.account_witness.specs.Header.{witnessHeaderFields}
 use Rattle.account_witness.specs.Walk.{proofAt, proofsLayoutRows}
 use Rattle.account_witness.specs.Witness.{witnessRows}
@@ -57,14 +58,14 @@ unfolding filled proofLengths proofReadings proofReading proofAt
 readings-filled s zero off least h = refl
 readings-filled s (suc n) off least h =
     let z = proofs-split s n off least h in
-    rw (part-length s (off + 8) (numberAt s (off + 4) 4) (z .0 .inside), le-leb 1 (numberAt s (off + 4) 4) (z .0 .some)) (readings-filled s n _ _ (z .1))
+    rw (part-length s (off + 8) (proofLengthAt s off) (z .0 .inside), le-leb 1 (proofLengthAt s off) (z .0 .some)) (readings-filled s n _ _ (z .1))
 
 readings-rising : (s : List ℕ) (n off least : ℕ) → AllPass (proofsLayoutRows s n off least) → rising least (proofSlots (proofReadings s n off)) ≡ true
 unfolding rising proofSlots proofReadings proofReading proofAt
 readings-rising s zero off least h = refl
 readings-rising s (suc n) off least h =
     let z = proofs-split s n off least h in
-    rw (le-leb least (numberAt s off 2) (z .0 .above)) (readings-rising s n _ _ (z .1))
+    rw (le-leb least (proofSlotAt s off) (z .0 .above)) (readings-rising s n _ _ (z .1))
 
 -- so every row of the writer passes
 pub lent-hold : (s : List ℕ) → Bytes s → AllPass (witnessRows s)
@@ -72,11 +73,11 @@ pub lent-hold : (s : List ℕ) → Bytes s → AllPass (witnessRows s)
 unfolding witnessWriterRows lentRows witnessReading
 lent-hold s b h =
     let z = witness-holds s h in
-    let ps = proofReadings s (numberAt s 6 1) 16 in
-    let n : length (proofSlots ps) ≡ numberAt s 6 1 = length-slots ps ∙ length-readings s (numberAt s 6 1) 16 in
+    let ps = proofReadings s (proofCountOf s) 16 in
+    let n : length (proofSlots ps) ≡ proofCountOf s = length-slots ps ∙ length-readings s (proofCountOf s) 16 in
     let t : encodeTotal (proofSlots ps) (proofsPayload ps) ≡ length s = lent-total (witnessReading s) ∙ ap length (witness-back s b h) in
     let few : length (proofSlots ps) ≤ 16 = omega arith in
     let most : encodeTotal (proofSlots ps) (proofsPayload ps) ≤ 131072 = omega arith in
-    let f = readings-filled s (numberAt s 6 1) 16 0 (z .proofs) in
-    let g = readings-rising s (numberAt s 6 1) 16 0 (z .proofs) in
+    let f = readings-filled s (proofCountOf s) 16 0 (z .proofs) in
+    let g = readings-rising s (proofCountOf s) 16 0 (z .proofs) in
     (eq-eqb _ _ (counts ps), (eq-eqb _ _ (sums ps), (z .operation, (le-leb _ _ few, (f, (le-leb _ _ most, (g, tt)))))))

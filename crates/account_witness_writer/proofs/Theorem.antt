@@ -7,12 +7,13 @@ use Prim.Native.Nat.{ℕ, zero, suc, _+_, _^_, _<_}
 use native.Mathlib.Omega.{arith}
 use lib.Dec.{lit<}
 use lib.ListN.{length, take, drop, getD}
-use Rattle.octets.specs.Le.{numberAt, Bytes}
+use Rattle.octets.specs.Le.{Bytes}
 use Rattle.octets.specs.Lists.{joined}
 use Rattle.octets.proofs.LeLaws.{bytes-take, bytes-drop, bytes-append}
 use Rattle.protocol.specs.Rows.{AllPass}
 use Rattle.protocol.specs.Reading.{WritesBack}
 use Rattle.protocol.proofs.Back.{writes-back}
+use Rattle.account_witness.specs.Fields.{proofCountOf, proofLengthAt}
 use Rattle.account_witness.specs.Witness.{witnessRows}
 use Rattle.account_witness.specs.Walk.{proofAt}
 use Rattle.account_witness.specs.Reading.{ProofReading, WitnessReading, witnessBytes, proofReading, proofReadings, witnessReading, ProofsTyped, WitnessTyped}
@@ -44,7 +45,7 @@ readings-bytes : (s : List ℕ) (n off : ℕ) → Bytes s → Bytes (proofsPaylo
 unfolding proofsPayload joined proofReadings proofReading proofAt
 readings-bytes s zero off b = λ i. lit< tt
 readings-bytes s (suc n) off b =
-    let len = numberAt s (off + 4) 4 in
+    let len = proofLengthAt s off in
     bytes-append (take len (drop (off + 8) s)) (proofsPayload (proofReadings s n (off + 8 + len))) (bytes-take len (drop (off + 8) s) (bytes-drop (off + 8) s b)) (readings-bytes s n (off + 8 + len) b)
 
 -- what the reading lends fits the writer's types
@@ -62,7 +63,7 @@ fits s b h =
       sequence = y .sequence;
       slots = slots-fit (r .proofs) (y .proofs);
       lengths = lengths-fit (r .proofs) (y .proofs);
-      bytes = readings-bytes s (numberAt s 6 1) 16 b;
+      bytes = readings-bytes s (proofCountOf s) 16 b;
       counts = (omega arith, omega arith, omega arith);
     }
 

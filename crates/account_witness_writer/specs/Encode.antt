@@ -1,11 +1,11 @@
 -- The writer of witness locks. Proofs are lent as slices: a slot and a length for each, and the bytes of all proofs end to end.
 use Prim.Native.Nat.{ℕ, _+_, _*_, _^_, _<_}
-use mathlib.Core.Bool.{Bool, true}
+use mathlib.Core.Bool.{Bool, true, _&&_}
 use mathlib.Core.List.{List, [], _∷_, map}
 use lib.Dec.{leb, eqb}
 use lib.ListN.{length, take, drop, getD}
 use Rattle.octets.specs.Le.{Bytes}
-use Rattle.octets.specs.Lists.{both, joined}
+use Rattle.octets.specs.Lists.{joined}
 use Rattle.protocol.specs.Policy.{isOperation}
 use Rattle.protocol.specs.Rows.{Row, row}
 use Rattle.protocol.specs.Write.{writeFault, writeAnswer, afterWrite}
@@ -32,12 +32,12 @@ witnessFrom operation sequence slots lengths bytes =
 -- no proof is empty
 unfoldable pub filled : List ℕ → Bool
 filled [] = true
-filled (len ∷ lengths) = both (leb 1 len) (filled lengths)
+filled (len ∷ lengths) = leb 1 len && filled lengths
 
 -- "slots rise strictly", from `least` on
 unfoldable pub rising : ℕ → List ℕ → Bool
 rising least [] = true
-rising least (slot ∷ slots) = both (leb least slot) (rising (slot + 1) slots)
+rising least (slot ∷ slots) = leb least slot && rising (slot + 1) slots
 
 -- the length of the written form
 abbrev pub encodeTotal : List ℕ → List ℕ → ℕ

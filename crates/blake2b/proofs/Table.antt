@@ -1,27 +1,28 @@
 -- What the rule of the message schedule says of a row and of a place in it.
 -- Assumes nothing.
 use mathlib.Core.Path.{_≡_}
-use mathlib.Core.Bool.{Bool, true, false}
+use mathlib.Core.Bool.{Bool, true, false, _&&_}
 use mathlib.Core.List.{List, [], _∷_}
 use Prim.Native.Nat.{ℕ, zero, suc, _%_, _<_}
 use native.Mathlib.Nat.{le-of-suc-le-suc, not-suc-le-zero}
 use native.Mathlib.Omega.{arith}
 use lib.Dec.{T, ltb, eqb, ltb→lt, eqb→eq}
 use lib.ListN.{length, getD}
-use Rattle.octets.specs.Lists.{both}
+use Rattle.octets.specs.Lists.{every}
 use Rattle.blake2b.specs.Rfc7693.{SIGMA, rowOf}
-use Rattle.blake2b.specs.Schedule.{every, permutation, sigma-rule}
+use Rattle.blake2b.specs.Schedule.{permutation, sigma-rule}
 
-left : (a b : Bool) → T (both a b) → T a
+left : (a b : Bool) → T (a && b) → T a
 left true b t = tt
 left false b t = t
 
-right : (a b : Bool) → T (both a b) → T b
+right : (a b : Bool) → T (a && b) → T b
 right true b t = t
 right false b t = absurd t
 
 -- what a test says of every element it says of the one at k
 at : {A : Type 0} (f : A → Bool) (xs : List A) → T (every f xs) → (k : ℕ) (d : A) → k < length xs → T (f (getD xs k d))
+unfolding every
 at f [] t k d h = absurd (not-suc-le-zero h)
 at f (x ∷ xs) t zero d h = left (f x) (every f xs) t
 at f (x ∷ xs) t (suc k) d h = at f xs (right (f x) (every f xs) t) k d (le-of-suc-le-suc h)

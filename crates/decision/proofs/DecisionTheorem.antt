@@ -7,9 +7,9 @@ use mathlib.Core.Bool.{true}
 use mathlib.Core.List.{List, []}
 use Prim.Native.Nat.{ℕ}
 use lib.ListN.{length, take}
-use Rattle.octets.specs.Le.{numberAt}
 use Rattle.protocol.specs.Rows.{AllPass, checkNumber}
 use Rattle.protocol.specs.declared.check.Check.the-variants.{Passed}
+use Rattle.account_witness.specs.Fields.{proofCountOf}
 use Rattle.account_witness.specs.Walk.{proofsLayoutRows}
 use Rattle.decision.specs.Proofs.{Context, requestsOf}
 use Rattle.decision.specs.Walk.{proofListOf, walk, walkList, walkLock}
@@ -18,9 +18,9 @@ use Rattle.decision.proofs.Quorum.{ZeroOr28, zero-or-28, decision, answ
 use Rattle.decision.proofs.Listed.{listed-clean, listed-proofs, listed-rising}
 
 -- where no layout is faulty these are the lock's
-pub listed-of : (lock : List ℕ) → AllPass (proofsLayoutRows lock (numberAt lock 6 1) 16 0) → proofListOf lock .proofs ≡ proofsOf lock
+pub listed-of : (lock : List ℕ) → AllPass (proofsLayoutRows lock (proofCountOf lock) 16 0) → proofListOf lock .proofs ≡ proofsOf lock
 unfolding proofsOf
-listed-of lock h = listed-proofs lock (numberAt lock 6 1) 16 0 h
+listed-of lock h = listed-proofs lock (proofCountOf lock) 16 0 h
 
 pub lock-decides : (c : Context) (lock : List ℕ)
     → (walkLock c lock .found ≡ Passed) ↔ (ProofsPass c lock × Quorum c (proofsOf lock))
@@ -29,18 +29,18 @@ lock-decides c lock = (there, back)
   where
     decides : (walk c (proofListOf lock .clean) 0 0 [] (proofListOf lock .proofs) .found ≡ Passed)
         ↔ ((proofListOf lock .clean ≡ true) × EachPasses c 0 0 (proofListOf lock .proofs) × Quorum c (proofListOf lock .proofs))
-    decides = decision c (proofListOf lock .clean) (proofListOf lock .proofs) (listed-rising lock (numberAt lock 6 1) 16 0)
+    decides = decision c (proofListOf lock .clean) (proofListOf lock .proofs) (listed-rising lock (proofCountOf lock) 16 0)
 
     back : ProofsPass c lock × Quorum c (proofsOf lock) → walkLock c lock .found ≡ Passed
     back h =
         let l = h .0 .layout in
         let e = listed-of lock l in
-        decides .1 (listed-clean lock (numberAt lock 6 1) 16 0 .1 l, rw e (h .0 .each), rw e (h .1))
+        decides .1 (listed-clean lock (proofCountOf lock) 16 0 .1 l, rw e (h .0 .each), rw e (h .1))
 
     there : walkLock c lock .found ≡ Passed → ProofsPass c lock × Quorum c (proofsOf lock)
     there h =
         let z = decides .0 h in
-        let l = listed-clean lock (numberAt lock 6 1) 16 0 .0 (z .0) in
+        let l = listed-clean lock (proofCountOf lock) 16 0 .0 (z .0) in
         let e = listed-of lock l in
         (record { layout = l; each = rw e at (z .1) }, rw e at (z .2))
 
@@ -56,11 +56,11 @@ lock-zero-or-28 c lock = (there, back)
     there : ZeroOr28 (checkNumber (walkLock c lock .found)) → ProofsPass c lock
     there h =
         let z = number .0 h in
-        let l = listed-clean lock (numberAt lock 6 1) 16 0 .0 (z .0) in
+        let l = listed-clean lock (proofCountOf lock) 16 0 .0 (z .0) in
         record { layout = l; each = rw (listed-of lock l) at (z .1) }
 
     back : ProofsPass c lock → ZeroOr28 (checkNumber (walkLock c lock .found))
-    back h = number .1 (listed-clean lock (numberAt lock 6 1) 16 0 .1 (h .layout), rw (listed-of lock (h .layout)) (h .each))
+    back h = number .1 (listed-clean lock (proofCountOf lock) 16 0 .1 (h .layout), rw (listed-of lock (h .layout)) (h .each))
 
 -- where every row before the one for 28 passes: one request for each proof, in order
 pub lock-answers : (c : Context) (lock : List ℕ) → ProofsPass c lock

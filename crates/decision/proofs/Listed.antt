@@ -6,13 +6,13 @@ use mathlib.Core.Bool.{true, false}
 use mathlib.Core.List.{List, [], _∷_}
 use Prim.Native.Nat.{ℕ, zero, suc, _+_}
 use native.Mathlib.Omega.{arith}
-use Rattle.octets.specs.Le.{numberAt}
 use Rattle.octets.specs.Lists.{Rising}
 use Rattle.protocol.specs.Rows.{decide, AllPass}
 use Rattle.protocol.specs.declared.error.ProtocolError.{ProtocolError}
 use Rattle.protocol.specs.declared.check.Check.{Check}
 use Rattle.protocol.specs.declared.check.Check.the-variants.{Passed, Failed}
 use Rattle.protocol.proofs.AllPass.{passed-all-pass, all-pass-passed, all-pass-append, all-pass-split}
+use Rattle.account_witness.specs.Fields.{proofLengthAt, proofSlotAt}
 use Rattle.account_witness.specs.Walk.{proofLayoutRows, proofAt, proofsLayoutRows}
 use Rattle.account_witness.specs.Reading.{ProofReading, proofReading, proofReadings}
 use Rattle.account_witness.proofs.WalkLaws.{proof-holds}
@@ -29,7 +29,7 @@ module _ (lock : List ℕ) (n at least : ℕ) where
 
   -- or it is the next of the list
   abbrev pub Behind : ProofList
-  Behind = proofsUntilFault lock n (at + 8 + numberAt lock (at + 4) 4) (numberAt lock at 2 + 1)
+  Behind = proofsUntilFault lock n (at + 8 + proofLengthAt lock at) (proofSlotAt lock at + 1)
 
   pub listed-goes : decide Passed (proofLayoutRows lock at least) ≡ Passed
       → proofsUntilFault lock (suc n) at least ≡ record { proofs = proofReading lock (proofAt lock at) ∷ Behind .proofs; clean = Behind .clean }
@@ -76,7 +76,7 @@ module _ (lock : List ℕ) where
   listed-rising zero at least = tt
   listed-rising (suc n) at least = go (decide Passed (proofLayoutRows lock at least)) refl (listed-rising n _ _)
     where
-      go : (k : Check) → decide Passed (proofLayoutRows lock at least) ≡ k → Rising (numberAt lock at 2 + 1) (slots (Behind lock n at least .proofs))
+      go : (k : Check) → decide Passed (proofLayoutRows lock at least) ≡ k → Rising (proofSlotAt lock at + 1) (slots (Behind lock n at least .proofs))
           → Rising least (slots (proofsUntilFault lock (suc n) at least .proofs))
       go Passed h rest =
           rw (listed-goes lock n at least h) (proof-holds lock at least (passed-all-pass (proofLayoutRows lock at least) h) .above, rest)

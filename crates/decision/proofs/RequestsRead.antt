@@ -8,13 +8,14 @@ use native.Mathlib.Omega.{arith}
 use lib.Dec.{eqb}
 use lib.ListN.{length, drop}
 use borrow.Author.Tests.{eqb-true}
-use Rattle.octets.specs.Le.{Bytes, numberAt}
+use Rattle.octets.specs.Le.{Bytes}
 use Rattle.octets.specs.Lists.{arrayOf}
 use Rattle.octets.proofs.Arrays.{array-whole}
 use Rattle.octets.proofs.LeLaws.{bytes-drop, bytes-take}
 use Rattle.protocol.specs.Policy.{isOperation, capabilityFor}
 use Rattle.protocol.specs.Rows.{AllPass}
-use Rattle.account_state.specs.Reading.{EntryReading, entryOf, entriesOf, entryLengthOf, keyLengthOf, auxLengthOf, stateReading, EntriesTyped}
+use Rattle.account_state.specs.Fields.{auxLengthOf, entryCountOf, entryLengthOf, keyLengthOf}
+use Rattle.account_state.specs.Reading.{EntryReading, entryOf, entriesOf, stateReading, EntriesTyped}
 use Rattle.account_state.specs.State.{stateRows}
 use Rattle.account_state.proofs.Inverse.{Keys, state-typed, state-keys}
 use Rattle.account_witness.specs.Reading.{ProofReading}
@@ -40,7 +41,7 @@ pub state-fits : (state : List ℕ) (deps : List Cell) (digits : List ℕ) (oper
 unfolding contextFor stateReading
 state-fits state deps digits operation digest room b h l =
     record {
-      entries = entries-fit (numberAt state 22 1) (drop 32 state) (bytes-drop 32 state b) (state-typed state b h .entries) (state-keys state b h);
+      entries = entries-fit (entryCountOf state) (drop 32 state) (bytes-drop 32 state b) (state-typed state b h .entries) (state-keys state b h);
       digest = l;
     }
 

@@ -11,7 +11,6 @@ use native.Mathlib.Omega.{arith}
 use lib.Dec.{eqb, leb}
 use lib.ListN.{length, drop, length-append, length-take, length-drop}
 use borrow.Author.Tests.{leb-true, leb-false, eqb-true, le-leb, lt-leb}
-use Rattle.octets.specs.Le.{numberAt}
 use Rattle.octets.specs.Lists.{Rising}
 use Rattle.octets.proofs.Arrays.{length-array}
 use Rattle.protocol.specs.Errors.{errorNumber}
@@ -21,8 +20,10 @@ use Rattle.protocol.specs.declared.error.ProtocolError.the-variants.{BufferTooS
 use Rattle.protocol.specs.declared.check.Check.{Check}
 use Rattle.protocol.specs.declared.check.Check.the-variants.{Passed, Failed}
 use Rattle.protocol.proofs.AllPass.{passed-all-pass, all-pass-split, failed-first}
-use Rattle.account_state.specs.Reading.{EntryReading, entryOf, entriesOf, entryLengthOf, keyLengthOf, auxLengthOf}
+use Rattle.account_state.specs.Fields.{auxLengthOf, entryCountOf, entryLengthOf, keyLengthOf, entrySlotOf}
+use Rattle.account_state.specs.Reading.{EntryReading, entryOf, entriesOf}
 use Rattle.account_state.specs.State as state
+use Rattle.account_witness.specs.Fields.{proofCountOf, proofLengthAt}
 use Rattle.account_witness.specs.Reading.{ProofReading, proofReading}
 use Rattle.account_witness.specs.Walk as witness
 use Rattle.account_witness.proofs.WalkLaws.{proof-holds}
@@ -187,11 +188,11 @@ module _ (lock : List ℕ) where
   listed-length (suc n) at least = go (decide Passed (witness.proofLayoutRows lock at least)) refl (listed-length n _ _)
     where
       go : (k : Check) → decide Passed (witness.proofLayoutRows lock at least) ≡ k
-          → proofsLength (Behind lock n at least .proofs) ≤ length lock - (at + 8 + numberAt lock (at + 4) 4)
+          → proofsLength (Behind lock n at least .proofs) ≤ length lock - (at + 8 + proofLengthAt lock at)
           → proofsLength (proofsUntilFault lock (suc n) at least .proofs) ≤ length lock - at
       go Passed h rest =
           let z = proof-holds lock at least (passed-all-pass (witness.proofLayoutRows lock at least) h) .inside in
-          let t = length-take (numberAt lock (at + 4) 4) (drop (at + 8) lock) in
+          let t = length-take (proofLengthAt lock at) (drop (at + 8) lock) in
           rw (listed-goes lock n at least h) (omega arith)
       go (Failed e) h rest = rw (listed-stops lock n at least e h) (omega arith)
 
@@ -206,32 +207,32 @@ entries-aux (suc n) e least h =
     let rest = entries-aux n (drop (entryLengthOf e) e) _ (z .1) in
     let d = length-drop (entryLengthOf e) e in
     let t = length-take (auxLengthOf e) (drop (48 + keyLengthOf e) e) in
-    rw (le-leb 0 (numberAt e 2 2) (omega arith)) (omega arith)
+    rw (le-leb 0 (entrySlotOf e) (omega arith)) (omega arith)
 
 -- the rows of a state: its header's, and those of its entries
-state-rows : (s : List ℕ) → AllPass (state.stateRows s) → AllPass (state.stateHeaderRows s) × AllPass (state.entriesRows (numberAt s 22 1) (drop 32 s) 0)
+state-rows : (s : List ℕ) → AllPass (state.stateRows s) → AllPass (state.stateHeaderRows s) × AllPass (state.entriesRows (entryCountOf s) (drop 32 s) 0)
 unfolding state.stateRows
 state-rows s h =
     let z = all-pass-split (state.stateHeaderRows s) _ h in
-    (z .0, all-pass-split (state.entriesRows (numberAt s 22 1) (drop 32 s) 0) _ (z .1) .0)
+    (z .0, all-pass-split (state.entriesRows (entryCountOf s) (drop 32 s) 0) _ (z .1) .0)
 
 -- a state whose rows pass has at most 16,384 bytes, and so has the aux of its entries
-pub state-aux : (s : List ℕ) → AllPass (state.stateRows s) → auxFrom 0 (entriesOf (numberAt s 22 1) (drop 32 s)) ≤ 16384
+pub state-aux : (s : List ℕ) → AllPass (state.stateRows s) → auxFrom 0 (entriesOf (entryCountOf s) (drop 32 s)) ≤ 16384
 unfolding state.stateHeaderRows
 state-aux s h =
     let z = state-rows s h in
     let short = leb-true (length s) 16384 (z .0 .1 .0) in
-    let a = entries-aux (numberAt s 22 1) (drop 32 s) 0 (z .1) in
+    let a = entries-aux (entryCountOf s) (drop 32 s) 0 (z .1) in
     let d = length-drop 32 s in
     omega arith
 
 -- 96 · 16 + 16,384 + 131,072 = 148,992
 pub lock-room : (c : Context) (lock : List ℕ) → length (c .digest) ≡ 32 → auxFrom 0 (c .entries) ≤ 16384
-    → length lock ≤ 131072 → numberAt lock 6 1 ≤ 16 → 148992 ≤ c .room → checkNumber (walkLock c lock .found) ≢ 5
+    → length lock ≤ 131072 → proofCountOf lock ≤ 16 → 148992 ≤ c .room → checkNumber (walkLock c lock .found) ≢ 5
 unfolding walkLock walkList
 lock-room c lock d a l n r =
-    let ps = proofsUntilFault lock (numberAt lock 6 1) 16 0 .proofs in
-    let requests = requests-length c d ps 0 (listed-rising lock (numberAt lock 6 1) 16 0) in
-    let few = listed-few lock (numberAt lock 6 1) 16 0 in
-    let bytes = listed-length lock (numberAt lock 6 1) 16 0 in
-    walk-room c d (proofsUntilFault lock (numberAt lock 6 1) 16 0 .clean) 0 0 [] ps (omega arith)
+    let ps = proofsUntilFault lock (proofCountOf lock) 16 0 .proofs in
+    let requests = requests-length c d ps 0 (listed-rising lock (proofCountOf lock) 16 0) in
+    let few = listed-few lock (proofCountOf lock) 16 0 in
+    let bytes = listed-length lock (proofCountOf lock) 16 0 in
+    walk-room c d (proofsUntilFault lock (proofCountOf lock) 16 0 .clean) 0 0 [] ps (omega arith)

@@ -6,9 +6,9 @@ use mathlib.Core.Logic.{_≢_}
 use mathlib.Core.Bool.{true}
 use mathlib.Core.List.{List, [], _∷_, List·Memᴰ}
 use lib.ListN.{length, getD}
-use Rattle.octets.specs.Le.{numberAt}
 use Rattle.octets.specs.Lists.{Rising}
 use Rattle.protocol.specs.Rows.{AllPass}
+use Rattle.account_witness.specs.Fields.{proofCountOf}
 use Rattle.account_witness.specs.Reading.{ProofReading, proofReadings}
 use Rattle.account_witness.specs.Walk.{proofsLayoutRows}
 use Rattle.decision.specs.Proofs.{Context, known, entryFor, capable, proofRows, requestOf}
@@ -26,11 +26,11 @@ EachPasses c i used (p ∷ ps) =
 
 -- the proofs of a witness lock, as its one reading has them
 unfoldable pub proofsOf : List ℕ → List ProofReading
-proofsOf lock = proofReadings lock (numberAt lock 6 1) 16
+proofsOf lock = proofReadings lock (proofCountOf lock) 16
 
 -- the rows of the proofs, all before the one for 28: each one's layout, "bytes after the last proof", and each one's own
 pub record ProofsPass (c : Context) (lock : List ℕ) : Type 0 where
-  pub layout : AllPass (proofsLayoutRows lock (numberAt lock 6 1) 16 0)
+  pub layout : AllPass (proofsLayoutRows lock (proofCountOf lock) 16 0)
   pub each : EachPasses c 0 0 (proofsOf lock)
 
 -- 01: "A request is approved where DIGITS has 0 at its proof's place in the witness lock": the slot is one of the current state's,

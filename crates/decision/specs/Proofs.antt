@@ -2,16 +2,16 @@
 use Prim.Native.Nat.{ℕ, _+_, _-_}
 use mathlib.Core.Bool.{Bool, true, false, cond}
 use mathlib.Core.List.{List, [], _∷_, _++_}
-use lib.ListN.{length, getD, drop}
+use lib.ListN.{length, getD}
 use lib.Dec.{eqb, leb}
-use Rattle.octets.specs.Le.{numberAt}
 use Rattle.octets.specs.Lists.{arrayOf}
 use Rattle.protocol.specs.Policy.{capabilityFor, hasCapability}
 use Rattle.protocol.specs.Rows.{Row, row}
 use Rattle.protocol.specs.declared.error.ProtocolError.the-variants.{InvalidWitness, InvalidCapability, InvalidVerifierRef, InvalidRequest, LengthOverflow, BufferTooShort}
 use Rattle.protocol.specs.declared.policy.OperationCapability.{OperationCapability}
 use Rattle.protocol.specs.declared.policy.OperationCapability.the-variants.{Capability, Refused}
-use Rattle.account_state.specs.Reading.{EntryReading, entriesOf}
+use Rattle.account_state.specs.Fields.{spendThresholdOf, rotateThresholdOf, recoveryThresholdOf}
+use Rattle.account_state.specs.Reading.{EntryReading, stateEntries}
 use Rattle.account_witness.specs.Reading.{ProofReading}
 use Rattle.verifier_request.specs.Reading.{RequestReading, requestWith, requestBytes}
 use Rattle.scene_table.specs.Scene.{Cell}
@@ -33,13 +33,13 @@ pub record Context : Type 0 where
 -- 01, State header: "spend, rotate and recovery thresholds", for the operations 1, 2 and 3
 unfoldable pub thresholdOf : ℕ → List ℕ → ℕ
 thresholdOf operation state =
-    cond (eqb operation 1) (numberAt state 16 2) (cond (eqb operation 2) (numberAt state 18 2) (numberAt state 20 2))
+    cond (eqb operation 1) (spendThresholdOf state) (cond (eqb operation 2) (rotateThresholdOf state) (recoveryThresholdOf state))
 
 -- what the bytes of the current state settle, beside the scene's deps and digits
 unfoldable pub contextFor : List ℕ → List Cell → List ℕ → ℕ → List ℕ → ℕ → Context
 contextFor state deps digits operation digest room =
     record {
-      entries = entriesOf (numberAt state 22 1) (drop 32 state);
+      entries = stateEntries state;
       deps = deps;
       digits = digits;
       operation = operation;

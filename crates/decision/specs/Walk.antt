@@ -4,11 +4,11 @@ use mathlib.Core.Bool.{Bool, false, cond}
 use mathlib.Core.List.{List, [], _∷_, _++_}
 use lib.ListN.{length, drop}
 use lib.Dec.{eqb, leb, ltb}
-use Rattle.octets.specs.Le.{numberAt}
 use Rattle.protocol.specs.Rows.{Row, row, decide}
 use Rattle.protocol.specs.declared.error.ProtocolError.the-variants.{InvalidWitness, VerifierFailure, ThresholdUnsatisfied}
 use Rattle.protocol.specs.declared.check.Check.{Check}
 use Rattle.protocol.specs.declared.check.Check.the-variants.{Passed, Failed}
+use Rattle.account_witness.specs.Fields.{proofCountOf, proofSlotAt, proofLengthAt}
 use Rattle.account_witness.specs.Reading.{ProofReading, proofReading}
 use Rattle.account_witness.specs.Walk as witness
 use Rattle.scene_table.specs.Places.{verdictAt}
@@ -67,16 +67,16 @@ proofsUntilFault lock zero at least = record { proofs = []; clean = eqb at (leng
 proofsUntilFault lock (suc n) at least =
     orFault (decide Passed (witness.proofLayoutRows lock at least))
     (record {
-      proofs = proofReading lock (witness.proofAt lock at) ∷ proofsUntilFault lock n (at + 8 + numberAt lock (at + 4) 4) (numberAt lock at 2 + 1) .proofs;
-      clean = proofsUntilFault lock n (at + 8 + numberAt lock (at + 4) 4) (numberAt lock at 2 + 1) .clean;
+      proofs = proofReading lock (witness.proofAt lock at) ∷ proofsUntilFault lock n (at + 8 + proofLengthAt lock at) (proofSlotAt lock at + 1) .proofs;
+      clean = proofsUntilFault lock n (at + 8 + proofLengthAt lock at) (proofSlotAt lock at + 1) .clean;
     })
 
 unfoldable pub walkList : Context → ProofList → WalkOutcome
 walkList c ps = walk c (ps .clean) 0 0 [] (ps .proofs)
 
--- those of a witness lock, whose count is its byte 6
+-- those of a witness lock
 abbrev pub proofListOf : List ℕ → ProofList
-proofListOf lock = proofsUntilFault lock (numberAt lock 6 1) 16 0
+proofListOf lock = proofsUntilFault lock (proofCountOf lock) 16 0
 
 -- the walk over them
 unfoldable pub walkLock : Context → List ℕ → WalkOutcome

@@ -4,13 +4,13 @@ use mathlib.Core.Bool.{Bool, cond}
 use mathlib.Core.List.{List, [], _∷_, _++_}
 use lib.ListN.{length, drop}
 use lib.Dec.{eqb, leb}
+use Rattle.octets.specs.Lists.{every}
 use Rattle.account_witness.specs.Witness.{countRow}
 use Rattle.protocol.specs.Rows.{Row, row}
 use Rattle.protocol.specs.declared.error.ProtocolError.the-variants.{InvalidWitness}
 use Rattle.molecule.specs.Bytes.{witnessLockRows, readWitnessLock, bytesIn}
 use Rattle.account_witness.specs.Header.{witnessHeaderRows}
 use Rattle.scene_table.specs.Scene.{Input, Scene}
-use Rattle.scene_table.specs.Valid.{every}
 
 -- 01, The scene: "GROUP is 1 where the input runs this lock, else 0; witness i belongs to input i."; main.rs: "The group part
 -- ends at its first missing witness."

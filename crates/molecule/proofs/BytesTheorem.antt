@@ -9,7 +9,7 @@ use native.Mathlib.Omega.{arith}
 use lib.ListN.{length, take, drop, length-append}
 use lib.Seq.{take-add, take-all, drop-at, drop-drop}
 use Rattle.octets.specs.declared.place.Place.{Place}
-use Rattle.octets.specs.Le.{numberAt, Bytes}
+use Rattle.octets.specs.Le.{Bytes}
 use Rattle.octets.specs.Places.{bytesAt}
 use Rattle.octets.proofs.LeLaws.{number-lt, length-to, bytes-take, bytes-drop}
 use Rattle.octets.proofs.Parts.{part-length}
@@ -24,7 +24,7 @@ use Rattle.protocol.proofs.Answers.{answer-given, answer-accepts, answer-refuse
 use Rattle.molecule.specs.declared.bytes.PlaceAnswer.{PlaceAnswer}
 use Rattle.molecule.specs.declared.bytes.PlaceAnswer.the-variants.{At, Refused}
 use Rattle.molecule.specs.Molecule.{bytesVector, tableBytes}
-use Rattle.molecule.specs.Table3.{tableRows, between, field1, field2, field3}
+use Rattle.molecule.specs.Table3.{tableRows, between, field1, field2, field3, secondOffsetOf, tableTotalOf, thirdOffsetOf}
 use Rattle.molecule.specs.Bytes.{bytesRows, bytesPlaceFrom, placeAnswer, readBytes, witnessLockRows, readWitnessLock, scriptArgsRows, readScriptArgs}
 use Rattle.molecule.proofs.Form.{Passes, passes, length-field1}
 use Rattle.molecule.proofs.Inverse.{table-written, vector-length, vector-written, vector-read}
@@ -83,31 +83,31 @@ pub witness-lock-refuses : (s : List ℕ) (e : ProtocolError) → (readWitnessLo
 unfolding readWitnessLock
 witness-lock-refuses s e = place-refuses (witnessLockRows s) (bytesPlaceFrom 16 (field1 s)) e
 
-pub script-args-accepts : (s : List ℕ) → (readScriptArgs s ≡ At (bytesPlaceFrom (numberAt s 12 4) (field3 s))) ↔ AllPass (scriptArgsRows s)
+pub script-args-accepts : (s : List ℕ) → (readScriptArgs s ≡ At (bytesPlaceFrom (thirdOffsetOf s) (field3 s))) ↔ AllPass (scriptArgsRows s)
 unfolding readScriptArgs
-script-args-accepts s = place-accepts (scriptArgsRows s) (bytesPlaceFrom (numberAt s 12 4) (field3 s))
+script-args-accepts s = place-accepts (scriptArgsRows s) (bytesPlaceFrom (thirdOffsetOf s) (field3 s))
 
 pub script-args-refuses : (s : List ℕ) (e : ProtocolError) → (readScriptArgs s ≡ Refused e) ↔ FirstFailed (scriptArgsRows s) e
 unfolding readScriptArgs
-script-args-refuses s e = place-refuses (scriptArgsRows s) (bytesPlaceFrom (numberAt s 12 4) (field3 s)) e
+script-args-refuses s e = place-refuses (scriptArgsRows s) (bytesPlaceFrom (thirdOffsetOf s) (field3 s)) e
 
 length-vector : (q : List ℕ) → length (bytesVector q) ≡ 4 + length q
 unfolding bytesVector
 length-vector q = simp (length-append, length-to)
 
 -- the one reading of a field that passes
-vector-one : (e : ProtocolError) (v : List ℕ) → Bytes v → AllPass (bytesRows e v) → OneReading (λ (items : List ℕ). Unit {0}) bytesVector v (take (numberAt v 0 4) (drop 4 v))
+vector-one : (e : ProtocolError) (v : List ℕ) → Bytes v → AllPass (bytesRows e v) → OneReading (λ (items : List ℕ). Unit {0}) bytesVector v (take (tableTotalOf v) (drop 4 v))
 vector-one e v b h =
     record {
       typed = tt;
       written = vector-written e v h b;
-      unique = λ q t w. sym (vector-read q (small q w)) ∙ ap (λ (u : List ℕ). take (numberAt u 0 4) (drop 4 u)) w;
+      unique = λ q t w. sym (vector-read q (small q w)) ∙ ap (λ (u : List ℕ). take (tableTotalOf u) (drop 4 u)) w;
     }
   where
     small : (q : List ℕ) → bytesVector q ≡ v → length q < 2 ^ 32
     small q w =
-        let n : 4 + numberAt v 0 4 ≡ length v = vector-length e v h in
-        let l : numberAt v 0 4 < 2 ^ 32 = number-lt v 0 4 b in
+        let n : 4 + tableTotalOf v ≡ length v = vector-length e v h in
+        let l : tableTotalOf v < 2 ^ 32 = number-lt v 0 4 b in
         let k : length (bytesVector q) ≡ 4 + length q = length-vector q in
         let m : length (bytesVector q) ≡ length v = ap length w in
         omega arith
@@ -119,26 +119,26 @@ bytes-theorem field p b h =
     let g = place-given (bytesRows InvalidWitness field) (bytesPlaceFrom 0 field) p h in
     rw (g .1) (vector-one InvalidWitness field b (g .0))
 
-field-split : (s : List ℕ) (n : ℕ) → 4 + n ≡ numberAt s 8 4 - 16 → field1 s ≡ take 4 (drop 16 s) ++ take n (drop 20 s)
+field-split : (s : List ℕ) (n : ℕ) → 4 + n ≡ secondOffsetOf s - 16 → field1 s ≡ take 4 (drop 16 s) ++ take n (drop 20 s)
 unfolding field1 between
 field-split s n e = rw (← e) (take-add 4 n (drop 16 s) ∙ rw (drop-drop 4 16 s))
 
 field1-bytes : (s : List ℕ) → Bytes s → Bytes (field1 s)
 unfolding field1 between
-field1-bytes s b = bytes-take (numberAt s 8 4 - 16) (drop 16 s) (bytes-drop 16 s b)
+field1-bytes s b = bytes-take (secondOffsetOf s - 16) (drop 16 s) (bytes-drop 16 s b)
 
 field3-bytes : (s : List ℕ) → Bytes s → Bytes (field3 s)
 unfolding field3
-field3-bytes s b = bytes-drop (numberAt s 12 4) s b
+field3-bytes s b = bytes-drop (thirdOffsetOf s) s b
 
 -- the bytes of field 1, in the witness
 lock-bytes : (s : List ℕ) → Passes s → AllPass (bytesRows InvalidWitness (field1 s))
-    → take (numberAt (field1 s) 0 4) (drop 4 (field1 s)) ≡ take (numberAt (field1 s) 0 4) (drop 20 s)
+    → take (tableTotalOf (field1 s)) (drop 4 (field1 s)) ≡ take (tableTotalOf (field1 s)) (drop 20 s)
 lock-bytes s z h =
-    let n : ℕ = numberAt (field1 s) 0 4 in
+    let n : ℕ = tableTotalOf (field1 s) in
     let e : 4 + n ≡ length (field1 s) = vector-length InvalidWitness (field1 s) h in
-    let l : length (field1 s) ≡ numberAt s 8 4 - 16 = length-field1 s z in
-    let k : 4 + n ≡ numberAt s 8 4 - 16 = omega arith in
+    let l : length (field1 s) ≡ secondOffsetOf s - 16 = length-field1 s z in
+    let k : 4 + n ≡ secondOffsetOf s - 16 = omega arith in
     let f : field1 s ≡ take 4 (drop 16 s) ++ take n (drop 20 s) = field-split s n k in
     let d : drop 4 (field1 s) ≡ take n (drop 20 s) =
     ap (drop 4) f ∙ drop-at (take 4 (drop 16 s)) (take n (drop 20 s)) 4 (part-length s 16 4 (omega arith)) in
@@ -146,9 +146,9 @@ lock-bytes s z h =
     rw d (take-all n (take n (drop 20 s)) (omega arith))
 
 -- and those of field 3, in the script
-args-bytes : (s : List ℕ) → drop 4 (field3 s) ≡ drop (numberAt s 12 4 + 4) s
+args-bytes : (s : List ℕ) → drop 4 (field3 s) ≡ drop (thirdOffsetOf s + 4) s
 unfolding field3
-args-bytes s = drop-drop 4 (numberAt s 12 4) s
+args-bytes s = drop-drop 4 (thirdOffsetOf s) s
 
 -- The lock of a witness: field 1 is the vector of just those bytes that stand at the place, and the witness is the table of it and the other two fields.
 pub witness-lock-theorem : (s : List ℕ) (p : Place) → Bytes s → readWitnessLock s ≡ At p
@@ -159,7 +159,7 @@ witness-lock-theorem s p b h =
     let q = all-pass-split (tableRows InvalidWitness s) _ (g .0) in
     let z : Passes s = passes InvalidWitness s (q .0) in
     let v : AllPass (bytesRows InvalidWitness (field1 s)) = q .1 .1 in
-    let o : OneReading (λ (items : List ℕ). Unit {0}) bytesVector (field1 s) (take (numberAt (field1 s) 0 4) (drop 20 s)) =
+    let o : OneReading (λ (items : List ℕ). Unit {0}) bytesVector (field1 s) (take (tableTotalOf (field1 s)) (drop 20 s)) =
     rw (lock-bytes s z v) at (vector-one InvalidWitness (field1 s) (field1-bytes s b) v) in
     rw (g .1) (o, rw (o .written) (table-written s b z))
 
@@ -168,9 +168,9 @@ pub script-args-theorem : (s : List ℕ) (p : Place) → Bytes s → readScriptA
     → OneReading (λ (items : List ℕ). Unit {0}) bytesVector (field3 s) (bytesAt s p) × (tableBytes (field1 s ∷ field2 s ∷ bytesVector (bytesAt s p) ∷ []) ≡ s)
 unfolding readScriptArgs scriptArgsRows bytesPlaceFrom bytesAt
 script-args-theorem s p b h =
-    let g = place-given (scriptArgsRows s) (bytesPlaceFrom (numberAt s 12 4) (field3 s)) p h in
+    let g = place-given (scriptArgsRows s) (bytesPlaceFrom (thirdOffsetOf s) (field3 s)) p h in
     let q = all-pass-split (tableRows InvalidArgs s) (bytesRows InvalidArgs (field3 s)) (g .0) in
     let z : Passes s = passes InvalidArgs s (q .0) in
-    let o : OneReading (λ (items : List ℕ). Unit {0}) bytesVector (field3 s) (take (numberAt (field3 s) 0 4) (drop (numberAt s 12 4 + 4) s)) =
+    let o : OneReading (λ (items : List ℕ). Unit {0}) bytesVector (field3 s) (take (tableTotalOf (field3 s)) (drop (thirdOffsetOf s + 4) s)) =
     rw (args-bytes s) at (vector-one InvalidArgs (field3 s) (field3-bytes s b) (q .1)) in
     rw (g .1) (o, rw (o .written) (table-written s b z))

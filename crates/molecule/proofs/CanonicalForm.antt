@@ -7,7 +7,6 @@ use native.Mathlib.Omega.{arith}
 use lib.Dec.{leb}
 use lib.ListN.{length, take, drop, replicate, length-append, take-append-drop}
 use lib.Seq.{sets, take-at, drop-drop}
-use Rattle.octets.specs.Le.{numberAt}
 use Rattle.octets.specs.Layout.{Field, layoutBytes}
 use Rattle.octets.proofs.LeLaws.{length-to}
 use Rattle.octets.proofs.Stores.{sets-append}
@@ -21,7 +20,7 @@ use Rattle.protocol.specs.declared.check.Check.the-variants.{Passed, Failed}
 use Rattle.protocol.proofs.AllPass.{passed-all-pass, all-pass-passed, decide-append}
 use Rattle.molecule.specs.declared.table.TableFields.{TableFields}
 use Rattle.molecule.specs.Molecule.{bytesVector, tableBytes}
-use Rattle.molecule.specs.Table3.{tableRows, tableFieldsOf, tableAnswer, readTable, between, field2, field3}
+use Rattle.molecule.specs.Table3.{tableRows, tableFieldsOf, tableAnswer, readTable, between, field2, field3, secondOffsetOf, thirdOffsetOf}
 use Rattle.molecule.specs.Canonical.{canonicalOf, canonicalRoom, canonicalHead, partsOf, canonicalParts}
 use Rattle.molecule.proofs.Form.{three-layout, Passes, passes, length-field2, length-field3}
 
@@ -37,51 +36,51 @@ canonical-layout b c =
 
 module _ (s : List ℕ) (z : Passes s) where
   -- fields 2 and 3 stand end to end
-  pub fields-end : field2 s ++ field3 s ≡ drop (numberAt s 8 4) s
+  pub fields-end : field2 s ++ field3 s ≡ drop (secondOffsetOf s) s
   unfolding field2 field3 between
   fields-end =
-      let x = numberAt s 8 4 in
-      let y = numberAt s 12 4 in
+      let x = secondOffsetOf s in
+      let y = thirdOffsetOf s in
       let e : x + (y - x) ≡ y = omega arith in
       let d : drop (y - x) (drop x s) ≡ drop y s = drop-drop (y - x) x s ∙ ap (λ (k : ℕ). drop k s) e in
       rw (← d) (take-append-drop (y - x) (drop x s))
 
   -- the 20 bytes, as numbers
   abbrev pub Front : List Field
-  Front = canonicalHead (20 + (length s - numberAt s 8 4)) (20 + (numberAt s 12 4 - numberAt s 8 4))
+  Front = canonicalHead (20 + (length s - secondOffsetOf s)) (20 + (thirdOffsetOf s - secondOffsetOf s))
 
   length-front : length (layoutBytes Front) ≡ 20
   unfolding canonicalHead
   length-front = length-numbers Front
 
-  canonical-form : canonicalOf s ≡ layoutBytes Front ++ drop (numberAt s 8 4) s
+  canonical-form : canonicalOf s ≡ layoutBytes Front ++ drop (secondOffsetOf s) s
   unfolding canonicalOf
   canonical-form =
-      let l₂ : length (field2 s) ≡ numberAt s 12 4 - numberAt s 8 4 = length-field2 s z in
-      let l₃ : length (field3 s) ≡ length s - numberAt s 12 4 = length-field3 s z in
-      let e₁ : 20 + length (field2 s) + length (field3 s) ≡ 20 + (length s - numberAt s 8 4) = omega arith in
-      let e₂ : 20 + length (field2 s) ≡ 20 + (numberAt s 12 4 - numberAt s 8 4) = omega arith in
+      let l₂ : length (field2 s) ≡ thirdOffsetOf s - secondOffsetOf s = length-field2 s z in
+      let l₃ : length (field3 s) ≡ length s - thirdOffsetOf s = length-field3 s z in
+      let e₁ : 20 + length (field2 s) + length (field3 s) ≡ 20 + (length s - secondOffsetOf s) = omega arith in
+      let e₂ : 20 + length (field2 s) ≡ 20 + (thirdOffsetOf s - secondOffsetOf s) = omega arith in
       canonical-layout (field2 s) (field3 s) ∙ rw (e₁, e₂, fields-end)
 
   pub canonical-first : take 20 (canonicalOf s) ≡ layoutBytes Front
-  canonical-first = rw canonical-form (take-at (layoutBytes Front) (drop (numberAt s 8 4) s) 20 length-front)
+  canonical-first = rw canonical-form (take-at (layoutBytes Front) (drop (secondOffsetOf s) s) 20 length-front)
 
   -- the first 20 bytes, and the witness from field 2 on, are the canonical witness
-  pub canonical-whole : take 20 (canonicalOf s) ++ drop (numberAt s 8 4) s ≡ canonicalOf s
-  canonical-whole = ap (λ (l : List ℕ). l ++ drop (numberAt s 8 4) s) canonical-first ∙ sym canonical-form
+  pub canonical-whole : take 20 (canonicalOf s) ++ drop (secondOffsetOf s) s ≡ canonicalOf s
+  canonical-whole = ap (λ (l : List ℕ). l ++ drop (secondOffsetOf s) s) canonical-first ∙ sym canonical-form
 
-  pub length-canonical : length (canonicalOf s) ≡ 20 + length (drop (numberAt s 8 4) s)
+  pub length-canonical : length (canonicalOf s) ≡ 20 + length (drop (secondOffsetOf s) s)
   length-canonical =
-      ap length canonical-form ∙ (length-append (layoutBytes Front) (drop (numberAt s 8 4) s) ∙ ap (λ (n : ℕ). n + length (drop (numberAt s 8 4) s)) length-front)
+      ap length canonical-form ∙ (length-append (layoutBytes Front) (drop (secondOffsetOf s) s) ∙ ap (λ (n : ℕ). n + length (drop (secondOffsetOf s) s)) length-front)
 
   -- stored one behind the other
-  pub parts-stored : (out : List ℕ) → sets (sets out 0 (take 20 (canonicalOf s))) 20 (drop (numberAt s 8 4) s) ≡ sets out 0 (canonicalOf s)
+  pub parts-stored : (out : List ℕ) → sets (sets out 0 (take 20 (canonicalOf s))) 20 (drop (secondOffsetOf s) s) ≡ sets out 0 (canonicalOf s)
   parts-stored out =
       let n : length (take 20 (canonicalOf s)) ≡ 20 = ap length canonical-first ∙ length-front in
-      sets-append out 0 (take 20 (canonicalOf s)) (drop (numberAt s 8 4) s) 20 (omega arith) ∙ ap (sets out 0) canonical-whole
+      sets-append out 0 (take 20 (canonicalOf s)) (drop (secondOffsetOf s) s) 20 (omega arith) ∙ ap (sets out 0) canonical-whole
 
 -- the parts of a witness whose table passes
-pub parts-read : (s : List ℕ) → AllPass (tableRows InvalidWitness s) → canonicalParts s ≡ record { found = Passed; head = take 20 (canonicalOf s); rest = numberAt s 8 4 }
+pub parts-read : (s : List ℕ) → AllPass (tableRows InvalidWitness s) → canonicalParts s ≡ record { found = Passed; head = take 20 (canonicalOf s); rest = secondOffsetOf s }
 unfolding canonicalParts partsOf readTable tableAnswer tableFieldsOf
 parts-read s h = rw (all-pass-passed (tableRows InvalidWitness s) h)
 

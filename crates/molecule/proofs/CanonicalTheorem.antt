@@ -7,7 +7,7 @@ use Prim.Native.Nat.{ℕ, _+_, _-_, _^_, _<_}
 use native.Mathlib.Omega.{arith}
 use lib.ListN.{length, drop, length-drop}
 use Rattle.octets.specs.declared.place.Place.{Place}
-use Rattle.octets.specs.Le.{numberAt, Bytes}
+use Rattle.octets.specs.Le.{Bytes}
 use Rattle.octets.specs.Places.{bytesAt}
 use Rattle.protocol.specs.Rows.{AllPass}
 use Rattle.protocol.specs.declared.error.ProtocolError.the-variants.{InvalidWitness}
@@ -15,7 +15,7 @@ use Rattle.protocol.specs.declared.check.Check.the-variants.{Passed}
 use Rattle.protocol.proofs.AllPass.{passed-all-pass}
 use Rattle.molecule.specs.declared.bytes.PlaceAnswer.the-variants.{At}
 use Rattle.molecule.specs.Molecule.{bytesVector, tableBytes}
-use Rattle.molecule.specs.Table3.{tableRows, field2, field3}
+use Rattle.molecule.specs.Table3.{tableRows, field2, field3, secondOffsetOf}
 use Rattle.molecule.specs.Bytes.{readWitnessLock}
 use Rattle.molecule.specs.Canonical.{canonicalOf, canonicalParts, ReadBack, Whole}
 use Rattle.molecule.proofs.Form.{length-three, passes, passes-hold}
@@ -47,8 +47,8 @@ canonical-read s h =
 whole-read : (s : List ℕ) → AllPass (tableRows InvalidWitness s) → Whole s
 whole-read s h =
     let z = passes InvalidWitness s h in
-    let l : length (canonicalOf s) ≡ 20 + length (drop (numberAt s 8 4) s) = length-canonical s z in
-    let d : length (drop (numberAt s 8 4) s) ≡ length s - numberAt s 8 4 = length-drop (numberAt s 8 4) s in
+    let l : length (canonicalOf s) ≡ 20 + length (drop (secondOffsetOf s) s) = length-canonical s z in
+    let d : length (drop (secondOffsetOf s) s) ≡ length s - secondOffsetOf s = length-drop (secondOffsetOf s) s in
     record {
       bytes = rw (parts-read s h) (canonical-whole s z);
       size = rw (parts-read s h) (omega arith);

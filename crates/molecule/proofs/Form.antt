@@ -6,7 +6,6 @@ use Prim.Native.Nat.{ℕ, _+_, _-_, _≤_}
 use native.Mathlib.Omega.{arith}
 use borrow.Author.Tests.{leb-true, eqb-true, le-leb, eq-eqb}
 use lib.ListN.{length, length-append, length-drop}
-use Rattle.octets.specs.Le.{numberAt}
 use Rattle.octets.specs.Lists.{joined}
 use Rattle.octets.specs.Layout.{Field, layoutBytes}
 use Rattle.octets.proofs.LayoutLaws.{length-numbers}
@@ -22,7 +21,7 @@ use Rattle.molecule.specs.declared.table.TableFields.{TableFields}
 use Rattle.molecule.specs.declared.table.TableAnswer.{TableAnswer}
 use Rattle.molecule.specs.declared.table.TableAnswer.the-variants.{Fields, Refused}
 use Rattle.molecule.specs.Molecule.{offsetsFrom, headSize, tableHead, tableBytes}
-use Rattle.molecule.specs.Table3.{tableRows, tableFieldsOf, tableAnswer, readTable, between, field1, field2, field3}
+use Rattle.molecule.specs.Table3.{tableRows, tableFieldsOf, tableAnswer, readTable, between, field1, field2, field3, firstOffsetOf, secondOffsetOf, tableTotalOf, thirdOffsetOf}
 
 -- the numbers before the fields
 abbrev pub head3 : ℕ → ℕ → ℕ → List Field
@@ -50,11 +49,11 @@ module _ (a b c : List ℕ) where
 -- what the rows say of a table that passes them
 pub record Passes (s : List ℕ) : Type 0 where
   pub header : 16 ≤ length s
-  pub total : numberAt s 0 4 ≡ length s
-  pub first : numberAt s 4 4 ≡ 16
-  pub second : 16 ≤ numberAt s 8 4
-  pub third : numberAt s 8 4 ≤ numberAt s 12 4
-  pub end : numberAt s 12 4 ≤ length s
+  pub total : tableTotalOf s ≡ length s
+  pub first : firstOffsetOf s ≡ 16
+  pub second : 16 ≤ secondOffsetOf s
+  pub third : secondOffsetOf s ≤ thirdOffsetOf s
+  pub end : thirdOffsetOf s ≤ length s
 
 pub passes : (e : ProtocolError) (s : List ℕ) → AllPass (tableRows e s) → Passes s
 unfolding tableRows
@@ -75,17 +74,17 @@ passes-hold e s z =
 
 -- the fields of a table that passes
 module _ (s : List ℕ) (z : Passes s) where
-  pub length-field1 : length (field1 s) ≡ numberAt s 8 4 - 16
+  pub length-field1 : length (field1 s) ≡ secondOffsetOf s - 16
   unfolding field1 between
-  length-field1 = part-length s 16 (numberAt s 8 4 - 16) (omega arith)
+  length-field1 = part-length s 16 (secondOffsetOf s - 16) (omega arith)
 
-  pub length-field2 : length (field2 s) ≡ numberAt s 12 4 - numberAt s 8 4
+  pub length-field2 : length (field2 s) ≡ thirdOffsetOf s - secondOffsetOf s
   unfolding field2 between
-  length-field2 = part-length s (numberAt s 8 4) (numberAt s 12 4 - numberAt s 8 4) (omega arith)
+  length-field2 = part-length s (secondOffsetOf s) (thirdOffsetOf s - secondOffsetOf s) (omega arith)
 
-  pub length-field3 : length (field3 s) ≡ length s - numberAt s 12 4
+  pub length-field3 : length (field3 s) ≡ length s - thirdOffsetOf s
   unfolding field3
-  length-field3 = length-drop (numberAt s 12 4) s
+  length-field3 = length-drop (thirdOffsetOf s) s
 
 -- what the checks found, by the answer
 abbrev pub tableFound : TableAnswer → Check

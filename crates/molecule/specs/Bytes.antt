@@ -15,15 +15,18 @@ use Rattle.protocol.specs.declared.check.Check.{Check}
 use Rattle.protocol.specs.declared.check.Check.the-variants.{Passed, Failed}
 use Rattle.molecule.specs.declared.bytes.PlaceAnswer.{PlaceAnswer}
 use Rattle.molecule.specs.declared.bytes.PlaceAnswer.the-variants.{At, Refused}
-use Rattle.molecule.specs.Table3.{tableRows, field1, field3}
+use Rattle.molecule.specs.Table3.{thirdOffsetOf, tableRows, field1, field3}
 
 -- "u32 length, then exactly so many bytes"
+abbrev pub bytesLengthOf : List ℕ → ℕ
+bytesLengthOf field = numberAt field 0 4
+
 unfoldable pub bytesRows : ProtocolError → List ℕ → List Row
-bytesRows e field = row (leb 4 (length field)) e ∷ row (eqb (4 + numberAt field 0 4) (length field)) e ∷ []
+bytesRows e field = row (leb 4 (length field)) e ∷ row (eqb (4 + bytesLengthOf field) (length field)) e ∷ []
 
 -- the place of the bytes of a field that begins at `at`
 unfoldable pub bytesPlaceFrom : ℕ → List ℕ → Place
-bytesPlaceFrom at field = record { start = at + 4; len = numberAt field 0 4 }
+bytesPlaceFrom at field = record { start = at + 4; len = bytesLengthOf field }
 
 unfoldable pub placeAnswer : Check → Place → PlaceAnswer
 placeAnswer Passed p = At p
@@ -45,7 +48,7 @@ unfoldable pub scriptArgsRows : List ℕ → List Row
 scriptArgsRows s = tableRows InvalidArgs s ++ bytesRows InvalidArgs (field3 s)
 
 unfoldable pub readScriptArgs : List ℕ → PlaceAnswer
-readScriptArgs s = placeAnswer (decide Passed (scriptArgsRows s)) (bytesPlaceFrom (numberAt s 12 4) (field3 s))
+readScriptArgs s = placeAnswer (decide Passed (scriptArgsRows s)) (bytesPlaceFrom (thirdOffsetOf s) (field3 s))
 
 -- the bytes of s that an answer places, none where it is a refusal
 unfoldable pub bytesIn : List ℕ → PlaceAnswer → List ℕ

@@ -15,21 +15,34 @@ use Rattle.molecule.specs.declared.table.TableFields.{TableFields}
 use Rattle.molecule.specs.declared.table.TableAnswer.{TableAnswer}
 use Rattle.molecule.specs.declared.table.TableAnswer.the-variants.{Fields, Refused}
 
+-- a table's total size, and where its three fields begin
+abbrev pub tableTotalOf : List ℕ → ℕ
+tableTotalOf s = numberAt s 0 4
+
+abbrev pub firstOffsetOf : List ℕ → ℕ
+firstOffsetOf s = numberAt s 4 4
+
+abbrev pub secondOffsetOf : List ℕ → ℕ
+secondOffsetOf s = numberAt s 8 4
+
+abbrev pub thirdOffsetOf : List ℕ → ℕ
+thirdOffsetOf s = numberAt s 12 4
+
 -- 01: "the first offset is 16, offsets don't fall or pass the length, the total is the length, at least 16." Every check has
 -- the same refusal, which the caller names: 22 for a witness, 20 for a script.
 unfoldable pub tableRows : ProtocolError → List ℕ → List Row
 tableRows e s =
     row (leb 16 (length s)) e
-    ∷ row (eqb (numberAt s 0 4) (length s)) e
-    ∷ row (eqb (numberAt s 4 4) 16) e
-    ∷ row (leb 16 (numberAt s 8 4)) e
-    ∷ row (leb (numberAt s 8 4) (numberAt s 12 4)) e
-    ∷ row (leb (numberAt s 12 4) (length s)) e
+    ∷ row (eqb (tableTotalOf s) (length s)) e
+    ∷ row (eqb (firstOffsetOf s) 16) e
+    ∷ row (leb 16 (secondOffsetOf s)) e
+    ∷ row (leb (secondOffsetOf s) (thirdOffsetOf s)) e
+    ∷ row (leb (thirdOffsetOf s) (length s)) e
     ∷ []
 
 -- where each field begins; it ends where the next one begins, the last with the bytes
 unfoldable pub tableFieldsOf : List ℕ → TableFields
-tableFieldsOf s = record { first = 16; second = numberAt s 8 4; third = numberAt s 12 4 }
+tableFieldsOf s = record { first = 16; second = secondOffsetOf s; third = thirdOffsetOf s }
 
 unfoldable pub tableAnswer : Check → TableFields → TableAnswer
 tableAnswer Passed f = Fields f
@@ -44,13 +57,13 @@ between s start end = take (end - start) (drop start s)
 
 -- the bytes of the fields
 unfoldable pub field1 : List ℕ → List ℕ
-field1 s = between s 16 (numberAt s 8 4)
+field1 s = between s 16 (secondOffsetOf s)
 
 unfoldable pub field2 : List ℕ → List ℕ
-field2 s = between s (numberAt s 8 4) (numberAt s 12 4)
+field2 s = between s (secondOffsetOf s) (thirdOffsetOf s)
 
 unfoldable pub field3 : List ℕ → List ℕ
-field3 s = drop (numberAt s 12 4) s
+field3 s = drop (thirdOffsetOf s) s
 
 -- A reading of a table is the bytes of its fields; its written form is the table of them.
 pub record Table3 : Type 0 where

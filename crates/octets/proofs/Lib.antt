@@ -1,3 +1,4 @@
+pub mod Truth
 pub mod LeLaws
 pub mod Stores
 pub mod LayoutLaws

@@ -1,21 +1,22 @@
--- Lists of numbers: equal or not, strictly rising, made from a function, joined from parts, and in an array.
+-- Lists of numbers: equal or not, tested, strictly rising, made from a function, joined from parts, and in an array.
 use Prim.Native.Nat.{ℕ, zero, suc, _+_, _≤_}
-use mathlib.Core.Bool.{Bool, true, false}
+use mathlib.Core.Bool.{Bool, true, false, _&&_}
 use mathlib.Core.List.{List, [], _∷_, _++_}
 use lib.Dec.{eqb}
 use lib.ListN.{replicate}
 use lib.Seq.{sets}
-
-abbrev pub both : Bool → Bool → Bool
-both true b = b
-both false b = false
 
 -- the lists are equal
 unfoldable pub same : List ℕ → List ℕ → Bool
 same [] [] = true
 same [] (y ∷ ys) = false
 same (x ∷ xs) [] = false
-same (x ∷ xs) (y ∷ ys) = both (eqb x y) (same xs ys)
+same (x ∷ xs) (y ∷ ys) = eqb x y && same xs ys
+
+-- every element passes the test
+unfoldable pub every : {A : Type 0} → (A → Bool) → List A → Bool
+every p [] = true
+every p (x ∷ xs) = p x && every p xs
 
 -- strictly rising, from `least` on
 abbrev pub Rising : ℕ → List ℕ → Type 0

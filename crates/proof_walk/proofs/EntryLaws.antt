@@ -13,9 +13,10 @@ use Rattle.octets.specs.Le.{numberAt, fromLe}
 use Rattle.protocol.specs.Policy.{capabilityFor}
 use Rattle.protocol.specs.declared.error.ProtocolError.the-variants.{InvalidOperation}
 use Rattle.protocol.specs.declared.policy.OperationCapability.the-variants.{Capability, Refused}
-use Rattle.account_state.specs.Reading.{entrySlotOf, entryLengthOf, entryOf, entriesOf}
+use Rattle.account_state.specs.Fields.{entryLengthOf, entrySlotOf}
+use Rattle.account_state.specs.Reading.{entryOf, entriesOf, stateEntries}
 use Rattle.decision.specs.Proofs.{known, entryFor, noEntry}
-use Rattle.proof_walk.specs.Steps.{stateEntries, FoundIs}
+use Rattle.proof_walk.specs.Steps.{FoundIs}
 use Rattle.proof_walk.specs.declared.authenticator.Found.the-variants.{At, Missing}
 
 -- the search stands at `at` with `left` entries to look at: what they say is what all say

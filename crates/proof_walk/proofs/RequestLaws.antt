@@ -9,7 +9,6 @@ use native.Mathlib.Omega.{arith}
 use lib.Dec.{eqb}
 use lib.ListN.{length, take, drop}
 use borrow.Author.Tests.{ne-eqb, leb-true}
-use Rattle.octets.specs.Le.{numberAt}
 use Rattle.octets.proofs.Arrays.{length-array}
 use Rattle.protocol.specs.Rows.{decide}
 use Rattle.protocol.specs.Write.{writeAnswer, afterWrite}
@@ -17,7 +16,8 @@ use Rattle.protocol.specs.declared.check.Check.the-variants.{Passed}
 use Rattle.protocol.specs.declared.check.WriteAnswer.the-variants.{Written}
 use Rattle.protocol.proofs.Back.{write-room}
 use Rattle.protocol.proofs.AllPass.{passed-all-pass}
-use Rattle.account_state.specs.Reading.{EntryReading, entryOf}
+use Rattle.account_state.specs.Fields.{hashTypeOf, weightOf}
+use Rattle.account_state.specs.Reading.{EntryReading, entryOf, stateEntries}
 use Rattle.account_witness.specs.Reading.{ProofReading}
 use Rattle.verifier_request.specs.Writer.{requestTotal, requestRoom, requestWritten, requestStored}
 use Rattle.verifier_request.proofs.Form.{length-request}
@@ -31,7 +31,7 @@ use Rattle.decision.specs.Proofs.{contextFor, known, entryFor, verifierField, v
 use Rattle.decision.specs.Walk.{answered}
 use Rattle.decision.proofs.RequestsRead.{request-limits}
 use Rattle.proof_walk.specs.Answer.{sceneDeps, walkContext}
-use Rattle.proof_walk.specs.Steps.{stateEntries, isKnown, entryIn, FoundIs, proofOf, foundRows, requestFor}
+use Rattle.proof_walk.specs.Steps.{isKnown, entryIn, FoundIs, proofOf, foundRows, requestFor}
 use Rattle.proof_walk.specs.declared.authenticator.Found.{Found}
 
 -- just one place
@@ -48,11 +48,11 @@ one-found (k ∷ j ∷ ks) = sym (ne-eqb (suc (suc (length ks))) 1 (λ e. omega 
 
 -- what the search for an entry's verifier says
 pub resolved : (table store entry : List ℕ) (s : Search)
-    → s ≡ cellSearch (verifierField (numberAt entry 10 1)) (take 32 (drop 12 entry)) (cellsOf CellDep (sceneIn table store))
+    → s ≡ cellSearch (verifierField (hashTypeOf entry)) (take 32 (drop 12 entry)) (cellsOf CellDep (sceneIn table store))
     → isOne s ≡ eqb (length (verifiers (entryOf entry) (sceneDeps table store))) 1
 unfolding entryOf verifiers cellsOf sceneDeps cellSearch
 resolved table store entry s e =
-    ap isOne e ∙ one-found (matches (verifierField (numberAt entry 10 1)) (take 32 (drop 12 entry)) (sceneIn table store .deps))
+    ap isOne e ∙ one-found (matches (verifierField (hashTypeOf entry)) (take 32 (drop 12 entry)) (sceneIn table store .deps))
 
 -- where every row passes the request writer refuses nothing: its answer is the request's length, which fits, and the request
 -- stands at the front
@@ -94,7 +94,7 @@ module _ (table store state : List ℕ) (operation : ℕ) (digest : List ℕ) (r
   unfolding requestOf requestFor walkContext contextFor
   found-request = rw (f .itsEntry)
 
-  pub found-weight : numberAt (entryIn state found) 8 2
+  pub found-weight : weightOf (entryIn state found)
       ≡ entryFor slot (walkContext table store state operation digest room .entries) .weight
   unfolding walkContext contextFor entryOf
   found-weight = ap (λ (e : EntryReading). e .weight) (f .itsEntry)

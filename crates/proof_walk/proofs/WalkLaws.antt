@@ -11,13 +11,13 @@ use lib.Dec.{eqb}
 use lib.ListN.{length, length-append}
 use borrow.Author.Tests.{ne-eqb}
 use borrow.Rule.Slice.PartMut.{mid-len}
-use Rattle.octets.specs.Le.{numberAt}
 use Rattle.protocol.specs.Policy.{isOperation}
 use Rattle.protocol.specs.Rows.{row, _▷_, decide}
 use Rattle.protocol.specs.declared.error.ProtocolError.{ProtocolError}
 use Rattle.protocol.specs.declared.error.ProtocolError.the-variants.{InvalidWitness, VerifierFailure, InvalidOperation}
 use Rattle.protocol.specs.declared.check.Check.{Check}
 use Rattle.protocol.specs.declared.check.Check.the-variants.{Passed, Failed}
+use Rattle.account_witness.specs.Fields.{proofCountOf}
 use Rattle.account_witness.specs.Reading.{ProofReading}
 use Rattle.account_witness.specs.Walk as witness
 use Rattle.account_witness.specs.declared.walk.ProofCursor.{ProofCursor}
@@ -95,7 +95,7 @@ pub record Head (c : Context) (lock : List ℕ) (count : ℕ) (answer₀ answer 
   pub goes : walkLock c lock ≡ walkFrom c lock (count - i) cursor i weight made
 
 -- before the first turn
-pub head-first : (c : Context) (lock answer₀ : List ℕ) (count : ℕ) → count ≡ numberAt lock 6 1
+pub head-first : (c : Context) (lock answer₀ : List ℕ) (count : ℕ) → count ≡ proofCountOf lock
     → Head c lock count answer₀ answer₀ witness.firstProof 0 0 0
 unfolding walkLock walkList answered
 head-first c lock answer₀ count e =

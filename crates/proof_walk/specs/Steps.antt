@@ -7,12 +7,11 @@ use mathlib.Core.Bool.{Bool, true, false, cond}
 use mathlib.Core.List.{List, [], _∷_}
 use lib.Dec.{eqb}
 use lib.ListN.{length, drop}
-use Rattle.octets.specs.Le.{numberAt}
 use Rattle.protocol.specs.Rows.{Row, row, _then_, decide}
 use Rattle.protocol.specs.declared.error.ProtocolError.the-variants.{InvalidWitness}
 use Rattle.protocol.specs.declared.check.Check.{Check}
 use Rattle.protocol.specs.declared.check.Check.the-variants as check
-use Rattle.account_state.specs.Reading.{EntryReading, entryOf, entriesOf}
+use Rattle.account_state.specs.Reading.{EntryReading, entryOf}
 use Rattle.account_witness.specs.Reading.{ProofReading, proofReading}
 use Rattle.account_witness.specs.Walk as witness
 use Rattle.account_witness.specs.declared.walk.ProofCursor.{ProofCursor}
@@ -28,10 +27,6 @@ use Rattle.proof_walk.specs.declared.walk.ProofOutcome.{ProofOutcome}
 use Rattle.proof_walk.specs.declared.walk.ProofOutcome.the-variants as outcome
 
 -- ---- the entry of a slot
-
--- the entries of a state
-abbrev pub stateEntries : List ℕ → List EntryReading
-stateEntries state = entriesOf (numberAt state 22 1) (drop 32 state)
 
 -- whether an entry was found, and the bytes from it on
 abbrev pub isKnown : Found → Bool

@@ -11,9 +11,9 @@ use protocol::OperationCapability;
 use protocol::capability_for_operation;
 ghost use mathlib.Core.Path.{_≡_};
 ghost use Rattle.octets.specs.Lists.{arrayOf};
-ghost use Rattle.account_state.specs.Reading.{entryOf};
+ghost use Rattle.account_state.specs.Reading.{entryOf, stateEntries};
 ghost use Rattle.decision.specs.Proofs.{thresholdOf, capable};
-ghost use Rattle.proof_walk.specs.Steps.{FoundIs, stateEntries, isKnown, entryIn};
+ghost use Rattle.proof_walk.specs.Steps.{FoundIs, isKnown, entryIn};
 
 // Where the entry of a slot begins.
 pub(crate) enum Found {

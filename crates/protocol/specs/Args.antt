@@ -13,8 +13,11 @@ use Rattle.protocol.specs.declared.args.AccountLockArgs.{AccountLockArgs
 use Rattle.protocol.specs.declared.args.ArgsAnswer.{ArgsAnswer}
 use Rattle.protocol.specs.declared.args.ArgsAnswer.the-variants.{Args, Refused}
 
+abbrev pub argsVersionOf : List ℕ → ℕ
+argsVersionOf s = numberAt s 0 1
+
 unfoldable pub argsRows : List ℕ → List Row
-argsRows s = row (eqb (length s) 33) InvalidArgs ∷ row (eqb (numberAt s 0 1) 1) UnsupportedVersion ∷ []
+argsRows s = row (eqb (length s) 33) InvalidArgs ∷ row (eqb (argsVersionOf s) 1) UnsupportedVersion ∷ []
 
 unfoldable pub argsFault : List ℕ → Check
 argsFault s = decide Passed (argsRows s)

@@ -1,24 +1,20 @@
 -- Algorithms, operations and capabilities.
 use Prim.Native.Nat.{ℕ, _/_, _%_}
-use mathlib.Core.Bool.{Bool, true, false, cond}
+use mathlib.Core.Bool.{Bool, _||_, cond}
 use lib.Dec.{eqb}
 use Rattle.protocol.specs.Errors.{errorNumber}
 use Rattle.protocol.specs.declared.error.ProtocolError.the-variants.{InvalidOperation}
 use Rattle.protocol.specs.declared.policy.OperationCapability.{OperationCapability}
 use Rattle.protocol.specs.declared.policy.OperationCapability.the-variants.{Capability, Refused}
 
-abbrev either : Bool → Bool → Bool
-either true b = true
-either false b = b
-
 -- 01, each entry: "algorithm 0x0001, 0x0101, 0x0102, 0x0103 or 0x0201 (33)"
 unfoldable pub isSupportedAlgorithm : ℕ → Bool
 isSupportedAlgorithm a =
-    either (eqb a 0x0001) (either (eqb a 0x0101) (either (eqb a 0x0102) (either (eqb a 0x0103) (eqb a 0x0201))))
+    eqb a 0x0001 || (eqb a 0x0101 || (eqb a 0x0102 || (eqb a 0x0103 || eqb a 0x0201)))
 
 -- 01, witness lock: "operation 1 to 3"; writers: "Operation outside 1 to 3 is 37 in them."
 unfoldable pub isOperation : ℕ → Bool
-isOperation o = either (eqb o 1) (either (eqb o 2) (eqb o 3))
+isOperation o = eqb o 1 || (eqb o 2 || eqb o 3)
 
 -- 01: "Capability bits 1, 2, 4, 8: spend, rotate, recovery, session issue."
 unfoldable pub capabilityFor : ℕ → OperationCapability

@@ -14,7 +14,7 @@ use Rattle.octets.proofs.LeLaws.{length-to, from-to, number-lt}
 use Rattle.octets.proofs.LayoutLaws.{table-back, numbers-back}
 use Rattle.octets.proofs.Parts.{part-back, part-length}
 use Rattle.protocol.specs.Rows.{AllPass}
-use Rattle.public_key_proof.specs.Reader.{publicKeyProofRows, publicKeyProofPlaces}
+use Rattle.public_key_proof.specs.Reader.{publicKeyProofRows, publicKeyProofPlaces, publicKeyLengthOf, publicKeyProofVersionOf, signatureLengthOf}
 use Rattle.public_key_proof.specs.Reading.{PublicKeyProofReading, publicKeyProofGiven, publicKeyProofReading, publicKeyProofHead, publicKeyProofBytes}
 use Rattle.public_key_proof.specs.Writer.{publicKeyProofWriterRows, publicKeyProofTotal}
 use Rattle.public_key_proof.proofs.Form.{Head, length-head, before-signature, length-proof}
@@ -22,10 +22,10 @@ use Rattle.public_key_proof.proofs.Form.{Head, length-head, before-sign
 -- what the rows say of a proof that passes them
 pub record Passes (s : List ℕ) : Type 0 where
   pub header : 5 ≤ length s
-  pub version : numberAt s 0 1 ≡ 1
-  pub key : 0 < numberAt s 1 2
-  pub signature : 0 < numberAt s 3 2
-  pub sum : 5 + numberAt s 1 2 + numberAt s 3 2 ≡ length s
+  pub version : publicKeyProofVersionOf s ≡ 1
+  pub key : 0 < publicKeyLengthOf s
+  pub signature : 0 < signatureLengthOf s
+  pub sum : 5 + publicKeyLengthOf s + signatureLengthOf s ≡ length s
 
 pub passes : (s : List ℕ) → AllPass (publicKeyProofRows s) → Passes s
 unfolding publicKeyProofRows
@@ -45,11 +45,11 @@ passes-hold s z =
 
 -- From the bytes to the reading and back.
 module _ (s : List ℕ) (b : Bytes s) (z : Passes s) where
-  length-key : length (take (numberAt s 1 2) (drop 5 s)) ≡ numberAt s 1 2
-  length-key = part-length s 5 (numberAt s 1 2) (omega arith)
+  length-key : length (take (publicKeyLengthOf s) (drop 5 s)) ≡ publicKeyLengthOf s
+  length-key = part-length s 5 (publicKeyLengthOf s) (omega arith)
 
-  length-signature : length (take (numberAt s 3 2) (drop (5 + numberAt s 1 2) s)) ≡ numberAt s 3 2
-  length-signature = part-length s (5 + numberAt s 1 2) (numberAt s 3 2) (omega arith)
+  length-signature : length (take (signatureLengthOf s) (drop (5 + publicKeyLengthOf s) s)) ≡ signatureLengthOf s
+  length-signature = part-length s (5 + publicKeyLengthOf s) (signatureLengthOf s) (omega arith)
 
   head-back : layoutBytes (publicKeyProofHead (publicKeyProofReading s)) ≡ take 5 s
   unfolding publicKeyProofHead publicKeyProofReading publicKeyProofGiven publicKeyProofPlaces layoutAt
@@ -59,18 +59,18 @@ module _ (s : List ℕ) (b : Bytes s) (z : Passes s) where
   pub reading-written : publicKeyProofBytes (publicKeyProofReading s) ≡ s
   unfolding publicKeyProofBytes publicKeyProofReading publicKeyProofGiven publicKeyProofPlaces
   reading-written =
-      let k = numberAt s 1 2 in
-      let g = numberAt s 3 2 in
+      let k = publicKeyLengthOf s in
+      let g = signatureLengthOf s in
       rw (head-back, ← take-add 5 k s, ← take-add (5 + k) g s) (take-all (5 + k + g) s (omega arith))
 
   -- which is within the writer's limits,
   pub reading-limits : AllPass (publicKeyProofWriterRows (publicKeyProofReading s))
   unfolding publicKeyProofWriterRows publicKeyProofReading publicKeyProofGiven publicKeyProofPlaces
   reading-limits =
-      let k : numberAt s 1 2 < 65536 = number-lt s 1 2 b in
-      let g : numberAt s 3 2 < 65536 = number-lt s 3 2 b in
+      let k : publicKeyLengthOf s < 65536 = number-lt s 1 2 b in
+      let g : signatureLengthOf s < 65536 = number-lt s 3 2 b in
       rw (length-key, length-signature)
-      (lt-ltb _ _ (z .key), (lt-ltb _ _ (z .signature), (le-leb (numberAt s 1 2) 65535 (omega arith), (le-leb (numberAt s 3 2) 65535 (omega arith), tt))))
+      (lt-ltb _ _ (z .key), (lt-ltb _ _ (z .signature), (le-leb (publicKeyLengthOf s) 65535 (omega arith), (le-leb (signatureLengthOf s) 65535 (omega arith), tt))))
 
   -- and whose written form is as long as the proof
   pub reading-total : publicKeyProofTotal (publicKeyProofReading s) ≡ length s
@@ -96,8 +96,8 @@ module _ (r : PublicKeyProofReading) (k : length (r .publicKey) < 65536) (g : le
   pub written-reading : publicKeyProofReading (publicKeyProofBytes r) ≡ r
   unfolding publicKeyProofReading publicKeyProofGiven publicKeyProofPlaces publicKeyProofHead layoutAt
   written-reading =
-      let e₁ : numberAt (publicKeyProofBytes r) 1 2 ≡ length (r .publicKey) = ap (fieldValue 1) head-read in
-      let e₂ : numberAt (publicKeyProofBytes r) 3 2 ≡ length (r .signature) = ap (fieldValue 2) head-read in
+      let e₁ : publicKeyLengthOf (publicKeyProofBytes r) ≡ length (r .publicKey) = ap (fieldValue 1) head-read in
+      let e₂ : signatureLengthOf (publicKeyProofBytes r) ≡ length (r .signature) = ap (fieldValue 2) head-read in
       rw (e₁, e₂, key-read, signature-read)
 
   -- and within the writer's limits it passes
@@ -107,8 +107,8 @@ module _ (r : PublicKeyProofReading) (k : length (r .publicKey) < 65536) (g : le
       let n : length (publicKeyProofBytes r) ≡ 5 + length (r .publicKey) + length (r .signature) = length-proof r in
       let a : 0 < length (r .publicKey) = ltb-true _ _ (h .0) in
       let c : 0 < length (r .signature) = ltb-true _ _ (h .1 .0) in
-      let e₁ : numberAt (publicKeyProofBytes r) 1 2 ≡ length (r .publicKey) = ap (fieldValue 1) head-read in
-      let e₂ : numberAt (publicKeyProofBytes r) 3 2 ≡ length (r .signature) = ap (fieldValue 2) head-read in
+      let e₁ : publicKeyLengthOf (publicKeyProofBytes r) ≡ length (r .publicKey) = ap (fieldValue 1) head-read in
+      let e₂ : signatureLengthOf (publicKeyProofBytes r) ≡ length (r .signature) = ap (fieldValue 2) head-read in
       record { header = omega arith; version = ap (fieldValue 0) head-read; key = omega arith; signature = omega arith; sum = omega arith }
 
 -- a number of the written form, cut to its field
@@ -123,7 +123,7 @@ lengths-fit r s z e =
     let k : ℕ = length (r .publicKey) in
     let g : ℕ = length (r .signature) in
     let parts = r .publicKey ++ r .signature in
-    let a : numberAt s 1 2 ≡ k % 65536 = number-cut s (toLe 1 1) (toLe 2 g ++ parts) 1 2 k (sym e ∙ simp append-assoc) (length-to 1 1) in
-    let c : numberAt s 3 2 ≡ g % 65536 = number-cut s (toLe 1 1 ++ toLe 2 k) parts 3 2 g (sym e ∙ simp append-assoc) (length-append (toLe 1 1) (toLe 2 k) ∙ rw (length-to 1 1, length-to 2 k)) in
+    let a : publicKeyLengthOf s ≡ k % 65536 = number-cut s (toLe 1 1) (toLe 2 g ++ parts) 1 2 k (sym e ∙ simp append-assoc) (length-to 1 1) in
+    let c : signatureLengthOf s ≡ g % 65536 = number-cut s (toLe 1 1 ++ toLe 2 k) parts 3 2 g (sym e ∙ simp append-assoc) (length-append (toLe 1 1) (toLe 2 k) ∙ rw (length-to 1 1, length-to 2 k)) in
     let n : length s ≡ 5 + k + g = sym (ap length e) ∙ length-proof r in
     omega arith

@@ -14,13 +14,23 @@ use Rattle.public_key_proof.specs.declared.reader.PublicKeyProof.{Public
 use Rattle.public_key_proof.specs.declared.reader.PublicKeyProofAnswer.{PublicKeyProofAnswer}
 use Rattle.public_key_proof.specs.declared.reader.PublicKeyProofAnswer.the-variants.{Proof, Refused}
 
+-- the fields before the two parts
+abbrev pub publicKeyProofVersionOf : List ℕ → ℕ
+publicKeyProofVersionOf s = numberAt s 0 1
+
+abbrev pub publicKeyLengthOf : List ℕ → ℕ
+publicKeyLengthOf s = numberAt s 1 2
+
+abbrev pub signatureLengthOf : List ℕ → ℕ
+signatureLengthOf s = numberAt s 3 2
+
 unfoldable pub publicKeyProofRows : List ℕ → List Row
 publicKeyProofRows s =
     row (leb 5 (length s)) InvalidProof
-    ∷ row (eqb (numberAt s 0 1) 1) InvalidProof
-    ∷ row (ltb 0 (numberAt s 1 2)) InvalidProof
-    ∷ row (ltb 0 (numberAt s 3 2)) InvalidProof
-    ∷ row (eqb (5 + numberAt s 1 2 + numberAt s 3 2) (length s)) InvalidProof
+    ∷ row (eqb (publicKeyProofVersionOf s) 1) InvalidProof
+    ∷ row (ltb 0 (publicKeyLengthOf s)) InvalidProof
+    ∷ row (ltb 0 (signatureLengthOf s)) InvalidProof
+    ∷ row (eqb (5 + publicKeyLengthOf s + signatureLengthOf s) (length s)) InvalidProof
     ∷ []
 
 unfoldable pub publicKeyProofFault : List ℕ → Check
@@ -31,9 +41,9 @@ unfoldable pub publicKeyProofPlaces : List ℕ → PublicKeyProof
 publicKeyProofPlaces s =
     record {
       «public_key» = 5;
-      «public_key_len» = numberAt s 1 2;
-      signature = 5 + numberAt s 1 2;
-      «signature_len» = numberAt s 3 2;
+      «public_key_len» = publicKeyLengthOf s;
+      signature = 5 + publicKeyLengthOf s;
+      «signature_len» = signatureLengthOf s;
     }
 
 unfoldable pub publicKeyProofAnswer : Check → PublicKeyProof → PublicKeyProofAnswer

@@ -4,9 +4,10 @@ use mathlib.Core.Bool.{Bool, true, false, cond, _&&_, _||_}
 use mathlib.Core.List.{List, [], _∷_, _++_, map}
 use lib.ListN.{length, getD}
 use lib.Dec.{ltb, leb, eqb}
+use Rattle.octets.specs.Lists.{every}
 use Rattle.scene_text.specs.declared.decimal.Decimal.{Decimal}
 use Rattle.scene_text.specs.declared.decimal.Decimal.the-variants.{Value, Invalid}
-use Rattle.scene_text.specs.Text.{all, inRange, hexOk, hexVal, hexBytes, sinceOf}
+use Rattle.scene_text.specs.Text.{inRange, hexOk, hexVal, hexBytes, sinceOf}
 use Rattle.scene_line.specs.declared.form.Form.{Form}
 use Rattle.scene_line.specs.declared.form.Form.the-variants.{Group, Since, TypeHash, Hash, TypeScript, Hex, Digits}
 use Rattle.scene_line.specs.declared.fields.FieldsFound.{FieldsFound}
@@ -34,13 +35,13 @@ hashTextOk f = eqb (length f) 64 && hexOk f
 -- both empty or neither", where bare says that the line's TYPEHASH is empty; "DIGITS is up to 16 of 0 approved, 1 refused,
 -- 2 failed"
 abbrev pub fieldOk : Bool → Form → List ℕ → Bool
-fieldOk bare Group f = eqb (length f) 1 && all (inRange 48 49) f
+fieldOk bare Group f = eqb (length f) 1 && every (inRange 48 49) f
 fieldOk bare Since f = isNumber (sinceOf f)
 fieldOk bare TypeHash f = eqb (length f) 0 || hashTextOk f
 fieldOk bare Hash f = hashTextOk f
 fieldOk bare TypeScript f = cond bare (eqb (length f) 0) (ltb 0 (length f) && hexOk f)
 fieldOk bare Hex f = hexOk f
-fieldOk bare Digits f = leb (length f) 16 && all (inRange 48 50) f
+fieldOk bare Digits f = leb (length f) 16 && every (inRange 48 50) f
 
 -- whether the line's TYPEHASH is empty, after the field f
 abbrev pub bareAfter : Bool → Form → List ℕ → Bool

@@ -9,11 +9,12 @@ use native.Mathlib.Nat.{eq-or-lt-of-le}
 use lib.ListN.{length, length-append, length-map}
 use lib.Dec.{ltb, leb, eqb}
 use borrow.Author.Tests.{eq-eqb, eqb-true, leb-true, ltb-true, ltb-false, eqb-false}
+use Rattle.octets.specs.Lists.{every}
 use Rattle.scene_line.specs.declared.form.Form.{Form}
 use Rattle.scene_line.specs.declared.form.Form.the-variants.{Group, Since, TypeHash, Hash, TypeScript, Hex, Digits}
 use Rattle.scene_line.specs.declared.kind.Kind.{Kind}
 use Rattle.scene_line.specs.declared.kind.Kind.the-variants.{Script, Tx, Input, Output, Dep, Witness, Verdicts, Unknown}
-use Rattle.scene_text.specs.Text.{hexVal, sinceOf, all, inRange}
+use Rattle.scene_text.specs.Text.{hexVal, sinceOf, inRange}
 use Rattle.scene_line.specs.Line.{nextForm, fieldEntries, lineEntries, formsOk}
 use Rattle.scene_line.proofs.KindLaws.{place-small}
 use Rattle.scene_line.specs.Kind.{rank, fieldCount, firstForm, follows}
@@ -80,7 +81,7 @@ row-few Dep fs n ok = omega (arith, numbers-few TypeHash fs refl)
 row-few Witness fs n ok = omega (arith, numbers-few Hex fs refl)
 row-few Verdicts [] n ok = omega arith
 row-few Verdicts (f ∷ []) n ok =
-    let short : length f ≤ 16 = leb-true (length f) 16 (and-left (leb (length f) 16) (all (inRange 48 50) f) (and-left (leb (length f) 16 && all (inRange 48 50) f) true ok)) in
+    let short : length f ≤ 16 = leb-true (length f) 16 (and-left (leb (length f) 16) (every (inRange 48 50) f) (and-left (leb (length f) 16 && every (inRange 48 50) f) true ok)) in
     omega (arith, length-map f hexVal, length-append (fieldEntries Digits f) [])
 row-few Verdicts (f ∷ g ∷ fs) n ok = absurd (omega arith)
 row-few Unknown fs n ok = omega (arith, numbers-few Hex fs refl)

@@ -7,13 +7,12 @@ use mathlib.Core.List.{List, [], _∷_, _++_, map}
 use native.Mathlib.Nat.{zero-add}
 use native.Mathlib.Omega.{arith}
 use lib.ListN.{length, replicate, length-append, length-replicate}
-use Rattle.octets.specs.Lists.{joined}
+use Rattle.octets.specs.Lists.{joined, every}
 use Rattle.scene_text.specs.Text.{pieces}
 use Rattle.scene_line.specs.Kind.{rank}
 use Rattle.scene_reader.specs.Reader.{ReaderState, held, seenWith, run, start}
-use Rattle.scene_table.specs.Valid.{every}
 use Rattle.scene_reading.specs.Lines.{LinesAccepted, kindOfLine, countOk, formOk, bytesOfLine}
-use Rattle.scene_table.proofs.Truth.{and-both, both-and}
+use Rattle.octets.proofs.Truth.{and-both, both-and}
 use Rattle.scene_reading.proofs.Order.{Order}
 use Rattle.scene_reading.proofs.Ordered.{order-kinds, kinds-order}
 use Rattle.scene_reading.proofs.Run.{LinesPass, Ran, putLines, lines-run, run-text}

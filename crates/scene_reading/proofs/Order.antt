@@ -10,7 +10,7 @@ use borrow.Author.Tests.{leb-true, eqb-true, eqb-false, le-leb, le-ltb, eq-eqb, 
 use Rattle.scene_line.specs.declared.kind.Kind.{Kind}
 use Rattle.scene_line.specs.Kind.{rank, follows}
 use Rattle.scene_reader.specs.Reader.{seenWith}
-use Rattle.scene_table.proofs.Truth.{and-both}
+use Rattle.octets.proofs.Truth.{and-both}
 
 -- the kinds of the lines that are left, after `seen` lines of the kind of rank `last`
 unfoldable pub Order : ℕ → ℕ → List Kind → Type 0

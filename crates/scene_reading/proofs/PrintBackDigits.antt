@@ -8,11 +8,12 @@ use native.Mathlib.Omega.{arith}
 use borrow.Author.Tests.{ltb-true, eqb-true, eqb-false, not-true, lt-ltb, le-ltb}
 use lib.ListN.{length}
 use lib.Dec.{ltb, eqb}
+use Rattle.octets.specs.Lists.{every}
 use Rattle.scene_text.specs.declared.decimal.Decimal.the-variants.{Value, Invalid}
-use Rattle.scene_text.specs.Text.{all, inRange, isHex, hexVal, hexOk, hexBytes, decimal, plain, numberOf, sinceOf}
+use Rattle.scene_text.specs.Text.{inRange, isHex, hexVal, hexOk, hexBytes, decimal, plain, numberOf, sinceOf}
 use Rattle.scene_text.proofs.Tests.{and-left, and-right, between-yes, between-low, between-high}
 use Rattle.scene_line.specs.Line.{isNumber}
-use Rattle.scene_table.specs.Valid.{every, bytesOk}
+use Rattle.scene_table.specs.Valid.{bytesOk}
 use Rattle.scene_reading.specs.Print.{digitText, hexText, decimalText, digitsText}
 use Rattle.scene_reading.specs.Reading.{numberIn}
 use Rattle.scene_reading.proofs.PrintLists.{all-left, all-right}
@@ -48,15 +49,15 @@ pub record HexPrint (f : List ℕ) : Type 0 where
   pub bytes : bytesOk (hexBytes f) ≡ true
   pub text : hexText (hexBytes f) ≡ f
 
-hexes : (f : List ℕ) → length f % 2 ≡ 0 → all isHex f ≡ true → HexPrint f
-unfolding hexBytes hexText bytesOk every all
+hexes : (f : List ℕ) → length f % 2 ≡ 0 → every isHex f ≡ true → HexPrint f
+unfolding hexBytes hexText bytesOk every
 hexes [] e h = record { bytes = refl; text = refl }
 hexes (x ∷ []) e h = absurd (omega arith)
 hexes (x ∷ y ∷ r) e h =
-    let dx = hex-digit x (and-left (isHex x) (isHex y && all isHex r) h) in
-    let h₁ = and-right (isHex x) (isHex y && all isHex r) h in
-    let dy = hex-digit y (and-left (isHex y) (all isHex r) h₁) in
-    let rest = hexes r (omega arith) (and-right (isHex y) (all isHex r) h₁) in
+    let dx = hex-digit x (and-left (isHex x) (isHex y && every isHex r) h) in
+    let h₁ = and-right (isHex x) (isHex y && every isHex r) h in
+    let dy = hex-digit y (and-left (isHex y) (every isHex r) h₁) in
+    let rest = hexes r (omega arith) (and-right (isHex y) (every isHex r) h₁) in
     let a = dx .small in
     let b = dy .small in
     let upper : (hexVal x * 16 + hexVal y) / 16 ≡ hexVal x = omega arith in
@@ -68,7 +69,7 @@ hexes (x ∷ y ∷ r) e h =
 
 pub hex-print : (f : List ℕ) → hexOk f ≡ true → HexPrint f
 unfolding hexOk
-hex-print f h = hexes f (eqb-true (length f % 2) 0 (and-left (eqb (length f % 2) 0) (all isHex f) h)) (and-right (eqb (length f % 2) 0) (all isHex f) h)
+hex-print f h = hexes f (eqb-true (length f % 2) 0 (and-left (eqb (length f % 2) 0) (every isHex f) h)) (and-right (eqb (length f % 2) 0) (every isHex f) h)
 
 -- decimal digits, the last of them apart
 last-apart : (x : ℕ) (r : List ℕ) → (t : List ℕ) × (y : ℕ) × (x ∷ r ≡ t ++ (y ∷ []))
@@ -80,13 +81,13 @@ unfolding decimal
 decimal-grows v [] = omega arith
 decimal-grows v (x ∷ s) = let h = decimal-grows (v * 10 + (x - 48)) s in omega arith
 
-decimal-positive : (s : List ℕ) → all (inRange 48 57) s ≡ true → Leads s → 0 < decimal 0 s
-unfolding decimal all
+decimal-positive : (s : List ℕ) → every (inRange 48 57) s ≡ true → Leads s → 0 < decimal 0 s
+unfolding decimal every
 decimal-positive [] d l = l .some
 decimal-positive (x ∷ s) d l =
     let g = decimal-grows (0 * 10 + (x - 48)) s in
     let n : x ≡ 48 → ⊥ = l .lead in
-    let a = between-low 48 57 x (and-left (inRange 48 57 x) (all (inRange 48 57) s) d) in
+    let a = between-low 48 57 x (and-left (inRange 48 57 x) (every (inRange 48 57) s) d) in
     omega arith
 
 module _ (n y : ℕ) (digit : inRange 48 57 y ≡ true) where
@@ -109,10 +110,10 @@ module _ (n y : ℕ) (digit : inRange 48 57 y ≡ true) where
       rw (decimal-append 0 t y, le-ltb (v * 10 + (y - 48)) 10 (omega arith), e, m, h)
 
 -- a number's digits are its text where n digits are enough, by the digits before the last
-module _ (n : ℕ) (again : (s : List ℕ) → all (inRange 48 57) s ≡ true → Leads s → decimal 0 s < 10 ^ n → decimalText n (decimal 0 s) ≡ s) where
-  decimal-step : (t : List ℕ) (y : ℕ) → all (inRange 48 57) (t ++ (y ∷ [])) ≡ true → Leads (t ++ (y ∷ [])) → decimal 0 (t ++ (y ∷ [])) < 10 ^ suc n
+module _ (n : ℕ) (again : (s : List ℕ) → every (inRange 48 57) s ≡ true → Leads s → decimal 0 s < 10 ^ n → decimalText n (decimal 0 s) ≡ s) where
+  decimal-step : (t : List ℕ) (y : ℕ) → every (inRange 48 57) (t ++ (y ∷ [])) ≡ true → Leads (t ++ (y ∷ [])) → decimal 0 (t ++ (y ∷ [])) < 10 ^ suc n
       → decimalText (suc n) (decimal 0 (t ++ (y ∷ []))) ≡ t ++ (y ∷ [])
-  unfolding all
+  unfolding every
   decimal-step [] y d l h = one-digit n y (and-left (inRange 48 57 y) true d)
   decimal-step (z ∷ t) y d l h =
       let dz = all-left (inRange 48 57) (z ∷ t) (y ∷ []) d in
@@ -121,7 +122,7 @@ module _ (n : ℕ) (again : (s : List ℕ) → all (inRange 48 57) s ≡ true �
       let k = tenth n (decimal 0 (z ∷ t) * 10 + (y - 48)) (rw (decimal-append 0 (z ∷ t) y) at h) in
       more-digits n y dy (z ∷ t) (decimal-positive (z ∷ t) dz first) (again (z ∷ t) dz first (omega arith))
 
-decimal-print : (n : ℕ) (s : List ℕ) → all (inRange 48 57) s ≡ true → Leads s → decimal 0 s < 10 ^ n → decimalText n (decimal 0 s) ≡ s
+decimal-print : (n : ℕ) (s : List ℕ) → every (inRange 48 57) s ≡ true → Leads s → decimal 0 s < 10 ^ n → decimalText n (decimal 0 s) ≡ s
 decimal-print zero s d l h = let p = decimal-positive s d l in absurd (omega arith)
 decimal-print (suc n) [] d l h = absurd (let p = l .some in omega arith)
 decimal-print (suc n) (x ∷ r) d l h =
@@ -130,20 +131,20 @@ decimal-print (suc n) (x ∷ r) d l h =
     rw e (decimal-step n (decimal-print n) (p .0) (p .1) (rw e at d) (rw e at l) (rw e at h))
 
 plain-print : (n : ℕ) (s : List ℕ) → plain s ≡ true → decimal 0 s < 10 ^ suc n → decimalText (suc n) (decimal 0 s) ≡ s
-unfolding all
+unfolding every
 plain-print n [] p h = absurd (false≢true p)
-plain-print n (x ∷ s) p h = go s (eqb (length (x ∷ s)) 1) refl d (and-right (all (inRange 48 57) (x ∷ s)) _ p₁) h
+plain-print n (x ∷ s) p h = go s (eqb (length (x ∷ s)) 1) refl d (and-right (every (inRange 48 57) (x ∷ s)) _ p₁) h
   where
     lone : Bool
     lone = eqb (length (x ∷ s)) 1 || not (eqb x 48)
 
-    p₁ : (all (inRange 48 57) (x ∷ s) && lone) ≡ true
-    p₁ = and-right (ltb 0 (length (x ∷ s))) (all (inRange 48 57) (x ∷ s) && lone) p
+    p₁ : (every (inRange 48 57) (x ∷ s) && lone) ≡ true
+    p₁ = and-right (ltb 0 (length (x ∷ s))) (every (inRange 48 57) (x ∷ s) && lone) p
 
-    d : all (inRange 48 57) (x ∷ s) ≡ true
-    d = and-left (all (inRange 48 57) (x ∷ s)) lone p₁
+    d : every (inRange 48 57) (x ∷ s) ≡ true
+    d = and-left (every (inRange 48 57) (x ∷ s)) lone p₁
 
-    go : (s : List ℕ) (b : Bool) → eqb (length (x ∷ s)) 1 ≡ b → all (inRange 48 57) (x ∷ s) ≡ true → (b || not (eqb x 48)) ≡ true → decimal 0 (x ∷ s) < 10 ^ suc n
+    go : (s : List ℕ) (b : Bool) → eqb (length (x ∷ s)) 1 ≡ b → every (inRange 48 57) (x ∷ s) ≡ true → (b || not (eqb x 48)) ≡ true → decimal 0 (x ∷ s) < 10 ^ suc n
         → decimalText (suc n) (decimal 0 (x ∷ s)) ≡ x ∷ s
     go s false e d o h = decimal-print (suc n) (x ∷ s) d (record { some = omega arith; lead = eqb-false x 48 (not-true (eqb x 48) o) }) h
     go [] true e d o h = one-digit n x (and-left (inRange 48 57 x) true d)
@@ -171,14 +172,14 @@ pub record DigitsPrint (m : ℕ) (f : List ℕ) : Type 0 where
   pub each : every (λ (d : ℕ). ltb d m) (map hexVal f) ≡ true
   pub text : digitsText (map hexVal f) ≡ f
 
-pub digits-print : (m : ℕ) → m ≤ 10 → (f : List ℕ) → all (inRange 48 (47 + m)) f ≡ true → DigitsPrint m f
-unfolding all every digitsText hexVal
+pub digits-print : (m : ℕ) → m ≤ 10 → (f : List ℕ) → every (inRange 48 (47 + m)) f ≡ true → DigitsPrint m f
+unfolding every digitsText hexVal
 digits-print m small [] h = record { each = refl; text = refl }
 digits-print m small (x ∷ f) h =
-    let y = and-left (inRange 48 (47 + m) x) (all (inRange 48 (47 + m)) f) h in
+    let y = and-left (inRange 48 (47 + m) x) (every (inRange 48 (47 + m)) f) h in
     let a = between-low 48 (47 + m) x y in
     let b = between-high 48 (47 + m) x y in
     let v : hexVal x ≡ x - 48 = rw (between-yes 48 57 x a (omega arith)) in
     let e : 48 + (x - 48) ≡ x = omega arith in
-    let rest = digits-print m small f (and-right (inRange 48 (47 + m) x) (all (inRange 48 (47 + m)) f) h) in
+    let rest = digits-print m small f (and-right (inRange 48 (47 + m) x) (every (inRange 48 (47 + m)) f) h) in
     record { each = rw (v, lt-ltb (x - 48) m (omega arith)) (rest .each); text = rw (v, e, rest .text) }

@@ -8,11 +8,12 @@ use native.Mathlib.Omega.{arith}
 use borrow.Author.Tests.{ltb-true, eqb-true, eq-eqb, ne-eqb, lt-ltb}
 use lib.ListN.{length, getD}
 use lib.Dec.{ltb, eqb}
-use Rattle.scene_text.specs.Text.{all, inRange, hexOk, hexVal, hexBytes, sinceOf}
+use Rattle.octets.specs.Lists.{every}
+use Rattle.scene_text.specs.Text.{inRange, hexOk, hexVal, hexBytes, sinceOf}
 use Rattle.scene_text.proofs.Tests.{and-left, and-right}
 use Rattle.scene_line.specs.declared.form.Form.the-variants.{Group, TypeHash}
 use Rattle.scene_line.specs.Line.{formsOk, isNumber}
-use Rattle.scene_table.specs.Valid.{every, bytesOk, hashBytesOk, cellOk, inputOk}
+use Rattle.scene_table.specs.Valid.{bytesOk, hashBytesOk, cellOk, inputOk}
 use Rattle.scene_reading.specs.Print.{hexText, digitsText, cellFields, inputFields}
 use Rattle.scene_reading.specs.Reading.{cellOf, inputOf, fieldAt, numberIn}
 use Rattle.scene_reading.proofs.PrintDigits.{hex-length}
@@ -114,11 +115,11 @@ one-digit [] e = absurd (omega arith)
 one-digit (x ∷ []) e = refl
 one-digit (x ∷ y ∷ g) e = absurd (omega arith)
 
-group-print : (g : List ℕ) → (eqb (length g) 1 && all (inRange 48 49) g) ≡ true → (ltb (hexVal (getD g 0 0)) 2 ≡ true) × ((48 + hexVal (getD g 0 0)) ∷ [] ≡ g)
+group-print : (g : List ℕ) → (eqb (length g) 1 && every (inRange 48 49) g) ≡ true → (ltb (hexVal (getD g 0 0)) 2 ≡ true) × ((48 + hexVal (getD g 0 0)) ∷ [] ≡ g)
 unfolding every digitsText
 group-print g h =
-    let e = one-digit g (eqb-true (length g) 1 (and-left (eqb (length g) 1) (all (inRange 48 49) g) h)) in
-    let d : DigitsPrint 2 (getD g 0 0 ∷ []) = digits-print 2 (omega arith) (getD g 0 0 ∷ []) (rw e at (and-right (eqb (length g) 1) (all (inRange 48 49) g) h)) in
+    let e = one-digit g (eqb-true (length g) 1 (and-left (eqb (length g) 1) (every (inRange 48 49) g) h)) in
+    let d : DigitsPrint 2 (getD g 0 0 ∷ []) = digits-print 2 (omega arith) (getD g 0 0 ∷ []) (rw e at (and-right (eqb (length g) 1) (every (inRange 48 49) g) h)) in
     (and-left (ltb (hexVal (getD g 0 0)) 2) true (d .each), d .text ∙ sym e)
 
 pub input-print : (fs : List (List ℕ)) → length fs ≡ 6 → formsOk true Group fs ≡ true → InputPrint fs
@@ -126,7 +127,7 @@ unfolding formsOk inputOk inputFields inputOf cellOf fieldAt
 input-print [] n h = absurd (omega arith)
 input-print (g ∷ []) n h = absurd (omega arith)
 input-print (g ∷ t ∷ fs) n h =
-    let fg = eqb (length g) 1 && all (inRange 48 49) g in
+    let fg = eqb (length g) 1 && every (inRange 48 49) g in
     let ft = isNumber (sinceOf t) in
     let rest = formsOk true TypeHash fs in
     let h₁ = and-right fg (ft && rest) h in

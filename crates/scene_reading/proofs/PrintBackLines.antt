@@ -8,9 +8,9 @@ use native.Mathlib.Omega.{arith}
 use borrow.Author.Tests.{eqb-true}
 use lib.ListN.{length, length-map}
 use lib.Dec.{lit<, eqb, leb}
-use Rattle.octets.specs.Lists.{same}
+use Rattle.octets.specs.Lists.{same, every}
 use Rattle.octets.proofs.Same.{same-eq}
-use Rattle.scene_text.specs.Text.{all, inRange, before, pieces, hexOk, hexVal, hexBytes}
+use Rattle.scene_text.specs.Text.{inRange, before, pieces, hexOk, hexVal, hexBytes}
 use Rattle.scene_text.proofs.Tests.{and-left, and-right}
 use Rattle.scene_text.proofs.Pieces.{before-none}
 use Rattle.scene_line.specs.declared.kind.Kind.{Kind}
@@ -184,7 +184,7 @@ module _ (l : List ℕ) where
       let e = one-field l kind.Verdicts p refl in
       let field = fieldAt (fieldsOfLine l) 0 in
       let few = leb (length field) 16 in
-      let digits = all (inRange 48 50) field in
+      let digits = every (inRange 48 50) field in
       let h : (few && digits && true) ≡ true = rw e at (field-forms l kind.Verdicts p) in
       let h₁ = and-left (few && digits) true h in
       let x = digits-print 3 (omega arith) field (and-right few digits h₁) in

@@ -9,10 +9,11 @@ use native.Mathlib.Omega.{arith}
 use borrow.Author.Tests.{ltb-true, ltb-false, lt-ltb, le-leb, lt-leb, ne-eqb}
 use lib.ListN.{length, getD, length-append, length-map, List·getD-append}
 use lib.Dec.{ltb, leb, eqb}
+use Rattle.octets.specs.Lists.{every}
 use Rattle.scene_text.specs.declared.decimal.Decimal.the-variants.{Value}
-use Rattle.scene_text.specs.Text.{all, inRange, isHex, hexVal, hexOk, hexBytes, decimal, plain, numberOf, sinceOf}
+use Rattle.scene_text.specs.Text.{inRange, isHex, hexVal, hexOk, hexBytes, decimal, plain, numberOf, sinceOf}
 use Rattle.scene_text.proofs.Tests.{and-left, and-right, between-yes}
-use Rattle.scene_table.specs.Valid.{every, bytesOk}
+use Rattle.scene_table.specs.Valid.{bytesOk}
 use Rattle.scene_reading.specs.Print.{digitText, hexText, decimalText, digitsText}
 use Rattle.scene_reading.proofs.PrintLists.{all-append, all-more}
 
@@ -66,8 +67,8 @@ unfolding hexText
 hex-length [] = refl
 hex-length (b ∷ bs) = let e = hex-length bs in omega arith
 
-hex-forms : (bs : List ℕ) → bytesOk bs ≡ true → all isHex (hexText bs) ≡ true
-unfolding hexText all
+hex-forms : (bs : List ℕ) → bytesOk bs ≡ true → every isHex (hexText bs) ≡ true
+unfolding hexText every
 hex-forms [] h = refl
 hex-forms (b ∷ bs) h = rw (upper b bs h .form, lower b bs h .form, hex-forms bs (rest-bytes b bs h))
 
@@ -78,8 +79,8 @@ hex-ok bs h =
     rw (hex-length bs, e, hex-forms bs h)
 
 -- no byte of it is below 48, thus none is a comma or ends a line
-pub hex-high : (bs : List ℕ) → bytesOk bs ≡ true → all (leb 48) (hexText bs) ≡ true
-unfolding hexText all
+pub hex-high : (bs : List ℕ) → bytesOk bs ≡ true → every (leb 48) (hexText bs) ≡ true
+unfolding hexText every
 hex-high [] h = refl
 hex-high (b ∷ bs) h = rw (le-leb 48 _ (upper b bs h .high), le-leb 48 _ (lower b bs h .high), hex-high bs (rest-bytes b bs h))
 
@@ -88,13 +89,13 @@ unfolding decimal
 decimal-append v [] x = refl
 decimal-append v (y ∷ s) x = decimal-append (v * 10 + (y - 48)) s x
 
-decimal-digits : (n v : ℕ) → all (inRange 48 57) (decimalText n v) ≡ true
-unfolding decimalText all
+decimal-digits : (n v : ℕ) → every (inRange 48 57) (decimalText n v) ≡ true
+unfolding decimalText every
 decimal-digits zero v = refl
 decimal-digits (suc n) v = go (ltb v 10) refl (decimal-digits n (v / 10))
   where
-    go : (b : Bool) → ltb v 10 ≡ b → all (inRange 48 57) (decimalText n (v / 10)) ≡ true
-        → all (inRange 48 57) (cond b ((48 + v) ∷ []) (decimalText n (v / 10) ++ ((48 + v % 10) ∷ []))) ≡ true
+    go : (b : Bool) → ltb v 10 ≡ b → every (inRange 48 57) (decimalText n (v / 10)) ≡ true
+        → every (inRange 48 57) (cond b ((48 + v) ∷ []) (decimalText n (v / 10) ++ ((48 + v % 10) ∷ []))) ≡ true
     go true e r = let l = ltb-true v 10 e in rw (between-yes 48 57 (48 + v) (omega arith) (omega arith))
     go false e r = all-append (inRange 48 57) (decimalText n (v / 10)) ((48 + v % 10) ∷ []) r (rw (between-yes 48 57 (48 + v % 10) (omega arith) (omega arith)))
 
@@ -135,14 +136,14 @@ or-true : (a : Bool) → (a || true) ≡ true
 or-true true = refl
 or-true false = refl
 
-leads-plain : (s : List ℕ) → all (inRange 48 57) s ≡ true → Leads s → plain s ≡ true
+leads-plain : (s : List ℕ) → every (inRange 48 57) s ≡ true → Leads s → plain s ≡ true
 leads-plain s h l = rw (lt-ltb 0 (length s) (l .some), h, ne-eqb (getD s 0 0) 48 (l .lead)) (or-true (eqb (length s) 1))
 
 decimal-plain : (n v : ℕ) → v < 10 ^ suc n → plain (decimalText (suc n) v) ≡ true
 unfolding decimalText
 decimal-plain n v h = go (ltb v 10) refl (decimal-digits (suc n) v)
   where
-    go : (b : Bool) → ltb v 10 ≡ b → all (inRange 48 57) (decimalText (suc n) v) ≡ true → plain (cond b ((48 + v) ∷ []) (decimalText n (v / 10) ++ ((48 + v % 10) ∷ []))) ≡ true
+    go : (b : Bool) → ltb v 10 ≡ b → every (inRange 48 57) (decimalText (suc n) v) ≡ true → plain (cond b ((48 + v) ∷ []) (decimalText n (v / 10) ++ ((48 + v % 10) ∷ []))) ≡ true
     go true e r = rw (rw e at r)
     go false e r =
         let l = ltb-false v 10 e in
@@ -154,16 +155,16 @@ decimal-back v h =
     let k : v < 10 ^ 20 = omega arith in
     rw (decimal-plain 19 v k, decimal-value 20 v k, lt-ltb v (2 ^ 64) h)
 
-between-high : (l h : ℕ) (s : List ℕ) → all (inRange l h) s ≡ true → all (leb l) s ≡ true
+between-high : (l h : ℕ) (s : List ℕ) → every (inRange l h) s ≡ true → every (leb l) s ≡ true
 between-high l h s e = all-more (inRange l h) (leb l) (λ x. and-left (leb l x) (leb x h)) s e
 
-pub decimal-high : (n v : ℕ) → all (leb 48) (decimalText n v) ≡ true
+pub decimal-high : (n v : ℕ) → every (leb 48) (decimalText n v) ≡ true
 decimal-high n v = between-high 48 57 (decimalText n v) (decimal-digits n v)
 
 -- digits below m: DIGITS and GROUP
 module _ (m : ℕ) (small : m ≤ 10) where
-  pub digits-form : (ds : List ℕ) → every (λ (d : ℕ). ltb d m) ds ≡ true → all (inRange 48 (47 + m)) (digitsText ds) ≡ true
-  unfolding every digitsText all
+  pub digits-form : (ds : List ℕ) → every (λ (d : ℕ). ltb d m) ds ≡ true → every (inRange 48 (47 + m)) (digitsText ds) ≡ true
+  unfolding every digitsText
   digits-form [] h = refl
   digits-form (d ∷ ds) h =
       let l = ltb-true d m (and-left (ltb d m) (every (λ (d : ℕ). ltb d m) ds) h) in
@@ -177,7 +178,7 @@ module _ (m : ℕ) (small : m ≤ 10) where
       let e : 48 + d - 48 ≡ d = omega arith in
       rw (between-yes 48 57 (48 + d) (omega arith) (omega arith), e, digits-back ds (and-right (ltb d m) (every (λ (d : ℕ). ltb d m) ds) h))
 
-  pub digits-high : (ds : List ℕ) → every (λ (d : ℕ). ltb d m) ds ≡ true → all (leb 48) (digitsText ds) ≡ true
+  pub digits-high : (ds : List ℕ) → every (λ (d : ℕ). ltb d m) ds ≡ true → every (leb 48) (digitsText ds) ≡ true
   digits-high ds h = between-high 48 (47 + m) (digitsText ds) (digits-form ds h)
 
 pub digits-length : (ds : List ℕ) → length (digitsText ds) ≡ length ds

@@ -8,12 +8,13 @@ use native.Mathlib.Omega.{arith}
 use borrow.Author.Tests.{ltb-true, eqb-true, eqb-false, lt-ltb}
 use lib.ListN.{length, getD}
 use lib.Dec.{ltb, leb, eqb}
-use Rattle.scene_text.specs.Text.{all, hexOk, hexVal}
+use Rattle.octets.specs.Lists.{every}
+use Rattle.scene_text.specs.Text.{hexOk, hexVal}
 use Rattle.scene_text.proofs.Tests.{and-left, and-right}
 use Rattle.scene_line.specs.declared.form.Form.the-variants.{Group, TypeHash}
 use Rattle.scene_line.specs.Line.{formsOk}
 use Rattle.scene_table.specs.Scene.{Cell, Input}
-use Rattle.scene_table.specs.Valid.{every, bytesOk, hashBytesOk, cellOk, inputOk}
+use Rattle.scene_table.specs.Valid.{bytesOk, hashBytesOk, cellOk, inputOk}
 use Rattle.scene_reading.specs.Print.{hexText, digitsText, cellFields, inputFields}
 use Rattle.scene_reading.specs.Reading.{cellOf, inputOf, fieldAt, numberIn}
 use Rattle.scene_reading.proofs.PrintDigits.{hex-back, hex-ok, hex-high, hex-length, decimal-back, decimal-high, digits-form, digits-high, digits-back}
@@ -75,7 +76,7 @@ module _ (c : Cell) (h : CellHolds c) where
   hash-bytes : bytesOk (c .typeHash) ≡ true
   hash-bytes = type-bytes (c .typeHash) (c .typeScript) (h .type)
 
-  pub cell-high : every (all (leb 48)) (cellFields c) ≡ true
+  pub cell-high : every (every (leb 48)) (cellFields c) ≡ true
   unfolding cellFields every
   cell-high =
       rw (
@@ -133,10 +134,10 @@ input-holds i h =
     }
 
 module _ (i : Input) (h : InputHolds i) where
-  pub input-high : every (all (leb 48)) (inputFields i) ≡ true
+  pub input-high : every (every (leb 48)) (inputFields i) ≡ true
   unfolding inputFields every digitsText
   input-high =
-      let e : all (leb 48) ((48 + i .group) ∷ []) ≡ true = digits-high 2 (omega arith) (i .group ∷ []) (h .group) in
+      let e : every (leb 48) ((48 + i .group) ∷ []) ≡ true = digits-high 2 (omega arith) (i .group ∷ []) (h .group) in
       rw (e, decimal-high 20 (i .since)) (cell-high (i .cell) (h .cell))
 
   pub input-form : formsOk true Group (inputFields i) ≡ true

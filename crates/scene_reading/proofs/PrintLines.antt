@@ -8,8 +8,7 @@ use native.Mathlib.Omega.{arith}
 use borrow.Author.Tests.{leb-true, le-leb, ne-eqb}
 use lib.ListN.{length}
 use lib.Dec.{leb, ltb, eqb}
-use Rattle.octets.specs.Lists.{same}
-use Rattle.scene_text.specs.Text.{all}
+use Rattle.octets.specs.Lists.{same, every}
 use Rattle.scene_text.proofs.Tests.{and-left, and-right}
 use Rattle.scene_line.specs.declared.form.Form.the-variants.{TypeHash, Hex}
 use Rattle.scene_line.specs.declared.kind.Kind.{Kind}
@@ -17,7 +16,7 @@ use Rattle.scene_line.specs.declared.kind.Kind.the-variants as kind
 use Rattle.scene_line.specs.Kind.{kindOf, fieldCount, firstForm, lineFields, script, tx, input, output, dep, witness, verdicts}
 use Rattle.scene_line.specs.Line.{formsOk}
 use Rattle.scene_table.specs.Scene.{Cell, Input, Line, bytesLine, hashLine, inputLine, cellLine, digitsLine}
-use Rattle.scene_table.specs.Valid.{every, bytesOk}
+use Rattle.scene_table.specs.Valid.{bytesOk}
 use Rattle.scene_reading.specs.Lines.{wordOf, kindOfLine, fieldsOfLine, times, countOk, formOk}
 use Rattle.scene_reading.specs.Print.{commaed, lineText, hexText, digitsText, cellFields, inputFields, inputText, cellText, bytesText}
 use Rattle.scene_reading.proofs.LineRows.{lineIn, rowOf, hex-row, hash-row, digits-row, cell-row, input-row}
@@ -28,23 +27,23 @@ use Rattle.scene_reading.proofs.PrintFields.{HashHolds, hash-form, Cell
 
 -- A text all of whose bytes are 48 or more holds no separator
 module _ (c : ℕ) (low : c < 48) where
-  pub high-without : (s : List ℕ) → all (leb 48) s ≡ true → without c s ≡ true
+  pub high-without : (s : List ℕ) → every (leb 48) s ≡ true → without c s ≡ true
   unfolding without
   high-without s h =
       all-more (leb 48) (λ (x : ℕ). not (eqb x c)) (λ x e. let l = leb-true 48 x e in let n : x ≡ c → ⊥ = λ q. omega arith in rw (ne-eqb x c n)) s h
 
-  fields-without : (fs : List (List ℕ)) → every (all (leb 48)) fs ≡ true → every (without c) fs ≡ true
+  fields-without : (fs : List (List ℕ)) → every (every (leb 48)) fs ≡ true → every (without c) fs ≡ true
   unfolding every
   fields-without [] h = refl
   fields-without (f ∷ fs) h =
-      rw (high-without f (and-left (all (leb 48) f) (every (all (leb 48)) fs) h)) (fields-without fs (and-right (all (leb 48) f) (every (all (leb 48)) fs) h))
+      rw (high-without f (and-left (every (leb 48) f) (every (every (leb 48)) fs) h)) (fields-without fs (and-right (every (leb 48) f) (every (every (leb 48)) fs) h))
 
-line-without : (word : List ℕ) (fs : List (List ℕ)) → all (leb 48) word ≡ true → every (all (leb 48)) fs ≡ true → without 10 (lineText word fs) ≡ true
-unfolding lineText commaed every without all
+line-without : (word : List ℕ) (fs : List (List ℕ)) → every (leb 48) word ≡ true → every (every (leb 48)) fs ≡ true → without 10 (lineText word fs) ≡ true
+unfolding lineText commaed every without
 line-without word [] w h = rw append-nil (high-without 10 (omega arith) word w)
 line-without word (f ∷ fs) w h =
     all-append (λ (x : ℕ). not (eqb x 10)) word (44 ∷ lineText f fs) (high-without 10 (omega arith) word w)
-    (line-without f fs (and-left (all (leb 48) f) (every (all (leb 48)) fs) h) (and-right (all (leb 48) f) (every (all (leb 48)) fs) h))
+    (line-without f fs (and-left (every (leb 48) f) (every (every (leb 48)) fs) h) (and-right (every (leb 48) f) (every (every (leb 48)) fs) h))
 
 -- what is known of the text l of a line of kind k with the fields fs
 pub record Says (l : List ℕ) (k : Kind) (fs : List (List ℕ)) : Type 0 where
@@ -64,8 +63,8 @@ kindWord kind.Verdicts = verdicts
 kindWord kind.Unknown = []
 
 -- it names the kind, and its bytes are 48 or more
-word-of : (k : Kind) → (kindOf (kindWord k) ≡ k) × (all (leb 48) (kindWord k) ≡ true)
-unfolding kindOf same all
+word-of : (k : Kind) → (kindOf (kindWord k) ≡ k) × (every (leb 48) (kindWord k) ≡ true)
+unfolding kindOf same every
 word-of kind.Script = (refl, refl)
 word-of kind.Tx = (refl, refl)
 word-of kind.Input = (refl, refl)
@@ -76,7 +75,7 @@ word-of kind.Verdicts = (refl, refl)
 word-of kind.Unknown = (refl, refl)
 
 -- a line has the kind of its word, and its fields
-line-says : (k : Kind) (fs : List (List ℕ)) → every (all (leb 48)) fs ≡ true → Says (lineText (kindWord k) fs) k fs
+line-says : (k : Kind) (fs : List (List ℕ)) → every (every (leb 48)) fs ≡ true → Says (lineText (kindWord k) fs) k fs
 unfolding kindOfLine fieldsOfLine wordOf lineFields
 line-says k fs h =
     let w = word-of k in

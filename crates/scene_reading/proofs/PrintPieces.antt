@@ -6,20 +6,20 @@ use mathlib.Core.Bool.{Bool, true, not}
 use mathlib.Core.List.{List, [], _∷_, _++_, append-nil}
 use borrow.Author.Tests.{not-true, eq-eqb}
 use lib.Dec.{eqb}
-use Rattle.scene_text.specs.Text.{before, pieces, all}
+use Rattle.octets.specs.Lists.{every}
+use Rattle.scene_text.specs.Text.{before, pieces}
 use Rattle.scene_text.proofs.Tests.{and-left, and-right}
 use Rattle.scene_text.proofs.Pieces.{before-before, before-none}
-use Rattle.scene_table.specs.Valid.{every}
 use Rattle.scene_reading.specs.Print.{commaed, lineText, endedLines}
 
 -- c stands nowhere in s
 unfoldable pub without : ℕ → List ℕ → Bool
-without c s = all (λ (x : ℕ). not (eqb x c)) s
+without c s = every (λ (x : ℕ). not (eqb x c)) s
 
 module _ (c : ℕ) where
   -- a text without c stands before the first piece of what follows
   pieces-before : (s r : List ℕ) → without c s ≡ true → pieces c (s ++ r) ≡ before s (pieces c r)
-  unfolding without all pieces
+  unfolding without every pieces
   pieces-before [] r h = before-none c r
   pieces-before (x ∷ s) r h =
       rw (not-true (eqb x c) (and-left (not (eqb x c)) (without c s) h), pieces-before s r (and-right (not (eqb x c)) (without c s) h))

@@ -22,7 +22,7 @@ use Rattle.octets.specs.Lists.{same}
 use Rattle.scene_reader.specs.Reader.{ReaderState, refused, held, seenWith, put, lineRows, rowsOfLine, linePut, sceneEndRows, run}
 use Rattle.scene_reader.proofs.Runs.{run-passed, run-failed, run-last, held-passed, pieces-some}
 use Rattle.scene_reading.specs.Lines.{wordOf, kindOfLine, fieldsOfLine, countOk, formOk, bytesOfLine}
-use Rattle.scene_table.proofs.Truth.{and-both}
+use Rattle.octets.proofs.Truth.{and-both}
 
 -- a line passes the line rows, after `seen` lines of the kind of rank `last`, with `used` of `size` bytes of the store filled
 pub record LinePasses (last seen used size : ℕ) (l : List ℕ) : Type 0 where

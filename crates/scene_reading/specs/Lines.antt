@@ -6,13 +6,12 @@ use mathlib.Core.Path.{_≡_}
 use mathlib.Core.List.{List, [], _∷_, _++_, map}
 use lib.ListN.{length}
 use lib.Dec.{eqb}
-use Rattle.octets.specs.Lists.{joined}
+use Rattle.octets.specs.Lists.{joined, every}
 use Rattle.scene_text.specs.Text.{pieces}
 use Rattle.scene_line.specs.declared.kind.Kind.{Kind}
 use Rattle.scene_line.specs.declared.kind.Kind.the-variants.{Script, Tx, Input, Output, Dep, Witness, Verdicts}
 use Rattle.scene_line.specs.Kind.{kindOf, fieldCount, firstForm, lineFields}
 use Rattle.scene_line.specs.Line.{formsOk, lineBytes}
-use Rattle.scene_table.specs.Valid.{every}
 
 -- "Text lines ended by byte 10, fields parted by commas, no quoting": a line's word, its kind, and its fields
 unfoldable pub wordOf : List (List ℕ) → List ℕ

@@ -8,9 +8,10 @@ use native.Mathlib.Omega.{arith}
 use borrow.Author.Tests.{lt-ltb}
 use lib.Dec.{leb, ltb, eqb}
 use lib.ListN.{length, replicate, length-replicate}
+use Rattle.octets.specs.Lists.{every}
 use Rattle.scene_table.specs.Lent.{tableEntry, inputsAt, outputsAt, depsAt, witnessesAt, verdictsAt, recordsAt, hashLength, cellFrom, inputFrom, cellRecordFrom, bytesFrom, sceneFrom, blankScene}
 use Rattle.scene_table.specs.Places.{digitCount}
-use Rattle.scene_table.specs.Valid.{every, bytesOk, hashBytesOk, cellOk, inputOk, fewOf, digitsOk, sceneOk}
+use Rattle.scene_table.specs.Valid.{bytesOk, hashBytesOk, cellOk, inputOk, fewOf, digitsOk, sceneOk}
 use Rattle.scene_table.specs.Walk.{groupOk}
 use Rattle.scene_table.proofs.Rows.{length-rows}
 use Rattle.scene_table.proofs.WholeWalk.{blank}

@@ -11,14 +11,15 @@ use lib.ListN.{length, take, drop, getD, replicate, length-append, length-drop, 
 use lib.Seq.{drop-at, take-add}
 use Rattle.octets.proofs.Same.{same-eq, eq-same}
 use Rattle.octets.proofs.Parts.{part-back}
+use Rattle.octets.specs.Lists.{every}
 use Rattle.scene_table.specs.Scene.{linesOf, recordsFrom, countsOf, sceneBytes, sceneNumbers, padded, sceneTable}
 use Rattle.scene_table.specs.Lent.{tableEntry, inputsAt, outputsAt, depsAt, witnessesAt, verdictsAt, recordsAt, inputFrom, cellRecordFrom, bytesFrom, sceneFrom, blankScene}
 use Rattle.scene_table.specs.Places.{digitCount}
-use Rattle.scene_table.specs.Valid.{every, validTable}
+use Rattle.scene_table.specs.Valid.{validTable}
 use Rattle.scene_table.specs.Walk.{startWalk, walkLines, countsOk, zerosBehind, restOk}
 use Rattle.scene_table.proofs.Rows.{length-rows}
 use Rattle.scene_table.proofs.Lines.{total, total-joined, cut, cut-take}
-use Rattle.scene_table.proofs.Truth.{and-both, both-and, same-truth}
+use Rattle.octets.proofs.Truth.{and-both, both-and, same-truth}
 use Rattle.scene_table.proofs.WholeWalk.{blank, span, Groups, whole}
 use Rattle.scene_table.proofs.BlankScene.{blank-ok}
 

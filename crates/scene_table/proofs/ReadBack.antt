@@ -11,7 +11,7 @@ use lib.ListN.{length, length-append}
 use Rattle.scene_table.specs.Scene.{Cell, Input, Scene, cellBytes, cellLengths, bytesLine, hashLine, inputLine, cellLine}
 use Rattle.scene_table.specs.Lent.{tableEntry, hashLength, cellFrom, inputFrom, cellRecordFrom, bytesFrom}
 use Rattle.scene_table.specs.Valid.{bytesOk, hashBytesOk, cellOk, inputOk}
-use Rattle.scene_table.proofs.Truth.{and-both}
+use Rattle.octets.proofs.Truth.{and-both}
 use Rattle.scene_table.proofs.Stands.{Stands, row-first, row-entry, row-bytes}
 
 -- a scene with g of each run of bytes

@@ -10,11 +10,12 @@ use borrow.Author.Tests.{leb-true}
 use lib.Dec.{leb, ltb}
 use lib.ListN.{length, replicate, length-append}
 use Rattle.octets.proofs.Parts.{part-back}
+use Rattle.octets.specs.Lists.{every}
 use Rattle.scene_table.specs.Scene.{Cell, Input, Scene, Line, cellLengths, bytesLine, hashLine, inputLine, cellLine, digitsLine, linesOf, sceneBytes, countsOf, recordsFrom, sceneNumbers, padded, sceneTable}
 use Rattle.scene_table.specs.Lent.{tableEntry, inputsAt, outputsAt, depsAt, witnessesAt, verdictsAt, recordsAt, inputFrom, cellRecordFrom, bytesFrom, sceneFrom}
-use Rattle.scene_table.specs.Valid.{every, bytesOk, hashBytesOk, cellOk, inputOk, fewOf, digitsOk, sceneOk}
+use Rattle.scene_table.specs.Valid.{bytesOk, hashBytesOk, cellOk, inputOk, fewOf, digitsOk, sceneOk}
 use Rattle.scene_table.proofs.Lines.{total, rows-append, cut, cut-take, fromInputs, fromOutputs, fromDeps, fromWitnesses, lines-by-kind}
-use Rattle.scene_table.proofs.Truth.{and-both}
+use Rattle.octets.proofs.Truth.{and-both}
 use Rattle.scene_table.proofs.Stands.{Stands, bytesOf, stands-left, stands-right, row-entry, rows-long, rows-back}
 use Rattle.scene_table.proofs.ReadBack.{cellWith, inputWith, sceneWith, Gives, bytes-back, hash-back, row-back, input-back}
 

@@ -8,12 +8,12 @@ use native.Mathlib.Nat.{add-zero, add-assoc, add-comm, mul-suc, mul-zero}
 use borrow.Author.Tests.{eq-eqb, eqb-true}
 use lib.Dec.{eqb}
 use lib.ListN.{length, getD, length-append}
+use Rattle.octets.specs.Lists.{every}
 use Rattle.scene_table.specs.Scene.{Line, recordsFrom}
 use Rattle.scene_table.specs.Lent.{tableEntry, recordsAt}
-use Rattle.scene_table.specs.Valid.{every}
 use Rattle.scene_table.specs.Walk.{need, placed, recordStep, walkRecords}
 use Rattle.scene_table.specs.declared.validity.Walk.{Walk}
-use Rattle.scene_table.proofs.Truth.{and-both, both-and}
+use Rattle.octets.proofs.Truth.{and-both, both-and}
 use Rattle.scene_table.proofs.Lines.{total, rows-append, total-append, append-parts, cut, cut-parts, length-cut}
 
 -- the walk from k to k' over the records of some lines, n entries from `at` on, where a further test of them passes

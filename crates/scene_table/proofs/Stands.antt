@@ -8,12 +8,11 @@ use native.Mathlib.Nat.{add-comm, mul-suc, mul-zero}
 use native.Mathlib.Omega.{arith}
 use lib.ListN.{length, getD, length-append, List·getD-append}
 use lib.Seq.{getD-append-add, getD-at}
-use Rattle.octets.specs.Lists.{joined}
+use Rattle.octets.specs.Lists.{joined, every}
 use Rattle.scene_table.specs.Scene.{Line, recordsFrom}
 use Rattle.scene_table.specs.Lent.{tableEntry, recordsAt}
-use Rattle.scene_table.specs.Valid.{every}
 use Rattle.scene_table.proofs.Lines.{total, total-joined, rows-append}
-use Rattle.scene_table.proofs.Truth.{and-both}
+use Rattle.octets.proofs.Truth.{and-both}
 
 -- the bytes of lines
 unfoldable pub bytesOf : List Line → List ℕ

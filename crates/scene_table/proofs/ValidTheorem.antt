@@ -9,11 +9,12 @@ use borrow.Author.Tests.{le-leb, leb-true}
 use lib.Dec.{ltb}
 use lib.ListN.{length, replicate, length-append, length-replicate, length-map}
 use Rattle.octets.proofs.Same.{same-eq, eq-same}
+use Rattle.octets.specs.Lists.{every}
 use Rattle.scene_table.specs.Scene.{Cell, Input, Scene, Line, cellBytes, cellLengths, bytesLine, hashLine, inputLine, cellLine, linesOf, sceneBytes, countsOf, recordsFrom, sceneNumbers, padded, sceneTable}
 use Rattle.scene_table.specs.Lent.{cellFrom, blankScene}
-use Rattle.scene_table.specs.Valid.{every, bytesOk, hashBytesOk, cellOk, inputOk, fewOf, digitsOk, sceneOk, validTable}
+use Rattle.scene_table.specs.Valid.{bytesOk, hashBytesOk, cellOk, inputOk, fewOf, digitsOk, sceneOk, validTable}
 use Rattle.scene_table.proofs.Lines.{total, total-joined, total-append, rows-append}
-use Rattle.scene_table.proofs.Truth.{and-both, both-and}
+use Rattle.octets.proofs.Truth.{and-both, both-and}
 use Rattle.scene_table.proofs.WholeWalk.{blank}
 use Rattle.scene_table.proofs.BlankScene.{blank-bytes, blank-hash, blank-cell}
 use Rattle.scene_table.proofs.ReadBack.{cellWith, inputWith, sceneWith, hash-long, cell-hashes}

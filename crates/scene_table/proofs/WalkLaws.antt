@@ -8,8 +8,8 @@ use native.Mathlib.Numerals.{add-one}
 use native.Mathlib.Omega.{arith}
 use lib.ListN.{length, drop, getD, drop-of-length-le}
 use lib.Seq.{drop-cons}
+use Rattle.octets.specs.Lists.{every}
 use Rattle.scene_table.specs.Lent.{recordsAt}
-use Rattle.scene_table.specs.Valid.{every}
 use Rattle.scene_table.specs.Walk.{need, recordStep, walkRecords}
 use Rattle.scene_table.specs.declared.validity.Walk.{Walk}
 use Rattle.scene_table.proofs.Rows.{rows-end}

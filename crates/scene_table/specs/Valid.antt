@@ -4,14 +4,9 @@ use mathlib.Core.Bool.{Bool, true, cond, _&&_}
 use mathlib.Core.List.{List, [], _∷_}
 use lib.ListN.{length}
 use lib.Dec.{leb, ltb, eqb}
-use Rattle.octets.specs.Lists.{same}
+use Rattle.octets.specs.Lists.{same, every}
 use Rattle.scene_table.specs.Scene.{Cell, Input, Scene, sceneBytes, sceneTable}
 use Rattle.scene_table.specs.Lent.{blankScene}
-
--- every element passes
-unfoldable pub every : {A : Type 0} → (A → Bool) → List A → Bool
-every p [] = true
-every p (x ∷ xs) = p x && every p xs
 
 unfoldable pub bytesOk : List ℕ → Bool
 bytesOk bytes = every (λ (b : ℕ). ltb b 256) bytes

@@ -5,9 +5,9 @@ use mathlib.Core.Bool.{Bool, true, _&&_}
 use mathlib.Core.List.{List}
 use lib.ListN.{length, drop}
 use lib.Dec.{leb, ltb, eqb}
+use Rattle.octets.specs.Lists.{every}
 use Rattle.scene_table.specs.Lent.{tableEntry, inputsAt, outputsAt, depsAt, witnessesAt, verdictsAt, hashLength, blankScene}
 use Rattle.scene_table.specs.Places.{digitCount}
-use Rattle.scene_table.specs.Valid.{every}
 use Rattle.scene_table.specs.declared.validity.Walk.{Walk}
 use Rattle.scene_table.specs.declared.validity.RecordForm.{RecordForm}
 use Rattle.scene_table.specs.declared.validity.RecordForm.the-variants as form

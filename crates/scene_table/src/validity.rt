@@ -10,8 +10,9 @@ ghost use mathlib.Core.Path.{_≡_};
 ghost use Prim.Native.Nat.{_≤_, _<_, _^_};
 ghost use lib.Dec.{ltb, eqb};
 ghost use lib.ListN.{drop};
+ghost use Rattle.octets.specs.Lists.{every};
 ghost use Rattle.scene_table.specs.Lent.{tableEntry, recordsAt};
-ghost use Rattle.scene_table.specs.Valid.{every, validTable};
+ghost use Rattle.scene_table.specs.Valid.{validTable};
 ghost use Rattle.scene_table.specs.Walk.{need, placed, cellSize, recordStep, walkRecords, anyRecord, groupOk, bytesSize, cellRecordSize, inputSize, recordOk, recordSize, recordWidth, countsOk, walkLines, restOk};
 
 // Whether the records so far are good, and where their bytes end.

@@ -5,6 +5,7 @@ use mathlib.Core.Path.{_≡_}
 use mathlib.Core.List.{List, [], _∷_, _++_}
 use lib.ListN.{length, take, drop, getD}
 use lib.Dec.{ltb, leb, eqb}
+use Rattle.octets.specs.Lists.{every}
 use Rattle.scene_text.specs.declared.decimal.Decimal.{Decimal}
 use Rattle.scene_text.specs.declared.decimal.Decimal.the-variants.{Value, Invalid}
 
@@ -26,11 +27,6 @@ pub record Cut (c : ℕ) (s : List ℕ) (n : ℕ) : Type 0 where
   pub cut : n < length s → pieces c s ≡ take n s ∷ pieces c (drop (n + 1) s)
   pub whole : n ≡ length s → pieces c s ≡ take n s ∷ []
 
--- each element of s passes p
-unfoldable pub all : (ℕ → Bool) → List ℕ → Bool
-all p [] = true
-all p (x ∷ r) = p x && all p r
-
 -- low ≤ x ≤ high
 abbrev pub inRange : ℕ → ℕ → ℕ → Bool
 inRange low high x = leb low x && leb x high
@@ -45,7 +41,7 @@ hexVal x = cond (inRange 48 57 x) (x - 48) (cond (inRange 97 102 x) (x - 87) 0)
 
 -- 01: "HEX, TYPESCRIPT and DATA have two lower-case digits a byte and may be empty."
 unfoldable pub hexOk : List ℕ → Bool
-hexOk s = eqb (length s % 2) 0 && all isHex s
+hexOk s = eqb (length s % 2) 0 && every isHex s
 
 -- the bytes that pairs of digits stand for
 unfoldable pub hexBytes : List ℕ → List ℕ
@@ -60,7 +56,7 @@ decimal v (x ∷ r) = decimal (v * 10 + (x - 48)) r
 
 -- 01: "a decimal u64 without leading zeros, zero being `0`": its digits
 abbrev pub plain : List ℕ → Bool
-plain s = ltb 0 (length s) && (all (inRange 48 57) s && (eqb (length s) 1 || not (eqb (getD s 0 0) 48)))
+plain s = ltb 0 (length s) && (every (inRange 48 57) s && (eqb (length s) 1 || not (eqb (getD s 0 0) 48)))
 
 -- the u64 that decimal digits stand for
 unfoldable pub numberOf : List ℕ → Decimal

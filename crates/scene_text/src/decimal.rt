@@ -1,7 +1,8 @@
 // Decimal numbers.
 ghost use mathlib.Core.Path.{_≡_};
 ghost use mathlib.Core.Bool.{true};
-ghost use Rattle.scene_text.specs.Text.{inRange, all, numberOf, sinceOf};
+ghost use Rattle.octets.specs.Lists.{every};
+ghost use Rattle.scene_text.specs.Text.{inRange, numberOf, sinceOf};
 
 // What a decimal field says.
 pub enum Decimal {
@@ -11,7 +12,7 @@ pub enum Decimal {
 
 // Whether each byte of s is from low to high.
 pub fn all_between(s: &[u8], low: u8, high: u8) -> bool
-    ensures { λ r. ⌜ r ≡ all (inRange low high) (now (s .entry)) ⌝ }
+    ensures { λ r. ⌜ r ≡ every (inRange low high) (now (s .entry)) ⌝ }
 {
     let mut i = 0;
     while i < s.len() {
@@ -28,7 +29,7 @@ pub fn all_between(s: &[u8], low: u8, high: u8) -> bool
 
 // The number that the digits s stand for.
 fn value(s: &[u8]) -> Decimal
-    requires { ⌜ all (inRange 48 57) (now s) ≡ true ⌝ }
+    requires { ⌜ every (inRange 48 57) (now s) ≡ true ⌝ }
     ensures { λ r. ⌜ r ≡ numberOf (now (s .entry)) ⌝ }
 {
     let mut v: u64 = 0;

@@ -5,19 +5,15 @@ use mathlib.Core.Bool.{cond}
 use mathlib.Core.List.{List, [], _∷_, _++_}
 use lib.ListN.{length}
 use lib.Dec.{eqb, leb}
-use Rattle.octets.specs.Le.{numberAt}
 use Rattle.protocol.specs.Rows.{Row, row}
 use Rattle.protocol.specs.declared.error.ProtocolError.the-variants.{InvalidState, InvalidSequence, InvalidCapability, RecoveryLocked}
+use Rattle.account_state.specs.Fields.{flagsOf, sequenceOf, recoverySinceOf}
 use Rattle.account_state.specs.State.{stateRows}
 
 -- "data above 16,384", 21, of the current state and of its successor
 unfoldable pub dataRows : List ℕ → List ℕ → List Row
 dataRows current successor =
     row (leb (length current) 16384) InvalidState ∷ row (leb (length successor) 16384) InvalidState ∷ []
-
--- the sequence of a state
-unfoldable pub sequenceOf : List ℕ → ℕ
-sequenceOf state = numberAt state 8 8
 
 -- "current state, then witness sequence", as above; 27
 unfoldable pub currentRows : ℕ → List ℕ → List Row
@@ -31,7 +27,7 @@ successorRows current successor =
 -- "recovery off; since too low", 29; 34; flag 1 of the state, and "recovery_since and the input's since are compared as plain u64"
 unfoldable pub recoveryRows : ℕ → List ℕ → List Row
 recoveryRows since current =
-    row (eqb (numberAt current 5 1 % 2) 1) InvalidCapability ∷ row (leb (numberAt current 24 8) since) RecoveryLocked ∷ []
+    row (eqb (flagsOf current % 2) 1) InvalidCapability ∷ row (leb (recoverySinceOf current) since) RecoveryLocked ∷ []
 
 -- only a recovery (3) has the rows on recovery
 unfoldable pub successionRows : ℕ → ℕ → List ℕ → List ℕ → List Row

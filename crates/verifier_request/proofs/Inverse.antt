@@ -9,7 +9,7 @@ use native.Mathlib.Omega.{arith}
 use borrow.Author.Tests.{leb-true, eqb-true, le-leb, eq-eqb}
 use lib.ListN.{length, take, drop}
 use lib.Seq.{take-add, take-all}
-use Rattle.octets.specs.Le.{Bytes, numberAt}
+use Rattle.octets.specs.Le.{Bytes}
 use Rattle.octets.specs.Layout.{layoutBytes, layoutAt, fieldValue}
 use Rattle.octets.proofs.LeLaws.{number-lt}
 use Rattle.octets.proofs.LayoutLaws.{table-back, numbers-back}
@@ -17,6 +17,7 @@ use Rattle.octets.proofs.Parts.{part-back, part-length}
 use Rattle.protocol.specs.Policy.{isOperation}
 use Rattle.protocol.specs.Rows.{AllPass}
 use Rattle.protocol.proofs.AllPass.{all-pass-append}
+use Rattle.verifier_request.specs.Fields.{requestAbiOf, requestAlgorithmOf, requestAuxLengthOf, requestHeaderLengthOf, requestLastZerosOf, requestMagicOf, requestOperationOf, requestProfileOf, requestProofLengthOf, requestReservedOf, requestSlotOf, requestZerosOf}
 use Rattle.verifier_request.specs.Reader.{verifierMagic, requestHeaderRows, requestFieldRows, requestRows, requestFieldsOf}
 use Rattle.verifier_request.specs.Reading.{RequestReading, RequestTyped, requestGiven, requestReading, requestHead, requestLengths, requestBytes}
 use Rattle.verifier_request.specs.Writer.{writerLimitRows, requestWriterRows, requestTotal}
@@ -25,16 +26,16 @@ use Rattle.verifier_request.proofs.Form.{Sized, typed-sized, Head, Leng
 -- what the rows say of a request that passes them; that it has at most 69,728 bytes follows
 pub record Passes (s : List ℕ) : Type 0 where
   pub header : 96 ≤ length s
-  pub magic : numberAt s 0 4 ≡ verifierMagic
-  pub abi : numberAt s 4 1 ≡ 1
-  pub flags : numberAt s 5 1 ≡ 0
-  pub headerLen : numberAt s 6 2 ≡ 96
-  pub operation : isOperation (numberAt s 12 1) ≡ true
-  pub zeros : numberAt s 14 2 ≡ 0
-  pub lastZeros : numberAt s 88 8 ≡ 0
-  pub aux : numberAt s 80 4 ≤ 4096
-  pub proof : numberAt s 84 4 ≤ 65536
-  pub sum : 96 + numberAt s 80 4 + numberAt s 84 4 ≡ length s
+  pub magic : requestMagicOf s ≡ verifierMagic
+  pub abi : requestAbiOf s ≡ 1
+  pub flags : requestReservedOf s ≡ 0
+  pub headerLen : requestHeaderLengthOf s ≡ 96
+  pub operation : isOperation (requestOperationOf s) ≡ true
+  pub zeros : requestZerosOf s ≡ 0
+  pub lastZeros : requestLastZerosOf s ≡ 0
+  pub aux : requestAuxLengthOf s ≤ 4096
+  pub proof : requestProofLengthOf s ≤ 65536
+  pub sum : 96 + requestAuxLengthOf s + requestProofLengthOf s ≡ length s
 
 pub passes : (s : List ℕ) → AllPass (requestRows s) → Passes s
 unfolding requestRows requestHeaderRows requestFieldRows
@@ -64,28 +65,28 @@ passes-hold s z =
 
 -- From the bytes to the reading and back.
 module _ (s : List ℕ) (b : Bytes s) (z : Passes s) where
-  head-back : layoutBytes (requestHead (numberAt s 8 2) (numberAt s 10 2) (numberAt s 12 1) (numberAt s 13 1)) ≡ take 16 s
+  head-back : layoutBytes (requestHead (requestAlgorithmOf s) (requestSlotOf s) (requestOperationOf s) (requestProfileOf s)) ≡ take 16 s
   unfolding requestHead layoutAt
   head-back =
       rw (z .magic, z .abi, z .flags, z .headerLen, z .zeros) at
       (table-back (4 ∷ 1 ∷ 1 ∷ 2 ∷ 2 ∷ 2 ∷ 1 ∷ 1 ∷ 2 ∷ []) s 0 b (omega arith))
 
-  lengths-back : layoutBytes (requestLengths (numberAt s 80 4) (numberAt s 84 4)) ≡ take 16 (drop 80 s)
+  lengths-back : layoutBytes (requestLengths (requestAuxLengthOf s) (requestProofLengthOf s)) ≡ take 16 (drop 80 s)
   unfolding requestLengths layoutAt
   lengths-back = rw (z .lastZeros) at (table-back (4 ∷ 4 ∷ 8 ∷ []) s 80 b (omega arith))
 
-  length-aux : length (take (numberAt s 80 4) (drop 96 s)) ≡ numberAt s 80 4
-  length-aux = part-length s 96 (numberAt s 80 4) (omega arith)
+  length-aux : length (take (requestAuxLengthOf s) (drop 96 s)) ≡ requestAuxLengthOf s
+  length-aux = part-length s 96 (requestAuxLengthOf s) (omega arith)
 
-  length-proof : length (take (numberAt s 84 4) (drop (96 + numberAt s 80 4) s)) ≡ numberAt s 84 4
-  length-proof = part-length s (96 + numberAt s 80 4) (numberAt s 84 4) (omega arith)
+  length-proof : length (take (requestProofLengthOf s) (drop (96 + requestAuxLengthOf s) s)) ≡ requestProofLengthOf s
+  length-proof = part-length s (96 + requestAuxLengthOf s) (requestProofLengthOf s) (omega arith)
 
   -- the request is the written form of its reading,
   pub reading-written : requestBytes (requestReading s) ≡ s
   unfolding requestBytes requestReading requestGiven requestFieldsOf
   reading-written =
-      let a = numberAt s 80 4 in
-      let p = numberAt s 84 4 in
+      let a = requestAuxLengthOf s in
+      let p = requestProofLengthOf s in
       rw (
         length-aux,
         length-proof,
@@ -170,12 +171,12 @@ module _ (r : RequestReading) (t : RequestTyped r) (small : requestTotal r < 2 ^
   pub written-reading : requestReading (requestBytes r) ≡ r
   unfolding requestReading requestGiven requestFieldsOf requestHead requestLengths layoutAt
   written-reading =
-      let e₁ : numberAt (requestBytes r) 8 2 ≡ r .algorithm = ap (fieldValue 4) head-read in
-      let e₂ : numberAt (requestBytes r) 10 2 ≡ r .slot = ap (fieldValue 5) head-read in
-      let e₃ : numberAt (requestBytes r) 12 1 ≡ r .operation = ap (fieldValue 6) head-read in
-      let e₄ : numberAt (requestBytes r) 13 1 ≡ r .profile = ap (fieldValue 7) head-read in
-      let e₅ : numberAt (requestBytes r) 80 4 ≡ length (r .aux) = ap (fieldValue 0) lengths-read in
-      let e₆ : numberAt (requestBytes r) 84 4 ≡ length (r .proof) = ap (fieldValue 1) lengths-read in
+      let e₁ : requestAlgorithmOf (requestBytes r) ≡ r .algorithm = ap (fieldValue 4) head-read in
+      let e₂ : requestSlotOf (requestBytes r) ≡ r .slot = ap (fieldValue 5) head-read in
+      let e₃ : requestOperationOf (requestBytes r) ≡ r .operation = ap (fieldValue 6) head-read in
+      let e₄ : requestProfileOf (requestBytes r) ≡ r .profile = ap (fieldValue 7) head-read in
+      let e₅ : requestAuxLengthOf (requestBytes r) ≡ length (r .aux) = ap (fieldValue 0) lengths-read in
+      let e₆ : requestProofLengthOf (requestBytes r) ≡ length (r .proof) = ap (fieldValue 1) lengths-read in
       rw (e₁, e₂, e₃, e₄, e₅, e₆, digest-read, key-read, aux-read, proof-read)
 
   -- and within the writer's limits it passes
@@ -185,9 +186,9 @@ module _ (r : RequestReading) (t : RequestTyped r) (small : requestTotal r < 2 ^
       let a : length (r .aux) ≤ 4096 = leb-true _ _ (h .1 .0) in
       let p : length (r .proof) ≤ 65536 = leb-true _ _ (h .1 .1 .0) in
       let n : length (requestBytes r) ≡ 96 + length (r .aux) + length (r .proof) = length-request r sized in
-      let ea : numberAt (requestBytes r) 80 4 ≡ length (r .aux) = ap (fieldValue 0) lengths-read in
-      let ep : numberAt (requestBytes r) 84 4 ≡ length (r .proof) = ap (fieldValue 1) lengths-read in
-      let eo : numberAt (requestBytes r) 12 1 ≡ r .operation = ap (fieldValue 6) head-read in
+      let ea : requestAuxLengthOf (requestBytes r) ≡ length (r .aux) = ap (fieldValue 0) lengths-read in
+      let ep : requestProofLengthOf (requestBytes r) ≡ length (r .proof) = ap (fieldValue 1) lengths-read in
+      let eo : requestOperationOf (requestBytes r) ≡ r .operation = ap (fieldValue 6) head-read in
       record {
         header = omega arith;
         magic = ap (fieldValue 0) head-read;

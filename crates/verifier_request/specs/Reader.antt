@@ -4,13 +4,13 @@ use Prim.Native.Nat.{ℕ, _+_}
 use mathlib.Core.List.{List, [], _∷_, _++_}
 use lib.Dec.{eqb, leb}
 use lib.ListN.{length}
-use Rattle.octets.specs.Le.{numberAt}
 use Rattle.protocol.specs.Errors.{errorNumber}
 use Rattle.protocol.specs.Policy.{isOperation}
 use Rattle.protocol.specs.Rows.{Row, row, decide}
 use Rattle.protocol.specs.declared.error.ProtocolError.the-variants.{InvalidRequest, InvalidOperation, UnsupportedVersion}
 use Rattle.protocol.specs.declared.check.Check.{Check}
 use Rattle.protocol.specs.declared.check.Check.the-variants.{Passed, Failed}
+use Rattle.verifier_request.specs.Fields.{requestMagicOf, requestAbiOf, requestReservedOf, requestHeaderLengthOf, requestAlgorithmOf, requestSlotOf, requestOperationOf, requestProfileOf, requestZerosOf, requestAuxLengthOf, requestProofLengthOf, requestLastZerosOf}
 use Rattle.verifier_request.specs.declared.reader.RequestFields.{RequestFields}
 use Rattle.verifier_request.specs.declared.reader.RequestAnswer.{RequestAnswer}
 use Rattle.verifier_request.specs.declared.reader.RequestAnswer.the-variants.{Request, Refused}
@@ -24,21 +24,21 @@ unfoldable pub requestHeaderRows : List ℕ → List Row
 requestHeaderRows s =
     row (leb 96 (length s)) InvalidRequest
     ∷ row (leb (length s) 69728) InvalidRequest
-    ∷ row (eqb (numberAt s 0 4) verifierMagic) InvalidRequest
-    ∷ row (eqb (numberAt s 4 1) 1) UnsupportedVersion
-    ∷ row (eqb (numberAt s 5 1) 0) InvalidRequest
-    ∷ row (eqb (numberAt s 6 2) 96) InvalidRequest
+    ∷ row (eqb (requestMagicOf s) verifierMagic) InvalidRequest
+    ∷ row (eqb (requestAbiOf s) 1) UnsupportedVersion
+    ∷ row (eqb (requestReservedOf s) 0) InvalidRequest
+    ∷ row (eqb (requestHeaderLengthOf s) 96) InvalidRequest
     ∷ []
 
 -- "operation (37), zeros (35), aux above 4,096 or proof above 65,536 (35), total (35)."
 unfoldable pub requestFieldRows : List ℕ → List Row
 requestFieldRows s =
-    row (isOperation (numberAt s 12 1)) InvalidOperation
-    ∷ row (eqb (numberAt s 14 2) 0) InvalidRequest
-    ∷ row (eqb (numberAt s 88 8) 0) InvalidRequest
-    ∷ row (leb (numberAt s 80 4) 4096) InvalidRequest
-    ∷ row (leb (numberAt s 84 4) 65536) InvalidRequest
-    ∷ row (eqb (96 + numberAt s 80 4 + numberAt s 84 4) (length s)) InvalidRequest
+    row (isOperation (requestOperationOf s)) InvalidOperation
+    ∷ row (eqb (requestZerosOf s) 0) InvalidRequest
+    ∷ row (eqb (requestLastZerosOf s) 0) InvalidRequest
+    ∷ row (leb (requestAuxLengthOf s) 4096) InvalidRequest
+    ∷ row (leb (requestProofLengthOf s) 65536) InvalidRequest
+    ∷ row (eqb (96 + requestAuxLengthOf s + requestProofLengthOf s) (length s)) InvalidRequest
     ∷ []
 
 unfoldable pub requestRows : List ℕ → List Row
@@ -51,16 +51,16 @@ requestFault s = decide Passed (requestRows s)
 unfoldable pub requestFieldsOf : List ℕ → RequestFields
 requestFieldsOf s =
     record {
-      «algorithm_id» = numberAt s 8 2;
-      slot = numberAt s 10 2;
-      operation = numberAt s 12 1;
-      «verifier_profile» = numberAt s 13 1;
+      «algorithm_id» = requestAlgorithmOf s;
+      slot = requestSlotOf s;
+      operation = requestOperationOf s;
+      «verifier_profile» = requestProfileOf s;
       «authorization_digest» = 16;
       «key_id» = 48;
       aux = 96;
-      «aux_len» = numberAt s 80 4;
-      proof = 96 + numberAt s 80 4;
-      «proof_len» = numberAt s 84 4;
+      «aux_len» = requestAuxLengthOf s;
+      proof = 96 + requestAuxLengthOf s;
+      «proof_len» = requestProofLengthOf s;
     }
 
 unfoldable pub requestAnswer : Check → RequestFields → RequestAnswer

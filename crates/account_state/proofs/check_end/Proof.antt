@@ -1,9 +1,9 @@
 -- `account_state::check_end` meets its contract: no byte follows, then the thresholds. Assumes nothing.
 use mathlib.Core.Path.{sym}
 use denote.Ref.{now}
-use Rattle.octets.specs.Le.{numberAt}
 use Rattle.protocol.specs.Rows.{decide}
 use Rattle.protocol.proofs.AllPass.{decide-then}
+use Rattle.account_state.specs.Fields.{flagsOf, recoverySinceOf, recoveryThresholdOf, rotateThresholdOf, spendThresholdOf}
 use Rattle.account_state.specs.State.{thresholdRows, stateEndRows}
 use Rattle.account_state.specs.Walk.{endFault}
 use borrow.Author.Needs.{needs}
@@ -18,7 +18,7 @@ returns c =
     let s = now (a .state) in
     let t = a .walk .summary in
     rw (c .and .ensures, c .before .check-thresholds .ensures, c .before .before .u64-at .ensures, c .before .before .before .u16-at3 .ensures, c4 .u16-at2 .ensures, c4 .before .u16-at .ensures, c4 .before .before .u8-at .ensures, c4 .before .before .before .require .ensures)
-    (sym (decide-then _ (thresholdRows (numberAt s 5 1) (numberAt s 16 2) (numberAt s 18 2) (numberAt s 20 2) (numberAt s 24 8) (t .«spend_weight») (t .«rotate_weight») (t .«recovery_weight»))))
+    (sym (decide-then _ (thresholdRows (flagsOf s) (spendThresholdOf s) (rotateThresholdOf s) (recoveryThresholdOf s) (recoverySinceOf s) (t .«spend_weight») (t .«rotate_weight») (t .«recovery_weight»))))
 
 pub check-end-spec : {M : Type 1} → statement M
 check-end-spec =

@@ -3,7 +3,6 @@ use mathlib.Core.Path.{_≡_, refl, sym, ap, _∙_}
 use denote.Ref.{now}
 use Rattle.octets.proofs.Arrays.{array-whole}
 use Rattle.scene_table.specs.Lent.{sceneIn}
-use Rattle.state_transition.specs.Transition.{sequenceOf}
 use Rattle.authorization.specs.declared.digest.AuthorizationDigest.{AuthorizationDigest}
 use Rattle.account_lock.proofs.Digested.{digest-given, sighash-given}
 use borrow.Author.Needs.{needs}
@@ -11,7 +10,6 @@ use Rattle.account_lock.proofs.account.digest_of.Statement.{statement}
 use Rattle.account_lock.proofs.account.digest_of.Tie as tie
 
 returns : tie.Need-returns
-unfolding sequenceOf
 returns c =
     let p = c .before .before .before .before .before .before .before .before .before .before in
     let s = sceneIn (now (p .args .table)) (now (p .args .store)) in

@@ -10,7 +10,7 @@ use borrow.Author.Needs.{needs}
 use Rattle.octets.proofs.Parts.{part-clip}
 use Rattle.protocol.specs.Rows.{decide}
 use Rattle.protocol.specs.declared.check.Check.the-variants.{Passed}
-use Rattle.account_state_writer.specs.Writer.{auxOf, entriesFrom, neededBytes}
+use Rattle.account_state_writer.specs.Writer.{lentAuxLength, entriesFrom, neededBytes}
 use Rattle.account_state_writer.specs.Checks.{entriesChecks}
 use Rattle.account_state_writer.proofs.Lent.{needed-turn, checks-failed, checks-next, checks-none}
 use Rattle.account_state_writer.proofs.check.check_entries.Statement.{statement}
@@ -65,7 +65,7 @@ check-entry-requires c κs =
     let a = k .before .before .before .before .args in
     let f = a .fields .now in
     let b = a .bytes .now in
-    let x : auxOf (drop (5 * l .i) f) ≡ getD f (5 * l .i + 4) 0 = getD-drop (5 * l .i) f 4 0 in
+    let x : lentAuxLength (drop (5 * l .i) f) ≡ getD f (5 * l .i + 4) 0 = getD-drop (5 * l .i) f 4 0 in
     let n : length (drop (5 * l .i) f) ≡ length f - 5 * l .i = length-drop (5 * l .i) f in
     let m : length (drop (l .from) b) ≡ length b - l .from = length-drop (l .from) b in
     let p = k .before .before .before .before .pre .0 in

@@ -3,7 +3,7 @@ use native.Mathlib.Omega.{arith}
 use Rattle.octets.proofs.LeLaws.{number-one}
 use Rattle.octets.proofs.Parts.{part-length}
 use Rattle.protocol.specs.Rows.{decide}
-use Rattle.account_state_writer.specs.Writer.{auxOf, entryFrom}
+use Rattle.account_state_writer.specs.Writer.{lentAuxLength, entryFrom}
 use Rattle.account_state_writer.specs.Checks.{entryChecks}
 use borrow.Author.Needs.{needs}
 use Rattle.account_state_writer.proofs.check.check_entry.Statement.{statement}
@@ -31,7 +31,7 @@ returns c =
       c13 .require .ensures,
       number-one b 0,
       number-one b 1,
-      part-length b 66 (auxOf (z .args .fields .now)) (z .pre .1),
+      part-length b 66 (lentAuxLength (z .args .fields .now)) (z .pre .1),
     )
 
 pub check-entry-spec : {M : Type 1} → statement M

@@ -10,7 +10,7 @@ use lib.Seq.{sets, length-sets, getD-drop}
 use borrow.Author.Needs.{needs}
 use Rattle.octets.proofs.Parts.{part-clip}
 use Rattle.account_state.specs.Reading.{entriesBytes}
-use Rattle.account_state_writer.specs.Writer.{auxOf, entriesFrom, neededBytes}
+use Rattle.account_state_writer.specs.Writer.{lentAuxLength, entriesFrom, neededBytes}
 use Rattle.account_state_writer.proofs.Lent.{needed-turn, needed-none, entries-none, entries-next}
 use Rattle.account_state_writer.proofs.layout.store_entries.Statement.{statement}
 use Rattle.account_state_writer.proofs.layout.store_entries.Tie as tie
@@ -55,7 +55,7 @@ store-entry-requires c κs =
     let f = a .fields .now in
     let b = a .bytes .now in
     let e : take (length f - 5 * l .i) (drop (5 * l .i) f) ≡ drop (5 * l .i) f = part-clip f (5 * l .i) (length f - 5 * l .i) (omega arith) in
-    let x : auxOf (drop (5 * l .i) f) ≡ getD f (5 * l .i + 4) 0 = getD-drop (5 * l .i) f 4 0 in
+    let x : lentAuxLength (drop (5 * l .i) f) ≡ getD f (5 * l .i + 4) 0 = getD-drop (5 * l .i) f 4 0 in
     let n : length (drop (5 * l .i) f) ≡ length f - 5 * l .i = length-drop (5 * l .i) f in
     let m : length (drop (l .from) b) ≡ length b - l .from = length-drop (l .from) b in
     let r = room c3 in

@@ -1,13 +1,12 @@
 -- `authorization::witness::feed_canonical_witness` meets its contract, by what is found of the table. Assumes nothing.
 use mathlib.Core.Path.{_≡_, sym, ap, _∙_}
 use lib.ListN.{take}
-use Rattle.octets.specs.Le.{numberAt}
 use Rattle.protocol.specs.Rows.{decide, AllPass}
 use Rattle.protocol.specs.declared.error.ProtocolError.the-variants.{InvalidWitness}
 use Rattle.protocol.specs.declared.check.Check.the-variants.{Passed}
 use Rattle.protocol.proofs.AllPass.{passed-all-pass}
 use Rattle.molecule.specs.declared.canonical.CanonicalParts.{CanonicalParts}
-use Rattle.molecule.specs.Table3.{tableRows}
+use Rattle.molecule.specs.Table3.{tableRows, secondOffsetOf}
 use Rattle.molecule.specs.Canonical.{canonicalOf}
 use Rattle.molecule.proofs.Form.{passes}
 use Rattle.molecule.proofs.CanonicalForm.{parts-read, parts-found}
@@ -40,7 +39,7 @@ returns-2 c =
     let s = a .witness .now in
     let told : decide Passed (tableRows InvalidWitness s) ≡ Passed = sym (ap (λ (q : CanonicalParts). q .found) (p .canonical-parts .ensures) ∙ parts-found s) ∙ t .enum-told .given .1 in
     let h : AllPass (tableRows InvalidWitness s) = passed-all-pass (tableRows InvalidWitness s) told in
-    let e : p .canonical-parts .result ≡ record { found = Passed; head = take 20 (canonicalOf s); rest = numberAt s 8 4 } = p .canonical-parts .ensures ∙ parts-read s h in
+    let e : p .canonical-parts .result ≡ record { found = Passed; head = take 20 (canonicalOf s); rest = secondOffsetOf s } = p .canonical-parts .ensures ∙ parts-read s h in
     rw (
       told,
       c .update3 .ensures,

@@ -4,8 +4,8 @@ use Prim.Native.Nat.{_-_}
 use native.Mathlib.Omega.{arith}
 use denote.Ref.{now}
 use borrow.Author.Needs.{needs}
+use Rattle.octets.specs.Lists.{every}
 use Rattle.scene_table.specs.Lent.{sceneIn}
-use Rattle.scene_table.specs.Valid.{every}
 use Rattle.group_sighash.specs.Witnesses.{otherWitnesses, witnessFits}
 use Rattle.group_sighash.specs.Hashed.{witnessAt}
 use Rattle.group_sighash.proofs.HashedLaws.{Left, left-first, left-more, left-next, left-end, fits-more, fits-not, fits-none, others-pass, others-fail}

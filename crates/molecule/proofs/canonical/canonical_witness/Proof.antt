@@ -3,13 +3,12 @@ use mathlib.Core.Path.{_≡_, refl, sym, _∙_}
 use Prim.Native.Nat.{_+_}
 use lib.ListN.{length, take}
 use lib.Seq.{sets}
-use Rattle.octets.specs.Le.{numberAt}
 use Rattle.protocol.specs.Rows.{AllPass}
 use Rattle.protocol.specs.declared.error.ProtocolError.the-variants.{InvalidWitness}
 use Rattle.protocol.specs.declared.check.Check.the-variants.{Passed}
 use Rattle.protocol.proofs.Back.{write-passed}
 use Rattle.protocol.proofs.Outcome.{write-refused, write-done}
-use Rattle.molecule.specs.Table3.{tableRows}
+use Rattle.molecule.specs.Table3.{tableRows, secondOffsetOf}
 use Rattle.molecule.specs.Canonical.{canonicalOf, canonicalRoom, canonicalWritten, canonicalStored}
 use Rattle.molecule.proofs.Form.{Passes, passes}
 use Rattle.molecule.proofs.CanonicalForm.{length-canonical, parts-stored, parts-read, room-found}
@@ -41,7 +40,7 @@ returns-2 c =
     rw (k .require .ensures, k .before .fits2 .ensures, k .before .before .rest .ensures, p .canonical-parts .ensures) (room-found s (length (a .out .now))) in
     let h : AllPass rows = write-passed rows (length (canonicalOf s)) (length (a .out .now)) (sym found ∙ told .enum-told .given .1) .0 in
     let z : Passes s = passes InvalidWitness s h in
-    let e : p .canonical-parts .result ≡ record { found = Passed; head = take 20 (canonicalOf s); rest = numberAt s 8 4 } = p .canonical-parts .ensures ∙ parts-read s h in
+    let e : p .canonical-parts .result ≡ record { found = Passed; head = take 20 (canonicalOf s); rest = secondOffsetOf s } = p .canonical-parts .ensures ∙ parts-read s h in
     let n : 20 + length (k .before .before .rest .result .now) ≡ length (canonicalOf s) = rw (k .before .before .rest .ensures, e) (sym (length-canonical s z)) in
     let stored : c .before .before .store-bytes2 .last .0 ≡ sets (a .out .now) 0 (canonicalOf s) =
     rw (c .before .before .store-bytes2 .ensures, t .store-bytes .ensures, k .before .before .rest .ensures, e) (parts-stored s z (a .out .now)) in

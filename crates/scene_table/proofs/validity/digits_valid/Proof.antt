@@ -6,8 +6,8 @@ use native.Mathlib.Nat.{sub-zero, add-zero}
 use native.Mathlib.Omega.{arith}
 use borrow.Author.Tests.{le-ltb, lt-ltb}
 use lib.Dec.{ltb}
+use Rattle.octets.specs.Lists.{every}
 use Rattle.scene_table.specs.Lent.{tableEntry, recordsAt}
-use Rattle.scene_table.specs.Valid.{every}
 use Rattle.scene_table.proofs.WalkLaws.{digits-turn, digits-end}
 use borrow.Author.Needs.{needs}
 use Rattle.scene_table.proofs.validity.digits_valid.Statement.{statement}

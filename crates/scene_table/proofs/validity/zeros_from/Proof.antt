@@ -7,7 +7,7 @@ use native.Mathlib.Omega.{arith}
 use borrow.Author.Tests.{eq-eqb, ne-eqb}
 use lib.Dec.{eqb}
 use lib.ListN.{length, drop, getD}
-use Rattle.scene_table.specs.Valid.{every}
+use Rattle.octets.specs.Lists.{every}
 use Rattle.scene_table.proofs.WalkLaws.{every-turn, every-end}
 use Rattle.scene_table.proofs.validity.zeros_from.Statement.{statement}
 use Rattle.scene_table.proofs.validity.zeros_from.Tie as tie

@@ -3,13 +3,14 @@ use borrow.Author.Needs.{needs}
 use Prim.Native.Nat.{_-_, _≤_}
 use mathlib.Core.Path.{_≡_, refl, sym, _∙_}
 use lib.ListN.{length, drop}
+use Rattle.octets.specs.Lists.{every}
 use Rattle.scene_text.proofs.Tests.{between-yes, between-under, between-over, all-on, all-off, all-end}
-use Rattle.scene_text.specs.Text.{all, inRange}
+use Rattle.scene_text.specs.Text.{inRange}
 use Rattle.scene_text.proofs.decimal.all_between.Statement.{statement}
 use Rattle.scene_text.proofs.decimal.all_between.Tie as tie
 
 abbrev Inv-loop : tie.InvT-loop
-Inv-loop s low high i₀ i = (i ≤ length s) × (all (inRange low high) s ≡ all (inRange low high) (drop i s))
+Inv-loop s low high i₀ i = (i ≤ length s) × (every (inRange low high) s ≡ every (inRange low high) (drop i s))
 
 abbrev μ-loop : tie.MeasureT-loop
 μ-loop s low high i₀ i = length s - i

@@ -6,7 +6,8 @@ use borrow.Author.Needs.{needs}
 use mathlib.Core.Bool.{true, false}
 use borrow.Author.Tests.{lt-ltb, le-ltb, eq-eqb, ne-eqb, not-true, not-false}
 use lib.Dec.{ltb}
-use Rattle.scene_text.specs.Text.{sinceOf, all, inRange}
+use Rattle.octets.specs.Lists.{every}
+use Rattle.scene_text.specs.Text.{sinceOf, inRange}
 use Rattle.scene_text.proofs.decimal.since.Statement.{statement}
 use Rattle.scene_text.proofs.decimal.since.Tie as tie
 
@@ -19,7 +20,7 @@ unfolding sinceOf
 returns-2 c =
     let s = c .before .before .before .before .args .s .now in
     let some : ltb 0 (length s) ≡ true = lt-ltb 0 (length s) (omega arith) in
-    let digits : all (inRange 48 57) s ≡ false = sym (c .before .all-between .ensures) ∙ not-true _ (c .if2 .taken) in
+    let digits : every (inRange 48 57) s ≡ false = sym (c .before .all-between .ensures) ∙ not-true _ (c .if2 .taken) in
     rw (some, digits)
 
 value-requires : tie.Need-value-requires
@@ -30,7 +31,7 @@ unfolding sinceOf
 returns-3 c =
     let s = c .before .before .before .before .before .before .args .s .now in
     let some : ltb 0 (length s) ≡ true = lt-ltb 0 (length s) (omega arith) in
-    let digits : all (inRange 48 57) s ≡ true = sym (c .before .before .before .all-between .ensures) ∙ not-false _ (c .before .before .if2 .left) in
+    let digits : every (inRange 48 57) s ≡ true = sym (c .before .before .before .all-between .ensures) ∙ not-false _ (c .before .before .if2 .left) in
     rw (some, digits, eq-eqb _ 1 (c .before .if3 .taken)) (c .value .ensures)
 
 returns-4 : tie.Need-returns-4
@@ -38,7 +39,7 @@ unfolding sinceOf
 returns-4 c =
     let s = c .before .before .before .before .before .before .before .args .s .now in
     let some : ltb 0 (length s) ≡ true = lt-ltb 0 (length s) (omega arith) in
-    let digits : all (inRange 48 57) s ≡ true = sym (c .before .before .before .before .all-between .ensures) ∙ not-false _ (c .before .before .before .if2 .left) in
+    let digits : every (inRange 48 57) s ≡ true = sym (c .before .before .before .before .all-between .ensures) ∙ not-false _ (c .before .before .before .if2 .left) in
     rw (some, digits, ne-eqb _ 1 (c .before .before .if3 .left), eq-eqb _ 48 (c .if4 .taken))
 
 value-requires-2 : tie.Need-value-requires-2
@@ -49,7 +50,7 @@ unfolding sinceOf
 returns-5 c =
     let s = c .before .before .before .before .before .before .before .before .args .s .now in
     let some : ltb 0 (length s) ≡ true = lt-ltb 0 (length s) (omega arith) in
-    let digits : all (inRange 48 57) s ≡ true = sym (c .before .before .before .before .before .all-between .ensures) ∙ not-false _ (c .before .before .before .before .if2 .left) in
+    let digits : every (inRange 48 57) s ≡ true = sym (c .before .before .before .before .before .all-between .ensures) ∙ not-false _ (c .before .before .before .before .if2 .left) in
     rw (some, digits, ne-eqb _ 1 (c .before .before .before .if3 .left), ne-eqb _ 48 (c .before .if4 .left)) (c .value2 .ensures)
 
 pub since-spec : {M : Type 1} → statement M

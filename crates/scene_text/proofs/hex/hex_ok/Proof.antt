@@ -4,13 +4,14 @@ use mathlib.Core.Bool.{_&&_, and-true}
 use mathlib.Core.Path.{_≡_, refl, sym, _∙_}
 use borrow.Author.Needs.{needs}
 use lib.ListN.{length, drop}
-use Rattle.scene_text.specs.Text.{hexOk, all, isHex}
+use Rattle.octets.specs.Lists.{every}
+use Rattle.scene_text.specs.Text.{hexOk, isHex}
 use Rattle.scene_text.proofs.Tests.{all-next, all-end}
 use Rattle.scene_text.proofs.hex.hex_ok.Statement.{statement}
 use Rattle.scene_text.proofs.hex.hex_ok.Tie as tie
 
 abbrev Inv-loop : tie.InvT-loop
-Inv-loop s ok₀ i₀ ok i = (i ≤ length s) × (hexOk s ≡ (ok && all isHex (drop i s)))
+Inv-loop s ok₀ i₀ ok i = (i ≤ length s) × (hexOk s ≡ (ok && every isHex (drop i s)))
 
 abbrev μ-loop : tie.MeasureT-loop
 μ-loop s ok₀ i₀ ok i = length s - i

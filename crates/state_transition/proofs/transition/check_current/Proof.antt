@@ -4,13 +4,13 @@ use Rattle.protocol.specs.Rows.{decide, _▷_, _then_}
 use Rattle.protocol.proofs.AllPass.{decide-append, decide-then}
 use Rattle.protocol.specs.declared.check.Check.the-variants.{Passed}
 use Rattle.account_state.specs.State.{stateFault, stateRows}
-use Rattle.state_transition.specs.Transition.{currentRows, sequenceOf}
+use Rattle.state_transition.specs.Transition.{currentRows}
 use borrow.Author.Needs.{needs}
 use Rattle.state_transition.proofs.transition.check_current.Statement.{statement}
 use Rattle.state_transition.proofs.transition.check_current.Tie as tie
 
 returns : tie.Need-returns
-unfolding currentRows sequenceOf decide
+unfolding currentRows decide
 returns c = rw (c .require .ensures, c .before .u64-at .ensures, c .before .before .check-state .ensures) (sym (decide-append Passed (stateRows _) _))
 
 pub check-current-spec : {M : Type 1} → statement M

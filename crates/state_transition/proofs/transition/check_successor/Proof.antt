@@ -4,13 +4,13 @@ use Rattle.protocol.specs.Rows.{decide, _▷_, _then_}
 use Rattle.protocol.proofs.AllPass.{decide-append, decide-then}
 use Rattle.protocol.specs.declared.check.Check.the-variants.{Passed}
 use Rattle.account_state.specs.State.{stateFault, stateRows}
-use Rattle.state_transition.specs.Transition.{successorRows, sequenceOf}
+use Rattle.state_transition.specs.Transition.{successorRows}
 use borrow.Author.Needs.{needs}
 use Rattle.state_transition.proofs.transition.check_successor.Statement.{statement}
 use Rattle.state_transition.proofs.transition.check_successor.Tie as tie
 
 returns : tie.Need-returns
-unfolding successorRows sequenceOf decide
+unfolding successorRows decide
 returns c = rw (c .require .ensures, c .before .is-next .ensures, c .before .before .u64-at2 .ensures, c .before .before .before .u64-at .ensures, c .before .before .before .before .check-state .ensures) (sym (decide-append Passed (stateRows _) _))
 
 pub check-successor-spec : {M : Type 1} → statement M
