@@ -16,7 +16,7 @@ use Rattle.protocol.specs.Rows.{AllPass}
 use Rattle.protocol.proofs.AllPass.{all-pass-split}
 use Rattle.account_state.specs.Fields.{auxLengthOf, entryCountOf, entryLengthOf, entrySlotOf, keyLengthOf, stateHeaderLengthOf, stateMagicOf, stateReservedOf, stateVersionOf}
 use Rattle.account_state.specs.Reading.{EntryReading, StateReading, stateMagic, entrySize, entryHeadFields, entryLengthFields, entryBytes, entriesBytes, stateHeaderFields, stateHead, stateBytes, entryOf, entriesOf, stateReading, EntryTyped, EntriesTyped, StateTyped}
-use Rattle.account_state.specs.State.{stateHeaderRows, entryLayoutRows, entryFieldRows, entryRows, entriesRows, behindEntries, stateEndRows, stateTailRows, stateRows}
+use Rattle.account_state.specs.State.{stateHeaderRows, entryLayoutRows, entryFieldRows, entryFieldsOf, entryRows, entriesRows, behindEntries, stateEndRows, stateTailRows, stateRows}
 
 -- what an entry that passes says of its lengths
 record Lengths (e : List ℕ) : Type 0 where
@@ -96,7 +96,7 @@ entry-key e least h =
     let z = lengths e least h in
     let s = z .sum in
     let i = z .inside in
-    let k : keyLengthOf e ≡ 32 = eqb-true _ _ (all-pass-split (entryLayoutRows e least) (entryFieldRows e) h .1 .1 .1 .1 .1 .1 .0) in
+    let k : keyLengthOf e ≡ 32 = eqb-true _ _ (all-pass-split (entryLayoutRows e least) (entryFieldRows (entryFieldsOf e)) h .1 .1 .1 .1 .1 .1 .0) in
     part-length e 48 (keyLengthOf e) (omega arith) ∙ k
 
 entries-keys : (n : ℕ) (e : List ℕ) (least : ℕ) → AllPass (entriesRows n e least) → Keys (entriesOf n e)

@@ -10,13 +10,13 @@ use lib.ListN.{length, drop, length-drop}
 use Rattle.protocol.specs.Rows.{AllPass}
 use Rattle.protocol.proofs.AllPass.{all-pass-split}
 use Rattle.account_state.specs.Fields.{auxLengthOf, entryCountOf, entryLengthOf, keyLengthOf}
-use Rattle.account_state.specs.State.{stateHeaderRows, entryLayoutRows, entryFieldRows, entryRows, entriesRows, stateTailRows, stateRows}
+use Rattle.account_state.specs.State.{stateHeaderRows, entryLayoutRows, entryFieldRows, entryFieldsOf, entryRows, entriesRows, stateTailRows, stateRows}
 
 -- an entry that passes has 81 bytes
 entry-smallest : (e : List ℕ) (least : ℕ) → AllPass (entryRows e least) → 81 ≤ length e
 unfolding entryRows entryLayoutRows entryFieldRows
 entry-smallest e least h =
-    let z = all-pass-split (entryLayoutRows e least) (entryFieldRows e) h in
+    let z = all-pass-split (entryLayoutRows e least) (entryFieldRows (entryFieldsOf e)) h in
     let whole : entryLengthOf e ≡ 48 + keyLengthOf e + auxLengthOf e = eqb-true _ _ (z .0 .1 .0) in
     let inside : entryLengthOf e ≤ length e = leb-true _ _ (z .0 .1 .1 .0) in
     let key : keyLengthOf e ≡ 32 = eqb-true _ _ (z .1 .1 .1 .1 .1 .1 .0) in

@@ -16,10 +16,10 @@ use Rattle.protocol.proofs.AllPass.{passed-all-pass, decide-append, decide-fail
 use Rattle.account_state.specs.Fields.{entryCountOf}
 use Rattle.account_state.specs.Reading.{entriesOf}
 use Rattle.account_state.specs.State.{stateHeaderRows, entriesRows, stateTailRows, stateRows, stateFault, summaryOf}
-use Rattle.account_state.specs.Walk.{walkAnswer, walkOf, walkEntries, endFault}
-use Rattle.account_state.specs.declared.walk.Walk.{Walk}
-use Rattle.account_state.specs.declared.walk.WalkAnswer.{WalkAnswer}
-use Rattle.account_state.specs.declared.walk.WalkAnswer.the-variants.{Walked, Refused}
+use Rattle.account_state.specs.EntriesWalk.{entriesWalkAnswer, entriesWalkOf, walkEntries, endFault}
+use Rattle.account_state.specs.declared.walk.EntriesWalk.{EntriesWalk}
+use Rattle.account_state.specs.declared.walk.EntriesWalkAnswer.{EntriesWalkAnswer}
+use Rattle.account_state.specs.declared.walk.EntriesWalkAnswer.the-variants.{Walked, Refused}
 
 -- a number at the front of the bytes
 front-part : (n at k : ℕ) (s : List ℕ) → at + k ≤ n → take k (drop at (take n s)) ≡ take k (drop at s)
@@ -41,13 +41,13 @@ pub fault-head : (s : List ℕ) (e : ProtocolError) → decide Passed (stateHead
 unfolding stateFault stateRows
 fault-head s e h = decide-append Passed (stateHeaderRows s) _ ∙ rw h (decide-failed _ e)
 
-walked-passed : (k : Check) (v w : Walk) → walkAnswer k v ≡ Walked w → (k ≡ Passed) × (v ≡ w)
-unfolding walkAnswer
+walked-passed : (k : Check) (v w : EntriesWalk) → entriesWalkAnswer k v ≡ Walked w → (k ≡ Passed) × (v ≡ w)
+unfolding entriesWalkAnswer
 walked-passed Passed v w h = (refl, cc)
 walked-passed (Failed e) v w h = absurd (let z : _≡_ {A = ℕ} 0 1 = cc in omega arith)
 
-walked-failed : (k : Check) (v : Walk) (e : ProtocolError) → walkAnswer k v ≡ Refused e → k ≡ Failed e
-unfolding walkAnswer
+walked-failed : (k : Check) (v : EntriesWalk) (e : ProtocolError) → entriesWalkAnswer k v ≡ Refused e → k ≡ Failed e
+unfolding entriesWalkAnswer
 walked-failed Passed v e h = absurd (let z : _≡_ {A = ℕ} 0 1 = cc in omega arith)
 walked-failed (Failed x) v e h = cc
 
@@ -58,9 +58,9 @@ module _ (s : List ℕ) (h : decide Passed (stateHeaderRows s) ≡ Passed) where
       let k = walked-failed _ _ e w in
       decide-append Passed (stateHeaderRows s) _ ∙ rw h (decide-append Passed (entriesRows (entryCountOf s) (drop 32 s) 0) _ ∙ rw k (decide-failed _ e))
 
-  pub fault-end : (w : Walk) → walkEntries (entryCountOf s) (drop 32 s) ≡ Walked w
+  pub fault-end : (w : EntriesWalk) → walkEntries (entryCountOf s) (drop 32 s) ≡ Walked w
       → (stateFault s ≡ endFault s w) × (summaryOf (entriesOf (entryCountOf s) (drop 32 s)) ≡ w .summary)
-  unfolding stateFault stateRows stateTailRows walkEntries walkOf endFault summaryOf
+  unfolding stateFault stateRows stateTailRows walkEntries entriesWalkOf endFault summaryOf
   fault-end w k =
       let z = walked-passed _ _ w k in
-      (decide-append Passed (stateHeaderRows s) _ ∙ rw h (decide-append Passed (entriesRows (entryCountOf s) (drop 32 s) 0) _ ∙ rw (z .0, ← z .1)), ap (λ (v : Walk). v .summary) (z .1))
+      (decide-append Passed (stateHeaderRows s) _ ∙ rw h (decide-append Passed (entriesRows (entryCountOf s) (drop 32 s) 0) _ ∙ rw (z .0, ← z .1)), ap (λ (v : EntriesWalk). v .summary) (z .1))

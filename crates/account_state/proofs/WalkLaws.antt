@@ -19,7 +19,7 @@ use Rattle.protocol.proofs.AllPass.{passed-all-pass, decide-append, decide-fail
 use Rattle.account_state.specs.Fields.{entryLengthOf, entrySlotOf, capabilitiesOf, weightOf}
 use Rattle.account_state.specs.Reading.{entryOf, entriesOf, capableShare, capableWeight}
 use Rattle.account_state.specs.State.{entryLayoutRows, entryRows, entriesRows, behindEntries, firstEntry, entryCursorBehind, summaryOf}
-use Rattle.account_state.specs.Walk.{withEntry, Light}
+use Rattle.account_state.specs.EntriesWalk.{withEntry, Light}
 use Rattle.account_state.specs.declared.entry.EntryCursor.{EntryCursor}
 use Rattle.account_state.specs.declared.walk.StateSummary.{StateSummary}
 

@@ -1,6 +1,6 @@
 -- The checks of an account state, in document 01's order, and what its readers give.
 use mathlib.Core.Path.{_≡_}
-use Prim.Native.Nat.{ℕ, zero, suc, _+_, _%_}
+use Prim.Native.Nat.{ℕ, zero, suc, _+_}
 use mathlib.Core.Bool.{cond}
 use mathlib.Core.List.{List, [], _∷_, _++_}
 use lib.ListN.{length, take, drop}
@@ -11,13 +11,14 @@ use Rattle.protocol.specs.Rows.{Row, row, decide}
 use Rattle.protocol.specs.declared.error.ProtocolError.the-variants.{InvalidState, InvalidVerifierRef, UnsupportedVersion, UnsupportedAlgorithm, UnsatisfiableThreshold}
 use Rattle.protocol.specs.declared.check.Check.{Check}
 use Rattle.protocol.specs.declared.check.Check.the-variants.{Passed, Failed}
-use Rattle.account_state.specs.Fields.{stateMagicOf, stateVersionOf, flagsOf, stateHeaderLengthOf, sequenceOf, spendThresholdOf, rotateThresholdOf, recoveryThresholdOf, entryCountOf, stateReservedOf, recoverySinceOf, entryLengthOf, entrySlotOf, algorithmOf, capabilitiesOf, weightOf, hashTypeOf, abiOf, keyLengthOf, auxLengthOf, entryBytesOf}
+use Rattle.account_state.specs.Fields.{stateMagicOf, stateVersionOf, flagsOf, recoveryEnabled, stateHeaderLengthOf, sequenceOf, spendThresholdOf, rotateThresholdOf, recoveryThresholdOf, entryCountOf, stateReservedOf, recoverySinceOf, entryLengthOf, entrySlotOf, algorithmOf, capabilitiesOf, weightOf, hashTypeOf, abiOf, codeHashOffset, keyOffset, keyLengthOf, auxLengthOf, entryBytesOf}
 use Rattle.account_state.specs.Reading.{EntryReading, stateMagic, entriesOf, stateEntries, stateReading, capableWeight}
 use Rattle.account_state.specs.declared.header.StateHeader.{StateHeader}
 use Rattle.account_state.specs.declared.header.StateHeaderAnswer.{StateHeaderAnswer}
 use Rattle.account_state.specs.declared.header.StateHeaderAnswer.the-variants as header
 use Rattle.account_state.specs.declared.entry.AuthenticatorEntry.{AuthenticatorEntry}
 use Rattle.account_state.specs.declared.entry.EntryCursor.{EntryCursor}
+use Rattle.account_state.specs.declared.entry.EntryFields.{EntryFields}
 use Rattle.account_state.specs.declared.entry.EntryStep.{EntryStep}
 use Rattle.account_state.specs.declared.entry.EntryStep.the-variants as step
 use Rattle.account_state.specs.declared.walk.StateSummary.{StateSummary}
@@ -51,19 +52,32 @@ entryLayoutRows e least =
     ∷ row (leb least (entrySlotOf e)) InvalidState
     ∷ []
 
-unfoldable pub entryFieldRows : List ℕ → List Row
-entryFieldRows e =
-    row (leb 1 (weightOf e)) InvalidState
-    ∷ row (leb (capabilitiesOf e) 0x000f) InvalidState
-    ∷ row (leb (hashTypeOf e) 1) InvalidVerifierRef
-    ∷ row (eqb (abiOf e) 1) InvalidVerifierRef
-    ∷ row (isSupportedAlgorithm (algorithmOf e)) UnsupportedAlgorithm
-    ∷ row (eqb (keyLengthOf e) 32) InvalidState
-    ∷ row (leb 1 (auxLengthOf e)) InvalidState
+-- of an entry that is read or is to be written
+unfoldable pub entryFieldRows : EntryFields → List Row
+entryFieldRows f =
+    row (leb 1 (f .weight)) InvalidState
+    ∷ row (leb (f .capabilities) 0x000f) InvalidState
+    ∷ row (leb (f .«verifier_hash_type») 1) InvalidVerifierRef
+    ∷ row (eqb (f .«verifier_abi») 1) InvalidVerifierRef
+    ∷ row (isSupportedAlgorithm (f .«algorithm_id»)) UnsupportedAlgorithm
+    ∷ row (eqb (f .«key_len») 32) InvalidState
+    ∷ row (leb 1 (f .«aux_len»)) InvalidState
     ∷ []
 
+abbrev pub entryFieldsOf : List ℕ → EntryFields
+entryFieldsOf e =
+    record {
+      «algorithm_id» = algorithmOf e;
+      capabilities = capabilitiesOf e;
+      weight = weightOf e;
+      «verifier_hash_type» = hashTypeOf e;
+      «verifier_abi» = abiOf e;
+      «key_len» = keyLengthOf e;
+      «aux_len» = auxLengthOf e;
+    }
+
 unfoldable pub entryRows : List ℕ → ℕ → List Row
-entryRows e least = entryLayoutRows e least ++ entryFieldRows e
+entryRows e least = entryLayoutRows e least ++ entryFieldRows (entryFieldsOf e)
 
 unfoldable pub entriesRows : ℕ → List ℕ → ℕ → List Row
 entriesRows zero e least = []
@@ -77,7 +91,7 @@ behindEntries (suc n) e = behindEntries n (drop (entryLengthOf e) e)
 -- 01: "With flag 1 set the same holds for recovery. With flag 1 clear, a recovery threshold or recovery_since other than 0 is 21."
 unfoldable pub recoveryThresholdRows : ℕ → ℕ → ℕ → ℕ → List Row
 recoveryThresholdRows flags threshold since weight =
-    cond (eqb (flags % 2) 1)
+    cond (recoveryEnabled flags)
     (row (leb 1 threshold) UnsatisfiableThreshold ∷ row (leb threshold weight) UnsatisfiableThreshold ∷ [])
     (row (eqb threshold 0) InvalidState ∷ row (eqb since 0) InvalidState ∷ [])
 
@@ -148,10 +162,10 @@ entryAt s at =
       weight = weightOf (drop at s);
       «verifier_hash_type» = hashTypeOf (drop at s);
       «verifier_abi» = abiOf (drop at s);
-      «verifier_code_hash» = at + 12;
-      «key_id» = at + 48;
+      «verifier_code_hash» = at + codeHashOffset;
+      «key_id» = at + keyOffset;
       «key_len» = keyLengthOf (drop at s);
-      aux = at + 48 + keyLengthOf (drop at s);
+      aux = at + keyOffset + keyLengthOf (drop at s);
       «aux_len» = auxLengthOf (drop at s);
     }
 

@@ -17,7 +17,7 @@ use Rattle.protocol.specs.declared.error.ProtocolError.the-variants.{InvalidSta
 use Rattle.protocol.specs.declared.check.Check.{Check}
 use Rattle.protocol.specs.declared.check.Check.the-variants.{Passed, Failed}
 use Rattle.protocol.proofs.AllPass.{decide-append, decide-failed, decide-then, passed-all-pass}
-use Rattle.account_state.specs.Fields.{auxLengthOf, entryLengthOf, entrySlotOf, keyLengthOf, abiOf, algorithmOf, capabilitiesOf, entryCountOf, flagsOf, hashTypeOf, recoverySinceOf, recoveryThresholdOf, rotateThresholdOf, spendThresholdOf, stateMagicOf, stateReservedOf, stateVersionOf, weightOf}
+use Rattle.account_state.specs.Fields.{auxLengthOf, entryLengthOf, entrySlotOf, keyLengthOf, abiOf, algorithmOf, capabilitiesOf, entryCountOf, flagsOf, hashTypeOf, recoverySinceOf, recoveryThresholdOf, rotateThresholdOf, spendThresholdOf, stateHeaderLengthOf, stateMagicOf, stateReservedOf, stateVersionOf, weightOf}
 use Rattle.account_state.specs.Reading.{EntryReading, StateReading, EntryTyped, EntriesTyped, StateTyped, stateMagic, entryHeadFields, entryLengthFields, entryBytes, entriesBytes, stateHeaderFields, stateHead, stateBytes, entryOf, capableWeight}
 use Rattle.account_state.specs.State.{stateHeaderRows, entryLayoutRows, entryFieldRows, entryRows, entriesRows, behindEntries, thresholdRows, stateEndRows, stateTailRows, stateRows, stateFault}
 use Rattle.account_state.proofs.Inverse.{Keys}
@@ -56,20 +56,19 @@ module _ (e : EntryReading) (t : List ℕ) (y : EntryTyped e) (k : length (e .ke
   unfolding entryRows entryLayoutRows entryFieldRows entryChecks entryOf entryLengthFields layoutAt decide
   entry-checked c least =
       let r = entry-read e t s y refl in
-      let m : keyLengthOf s ≡ 32 = ap (fieldValue 0) (lengths-read e t s y refl) ∙ k in
+      let m : keyLengthOf s ≡ length (e .key) = ap (fieldValue 0) (lengths-read e t s y refl) in
       let a : auxLengthOf s ≡ length (e .aux) = ap (fieldValue 1) (lengths-read e t s y refl) in
       let z : entryLengthOf s ≡ 80 + length (e .aux) = size-read e t s y refl ∙ size in
       let l : length s ≡ 80 + length (e .aux) + length t = length-append (entryBytes e) t ∙ ap (λ (n : ℕ). n + length t) size in
       let e₁ : leb 48 (length s) ≡ true = le-leb 48 (length s) (omega arith) in
       let e₂ : eqb (entryLengthOf s) (48 + keyLengthOf s + auxLengthOf s) ≡ true = eq-eqb (entryLengthOf s) (48 + keyLengthOf s + auxLengthOf s) (omega arith) in
       let e₃ : leb (entryLengthOf s) (length s) ≡ true = le-leb (entryLengthOf s) (length s) (omega arith) in
-      let e₄ : eqb (keyLengthOf s) 32 ≡ true = eq-eqb (keyLengthOf s) 32 m in
       let f₁ : algorithmOf s ≡ e .algorithm = ap (λ (x : EntryReading). x .algorithm) r in
       let f₂ : capabilitiesOf s ≡ e .capabilities = ap (λ (x : EntryReading). x .capabilities) r in
       let f₃ : weightOf s ≡ e .weight = ap (λ (x : EntryReading). x .weight) r in
       let f₄ : hashTypeOf s ≡ e .hashType = ap (λ (x : EntryReading). x .hashType) r in
       let f₅ : abiOf s ≡ e .abi = ap (λ (x : EntryReading). x .abi) r in
-      rw (e₁, e₂, e₃, e₄, a, slot-read, f₁, f₂, f₃, f₄, f₅) (simp row-true)
+      rw (e₁, e₂, e₃, m, a, slot-read, f₁, f₂, f₃, f₄, f₅) (simp row-true)
 
 -- entries one behind another
 entries-checked : (es : List EntryReading) → EntriesTyped es → Keys es → (c : Check) (least : ℕ)
@@ -118,7 +117,7 @@ module _ (r : StateReading) (y : StateTyped r) (k : Keys (r .entries)) (h : leng
       let e₂ : leb (length b) 16384 ≡ true = le-leb (length b) 16384 h in
       let e₃ : eqb (stateMagicOf b) stateMagic ≡ true = eq-eqb (stateMagicOf b) stateMagic (ap (fieldValue 0) m) in
       let e₄ : eqb (stateVersionOf b) 1 ≡ true = eq-eqb (stateVersionOf b) 1 (ap (fieldValue 1) m) in
-      let e₅ : eqb (capabilitiesOf b) 32 ≡ true = eq-eqb (capabilitiesOf b) 32 (ap (fieldValue 3) m) in
+      let e₅ : eqb (stateHeaderLengthOf b) 32 ≡ true = eq-eqb (stateHeaderLengthOf b) 32 (ap (fieldValue 3) m) in
       let e₆ : eqb (stateReservedOf b) 0 ≡ true = eq-eqb (stateReservedOf b) 0 (ap (fieldValue 9) m) in
       rw (e₁, e₂, e₃, e₄, e₅, e₆, flags-read, count-read) (simp row-true)
 

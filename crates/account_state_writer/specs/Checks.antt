@@ -3,28 +3,34 @@
 -- what the slices say. `state-checked` equates them with the state's own rows.
 use Prim.Native.Nat.{ℕ, zero, suc, _+_}
 use mathlib.Core.List.{List, [], _∷_, _++_}
-use lib.Dec.{leb, eqb}
+use lib.Dec.{leb}
 use lib.ListN.{length, drop, getD}
-use Rattle.protocol.specs.Policy.{isSupportedAlgorithm}
 use Rattle.protocol.specs.Rows.{Row, row}
-use Rattle.protocol.specs.declared.error.ProtocolError.the-variants.{InvalidState, InvalidVerifierRef, UnsupportedAlgorithm}
+use Rattle.protocol.specs.declared.error.ProtocolError.the-variants.{InvalidState}
 use Rattle.account_state.specs.Reading.{EntryReading, capableShare, capableWeight}
-use Rattle.account_state.specs.State.{thresholdRows}
+use Rattle.account_state.specs.State.{entryFieldRows, thresholdRows}
+use Rattle.account_state.specs.declared.entry.EntryFields.{EntryFields}
 
 unfoldable pub headChecks : ℕ → ℕ → List Row
 headChecks flags count =
     row (leb flags 3) InvalidState ∷ row (leb 1 count) InvalidState ∷ row (leb count 16) InvalidState ∷ []
 
+-- the fields of an entry that its reading says
+abbrev pub readingFields : EntryReading → EntryFields
+readingFields e =
+    record {
+      «algorithm_id» = e .algorithm;
+      capabilities = e .capabilities;
+      weight = e .weight;
+      «verifier_hash_type» = e .hashType;
+      «verifier_abi» = e .abi;
+      «key_len» = length (e .key);
+      «aux_len» = length (e .aux);
+    }
+
 unfoldable pub entryChecks : EntryReading → ℕ → List Row
 entryChecks e least =
-    row (leb least (e .slot)) InvalidState
-    ∷ row (leb 1 (e .weight)) InvalidState
-    ∷ row (leb (e .capabilities) 0x000f) InvalidState
-    ∷ row (leb (e .hashType) 1) InvalidVerifierRef
-    ∷ row (eqb (e .abi) 1) InvalidVerifierRef
-    ∷ row (isSupportedAlgorithm (e .algorithm)) UnsupportedAlgorithm
-    ∷ row (leb 1 (length (e .aux))) InvalidState
-    ∷ []
+    row (leb least (e .slot)) InvalidState ∷ entryFieldRows (readingFields e)
 
 unfoldable pub entriesChecks : List EntryReading → ℕ → List Row
 entriesChecks [] least = []

@@ -1,17 +1,16 @@
 // The checks of the state that the slices say, before a byte of it is written.
+use account_state::EntryFields;
 use account_state::StateSummary;
+use account_state::check_entry_fields;
 use account_state::check_thresholds;
 use account_state::share;
 use protocol::AUTHENTICATOR_MAX_COUNT;
-use protocol::CAP_KNOWN_MASK;
 use protocol::CAP_RECOVERY;
 use protocol::CAP_ROTATE;
 use protocol::CAP_SPEND;
 use protocol::Check;
 use protocol::ProtocolError;
 use protocol::STATE_FLAGS_KNOWN_MASK;
-use protocol::VERIFIER_ABI_V1;
-use protocol::is_supported_algorithm;
 ghost use mathlib.Core.Path.{_≡_};
 ghost use Prim.Native.Nat.{_+_, _*_, _≤_};
 ghost use lib.ListN.{length};
@@ -36,19 +35,19 @@ fn check_entry(fields: &[u16], bytes: &[u8], least: u32) -> Check
     requires { ⌜ (5 ≤ length (now fields)) × (66 + lentAuxLength (now fields) ≤ length (now bytes)) ⌝ }
     ensures { λ r. ⌜ r ≡ decide Passed (entryChecks (entryFrom (now (fields .entry)) (now (bytes .entry))) least) ⌝ }
 {
-    let invalid = ProtocolError::InvalidState;
-    let verifier = ProtocolError::InvalidVerifierRef;
-    Check::Passed
-        .require(least <= fields[0] as u32, invalid)
-        .require(1 <= fields[3], invalid)
-        .require(fields[2] <= CAP_KNOWN_MASK, invalid)
-        .require(bytes[0] <= 1, verifier)
-        .require(bytes[1] == VERIFIER_ABI_V1, verifier)
-        .require(
-            is_supported_algorithm(fields[1]),
-            ProtocolError::UnsupportedAlgorithm,
-        )
-        .require(1 <= fields[4], invalid)
+    let check = Check::Passed.require(least <= fields[0] as u32, ProtocolError::InvalidState);
+    check_entry_fields(
+        check,
+        EntryFields {
+            algorithm_id: fields[1],
+            capabilities: fields[2],
+            weight: fields[3],
+            verifier_hash_type: bytes[0],
+            verifier_abi: bytes[1],
+            key_len: 32,
+            aux_len: fields[4],
+        },
+    )
 }
 
 fn check_entries(fields: &[u16], bytes: &[u8], count: usize) -> Check
