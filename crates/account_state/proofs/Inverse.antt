@@ -2,32 +2,23 @@
 -- Assumes nothing.
 use mathlib.Core.Path.{_≡_, refl, sym, ap, _∙_}
 use mathlib.Core.List.{List, [], _∷_, _++_, append-assoc, append-nil}
-use Prim.Native.Nat.{ℕ, zero, suc, _+_, _^_, _≤_, _<_}
+use Prim.Native.Nat.{ℕ, zero, suc, _+_, _≤_}
 use native.Mathlib.Omega.{arith}
 use borrow.Author.Tests.{leb-true, eqb-true}
-use lib.ListN.{length, take, drop, length-append, take-append-drop}
-use lib.Seq.{take-length}
+use lib.ListN.{length, take, drop, take-append-drop}
 use Rattle.octets.specs.Le.{Bytes}
-use Rattle.octets.specs.Layout.{layoutBytes, layoutAt}
+use Rattle.octets.specs.Layout.{layoutAt}
 use Rattle.octets.proofs.LeLaws.{number-lt, bytes-drop}
 use Rattle.octets.proofs.LayoutLaws.{table-back}
 use Rattle.octets.proofs.Parts.{join, part-length}
 use Rattle.protocol.specs.Rows.{AllPass}
 use Rattle.protocol.proofs.AllPass.{all-pass-split}
-use Rattle.account_state.specs.Fields.{auxLengthOf, entryCountOf, entryLengthOf, entrySlotOf, keyLengthOf, stateHeaderLengthOf, stateMagicOf, stateReservedOf, stateVersionOf}
-use Rattle.account_state.specs.Reading.{EntryReading, StateReading, stateMagic, entrySize, entryHeadFields, entryLengthFields, entryBytes, entriesBytes, stateHeaderFields, stateHead, stateBytes, entryOf, entriesOf, stateReading, EntryTyped, EntriesTyped, StateTyped}
+use Rattle.account_state.proofs.EntriesWalkLaws.{Present, entry-present}
+use Rattle.account_state.specs.Fields.{auxLengthOf, entryCountOf, entryLengthOf, entrySlotOf, keyLengthOf, stateHeaderLengthOf, stateMagicOf, stateReservedOf, stateVersionOf, entryBytesOf}
+use Rattle.account_state.specs.Reading.{EntryReading, stateMagic, entryHeadFields, entryLengthFields, entryBytes, entriesBytes, stateHeaderFields, stateHead, stateBytes, entryOf, entriesOf, stateReading, EntryTyped, EntriesTyped, StateTyped}
 use Rattle.account_state.specs.State.{stateHeaderRows, entryLayoutRows, entryFieldRows, entryFieldsOf, entryRows, entriesRows, behindEntries, stateEndRows, stateTailRows, stateRows}
 
--- what an entry that passes says of its lengths
-record Lengths (e : List ℕ) : Type 0 where
-  sum : entryLengthOf e ≡ 48 + keyLengthOf e + auxLengthOf e
-  inside : entryLengthOf e ≤ length e
-
-lengths : (e : List ℕ) (least : ℕ) → AllPass (entryRows e least) → Lengths e
-unfolding entryRows entryLayoutRows
-lengths e least h = record { sum = eqb-true _ _ (h .1 .0); inside = leb-true _ _ (h .1 .1 .0) }
-
-module _ (e : List ℕ) (b : Bytes e) (z : Lengths e) where
+module _ (e : List ℕ) (b : Bytes e) (z : Present e) where
   abbrev k : ℕ
   k = keyLengthOf e
 
@@ -81,7 +72,7 @@ unfolding entriesBytes entriesOf entriesRows behindEntries
 entries-back zero e least b h = (refl, tt)
 entries-back (suc n) e least b h =
     let p = all-pass-split (entryRows e least) _ h in
-    let z = lengths e least (p .0) in
+    let z = entry-present e least (p .0) in
     let r = entries-back n (drop (entryLengthOf e) e) _ (bytes-drop (entryLengthOf e) e b) (p .1) in
     (append-assoc (entryBytes (entryOf e)) _ _ ∙ rw (r .0, entry-back e b z) (take-append-drop (entryLengthOf e) e), (entry-typed e b z, r .1))
 
@@ -93,7 +84,7 @@ Keys (e ∷ es) = (length (e .key) ≡ 32) × Keys es
 entry-key : (e : List ℕ) (least : ℕ) → AllPass (entryRows e least) → length (entryOf e .key) ≡ 32
 unfolding entryOf entryRows entryFieldRows
 entry-key e least h =
-    let z = lengths e least h in
+    let z = entry-present e least h in
     let s = z .sum in
     let i = z .inside in
     let k : keyLengthOf e ≡ 32 = eqb-true _ _ (all-pass-split (entryLayoutRows e least) (entryFieldRows (entryFieldsOf e)) h .1 .1 .1 .1 .1 .1 .0) in
@@ -134,38 +125,42 @@ nothing : (l : List ℕ) → length l ≡ 0 → l ≡ []
 nothing [] e = refl
 nothing (x ∷ l) e = absurd (omega arith)
 
+-- what an accepted state says of its parts
+module _ (s : List ℕ) (h : AllPass (stateRows s)) where
+  pub parts : AllPass (stateHeaderRows s) × (AllPass (entriesRows (entryCountOf s) (entryBytesOf s) 0) × AllPass (stateTailRows s (entryCountOf s) (entryBytesOf s)))
+  unfolding stateRows
+  parts =
+      let p = all-pass-split (stateHeaderRows s) _ h in
+      (p .0, all-pass-split (entriesRows (entryCountOf s) (entryBytesOf s) 0) _ (p .1))
+
+  -- no byte follows the last entry
+  pub no-tail : behindEntries (entryCountOf s) (entryBytesOf s) ≡ []
+  unfolding stateTailRows stateEndRows
+  no-tail = nothing _ (eqb-true _ 0 (parts .1 .1 .0))
+
 module _ (s : List ℕ) (b : Bytes s) (h : AllPass (stateRows s)) where
   abbrev n : ℕ
   n = entryCountOf s
 
-  pub parts : AllPass (stateHeaderRows s) × (AllPass (entriesRows n (drop 32 s) 0) × AllPass (stateTailRows s n (drop 32 s)))
-  unfolding stateRows
-  parts = let p = all-pass-split (stateHeaderRows s) _ h in (p .0, all-pass-split (entriesRows n (drop 32 s) 0) _ (p .1))
-
-  -- no byte follows the last entry
-  no-tail : behindEntries n (drop 32 s) ≡ []
-  unfolding stateTailRows stateEndRows
-  no-tail = nothing _ (eqb-true _ 0 (parts .1 .1 .0))
-
   pub state-back : stateBytes (stateReading s) ≡ s
   unfolding stateBytes stateReading stateHead stateHeaderFields layoutAt
   state-back =
-      let z = head s (parts .0) in
+      let z = head s (parts s h .0) in
       let l = z .present in
-      let r = entries-back n (drop 32 s) 0 (bytes-drop 32 s b) (parts .1 .0) in
+      let r = entries-back n (entryBytesOf s) 0 (bytes-drop 32 s b) (parts s h .1 .0) in
       let t = rw (z .magic, z .version, z .size, z .zeroByte) at (table-back (4 ∷ 1 ∷ 1 ∷ 2 ∷ 8 ∷ 2 ∷ 2 ∷ 2 ∷ 1 ∷ 1 ∷ 8 ∷ []) s 0 b (omega arith)) in
-      let e : entriesBytes (entriesOf n (drop 32 s)) ≡ drop 32 s = sym (append-nil _) ∙ (rw no-tail at (r .0)) in
-      rw (length-entries n (drop 32 s), t, e) (take-append-drop 32 s)
+      let e : entriesBytes (entriesOf n (entryBytesOf s)) ≡ drop 32 s = sym (append-nil _) ∙ (rw (no-tail s h) at (r .0)) in
+      rw (length-entries n (entryBytesOf s), t, e) (take-append-drop 32 s)
 
   pub state-keys : Keys (stateReading s .entries)
   unfolding stateReading
-  state-keys = entries-keys n (drop 32 s) 0 (parts .1 .0)
+  state-keys = entries-keys n (entryBytesOf s) 0 (parts s h .1 .0)
 
   -- its length and its count stay within their limits
   pub state-limits : (length s ≤ 16384) × (length (stateReading s .entries) ≤ 16)
   unfolding stateHeaderRows stateReading
   state-limits =
-      (leb-true _ _ (parts .0 .1 .0), rw (length-entries n (drop 32 s)) (leb-true _ _ (parts .0 .1 .1 .1 .1 .1 .1 .1 .1 .0)))
+      (leb-true _ _ (parts s h .0 .1 .0), rw (length-entries n (entryBytesOf s)) (leb-true _ _ (parts s h .0 .1 .1 .1 .1 .1 .1 .1 .1 .0)))
 
   pub state-typed : StateTyped (stateReading s)
   unfolding stateReading
@@ -177,6 +172,6 @@ module _ (s : List ℕ) (b : Bytes s) (h : AllPass (stateRows s)) where
         rotate = number-lt s 18 2 b;
         recovery = number-lt s 20 2 b;
         since = number-lt s 24 8 b;
-        count = rw (length-entries n (drop 32 s)) (number-lt s 22 1 b);
-        entries = entries-back n (drop 32 s) 0 (bytes-drop 32 s b) (parts .1 .0) .1;
+        count = rw (length-entries n (entryBytesOf s)) (number-lt s 22 1 b);
+        entries = entries-back n (entryBytesOf s) 0 (bytes-drop 32 s b) (parts s h .1 .0) .1;
       }

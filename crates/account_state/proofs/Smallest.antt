@@ -2,15 +2,16 @@
 -- and an aux that is not empty.
 -- Assumes nothing.
 use mathlib.Core.Path.{_≡_}
-use mathlib.Core.List.{List, _++_}
+use mathlib.Core.List.{List}
 use Prim.Native.Nat.{ℕ, zero, suc, _+_, _-_, _≤_}
 use native.Mathlib.Omega.{arith}
 use borrow.Author.Tests.{leb-true, eqb-true}
-use lib.ListN.{length, drop, length-drop}
+use lib.ListN.{length, length-drop}
 use Rattle.protocol.specs.Rows.{AllPass}
 use Rattle.protocol.proofs.AllPass.{all-pass-split}
-use Rattle.account_state.specs.Fields.{auxLengthOf, entryCountOf, entryLengthOf, keyLengthOf}
-use Rattle.account_state.specs.State.{stateHeaderRows, entryLayoutRows, entryFieldRows, entryFieldsOf, entryRows, entriesRows, stateTailRows, stateRows}
+use Rattle.account_state.specs.Fields.{auxLengthOf, entryCountOf, entryLengthOf, keyLengthOf, entryBytesOf}
+use Rattle.account_state.specs.State.{stateHeaderRows, entryLayoutRows, entryFieldRows, entryFieldsOf, entryRows, entriesRows, stateRows}
+use Rattle.account_state.proofs.Inverse.{parts}
 
 -- an entry that passes has 81 bytes
 entry-smallest : (e : List ℕ) (least : ℕ) → AllPass (entryRows e least) → 81 ≤ length e
@@ -31,12 +32,10 @@ entries-smallest (suc n) e least some h = entry-smallest e least (all-pass-split
 
 -- The theorem: a state that passes its rows has at least 113 bytes.
 pub state-smallest : (s : List ℕ) → AllPass (stateRows s) → 113 ≤ length s
-unfolding stateRows stateHeaderRows
+unfolding stateHeaderRows
 state-smallest s h =
-    let count = entryCountOf s in
-    let e = drop 32 s in
-    let z = all-pass-split (stateHeaderRows s) (entriesRows count e 0 ++ stateTailRows s count e) h in
-    let entries = all-pass-split (entriesRows count e 0) (stateTailRows s count e) (z .1) .0 in
-    let l : 81 ≤ length e = entries-smallest count e 0 (leb-true _ _ (z .0 .1 .1 .1 .1 .1 .1 .1 .0)) entries in
+    let p = parts s h in
+    let e = entryBytesOf s in
+    let l : 81 ≤ length e = entries-smallest (entryCountOf s) e 0 (leb-true _ _ (p .0 .1 .1 .1 .1 .1 .1 .1 .0)) (p .1 .0) in
     let n : length e ≡ length s - 32 = length-drop 32 s in
     omega arith

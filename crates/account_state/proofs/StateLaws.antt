@@ -1,7 +1,7 @@
 -- The rows of a state, part by part: header, entries, end.
 -- Assumes nothing.
-use mathlib.Core.Path.{_≡_, refl, sym, ap, _∙_}
-use mathlib.Core.List.{List, [], _∷_, _++_}
+use mathlib.Core.Path.{_≡_, refl, ap, _∙_}
+use mathlib.Core.List.{List, [], _∷_}
 use Prim.Native.Nat.{ℕ, zero, suc, _+_, _≤_}
 use native.Mathlib.Omega.{arith}
 use borrow.Author.Tests.{leb-true}
@@ -13,12 +13,11 @@ use Rattle.protocol.specs.declared.error.ProtocolError.{ProtocolError}
 use Rattle.protocol.specs.declared.check.Check.{Check}
 use Rattle.protocol.specs.declared.check.Check.the-variants.{Passed, Failed}
 use Rattle.protocol.proofs.AllPass.{passed-all-pass, decide-append, decide-failed}
-use Rattle.account_state.specs.Fields.{entryCountOf}
+use Rattle.account_state.specs.Fields.{entryCountOf, entryBytesOf}
 use Rattle.account_state.specs.Reading.{entriesOf}
 use Rattle.account_state.specs.State.{stateHeaderRows, entriesRows, stateTailRows, stateRows, stateFault, summaryOf}
 use Rattle.account_state.specs.EntriesWalk.{entriesWalkAnswer, entriesWalkOf, walkEntries, endFault}
 use Rattle.account_state.specs.declared.walk.EntriesWalk.{EntriesWalk}
-use Rattle.account_state.specs.declared.walk.EntriesWalkAnswer.{EntriesWalkAnswer}
 use Rattle.account_state.specs.declared.walk.EntriesWalkAnswer.the-variants.{Walked, Refused}
 
 -- a number at the front of the bytes
@@ -52,15 +51,15 @@ walked-failed Passed v e h = absurd (let z : _≡_ {A = ℕ} 0 1 = cc in omega a
 walked-failed (Failed x) v e h = cc
 
 module _ (s : List ℕ) (h : decide Passed (stateHeaderRows s) ≡ Passed) where
-  pub fault-entries : (e : ProtocolError) → walkEntries (entryCountOf s) (drop 32 s) ≡ Refused e → stateFault s ≡ Failed e
+  pub fault-entries : (e : ProtocolError) → walkEntries (entryCountOf s) (entryBytesOf s) ≡ Refused e → stateFault s ≡ Failed e
   unfolding stateFault stateRows walkEntries
   fault-entries e w =
       let k = walked-failed _ _ e w in
-      decide-append Passed (stateHeaderRows s) _ ∙ rw h (decide-append Passed (entriesRows (entryCountOf s) (drop 32 s) 0) _ ∙ rw k (decide-failed _ e))
+      decide-append Passed (stateHeaderRows s) _ ∙ rw h (decide-append Passed (entriesRows (entryCountOf s) (entryBytesOf s) 0) _ ∙ rw k (decide-failed _ e))
 
-  pub fault-end : (w : EntriesWalk) → walkEntries (entryCountOf s) (drop 32 s) ≡ Walked w
-      → (stateFault s ≡ endFault s w) × (summaryOf (entriesOf (entryCountOf s) (drop 32 s)) ≡ w .summary)
+  pub fault-end : (w : EntriesWalk) → walkEntries (entryCountOf s) (entryBytesOf s) ≡ Walked w
+      → (stateFault s ≡ endFault s w) × (summaryOf (entriesOf (entryCountOf s) (entryBytesOf s)) ≡ w .summary)
   unfolding stateFault stateRows stateTailRows walkEntries entriesWalkOf endFault summaryOf
   fault-end w k =
       let z = walked-passed _ _ w k in
-      (decide-append Passed (stateHeaderRows s) _ ∙ rw h (decide-append Passed (entriesRows (entryCountOf s) (drop 32 s) 0) _ ∙ rw (z .0, ← z .1)), ap (λ (v : EntriesWalk). v .summary) (z .1))
+      (decide-append Passed (stateHeaderRows s) _ ∙ rw h (decide-append Passed (entriesRows (entryCountOf s) (entryBytesOf s) 0) _ ∙ rw (z .0, ← z .1)), ap (λ (v : EntriesWalk). v .summary) (z .1))

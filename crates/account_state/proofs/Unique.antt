@@ -1,8 +1,8 @@
 -- A reading whose fields fit is read back from its written form, so a state has one reading.
 -- Assumes nothing.
 use mathlib.Core.Path.{_≡_, refl, sym, ap, _∙_}
-use mathlib.Core.List.{List, [], _∷_, _++_, append-assoc, append-nil}
-use Prim.Native.Nat.{ℕ, zero, suc, _+_, _^_, _≤_, _<_}
+use mathlib.Core.List.{List, [], _∷_, _++_, append-assoc}
+use Prim.Native.Nat.{ℕ, _+_}
 use native.Mathlib.Omega.{arith}
 use lib.ListN.{length, take, drop, length-append}
 use lib.Seq.{drop-at}
@@ -10,7 +10,7 @@ use Rattle.octets.specs.Layout.{layoutBytes, layoutAt, fieldValue}
 use Rattle.octets.proofs.LayoutLaws.{numbers-back, length-numbers}
 use Rattle.octets.proofs.Parts.{part-back}
 use Rattle.account_state.specs.Fields.{abiOf, algorithmOf, auxLengthOf, entryCountOf, entryLengthOf, entrySlotOf, flagsOf, hashTypeOf, keyLengthOf, recoverySinceOf, recoveryThresholdOf, rotateThresholdOf, sequenceOf, spendThresholdOf, capabilitiesOf, weightOf}
-use Rattle.account_state.specs.Reading.{EntryReading, StateReading, entrySize, entryHeadFields, entryLengthFields, entryBytes, entriesBytes, stateHeaderFields, stateHead, stateBytes, entryOf, entriesOf, stateReading, EntryTyped, EntriesTyped, StateTyped}
+use Rattle.account_state.specs.Reading.{EntryReading, StateReading, entryHeadFields, entryLengthFields, entryBytes, entriesBytes, stateHeaderFields, stateHead, stateBytes, entryOf, entriesOf, stateReading, EntryTyped, EntriesTyped, StateTyped}
 
 -- an entry at the front of bytes s
 module _ (e : EntryReading) (t s : List ℕ) (y : EntryTyped e) (q : s ≡ entryBytes e ++ t) where

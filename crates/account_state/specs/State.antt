@@ -1,9 +1,9 @@
 -- The checks of an account state, in document 01's order, and what its readers give.
 use mathlib.Core.Path.{_≡_}
-use Prim.Native.Nat.{ℕ, zero, suc, _+_}
+use Prim.Native.Nat.{ℕ, zero, suc, _+_, _<_}
 use mathlib.Core.Bool.{cond}
 use mathlib.Core.List.{List, [], _∷_, _++_}
-use lib.ListN.{length, take, drop}
+use lib.ListN.{length, take, drop, getD}
 use lib.Dec.{leb, eqb}
 use Rattle.protocol.specs.Errors.{errorNumber}
 use Rattle.protocol.specs.Policy.{isSupportedAlgorithm}
@@ -20,6 +20,7 @@ use Rattle.account_state.specs.declared.entry.AuthenticatorEntry.{Authen
 use Rattle.account_state.specs.declared.entry.EntryCursor.{EntryCursor}
 use Rattle.account_state.specs.declared.entry.EntryFields.{EntryFields}
 use Rattle.account_state.specs.declared.entry.EntryStep.{EntryStep}
+use Rattle.account_state.specs.declared.entry.EntryStep.the-variants.{Entry}
 use Rattle.account_state.specs.declared.entry.EntryStep.the-variants as step
 use Rattle.account_state.specs.declared.walk.StateSummary.{StateSummary}
 use Rattle.account_state.specs.declared.StateAnswer.{StateAnswer}
@@ -177,7 +178,7 @@ unfoldable pub entryCursorBehind : List ℕ → ℕ → EntryCursor
 entryCursorBehind s at = record { offset = at + entryLengthOf (drop at s); least = entrySlotOf (drop at s) + 1 }
 
 unfoldable pub entryStepAnswer : Check → AuthenticatorEntry → EntryCursor → EntryStep
-entryStepAnswer Passed e c = step.Entry e c
+entryStepAnswer Passed e c = Entry e c
 entryStepAnswer (Failed x) e c = step.Refused x
 
 unfoldable pub entryStep : List ℕ → EntryCursor → EntryStep
@@ -186,8 +187,8 @@ entryStep s c =
 
 -- the reading of an entry that a step hands out: its numbers, and the bytes at its places; 01: "a place in the input counting as the
 -- bytes there"
-unfoldable pub entryGiven : List ℕ → AuthenticatorEntry → EntryReading
-entryGiven s e =
+unfoldable pub entryReading : List ℕ → AuthenticatorEntry → EntryReading
+entryReading s e =
     record {
       slot = e .slot;
       algorithm = e .«algorithm_id»;
@@ -200,13 +201,16 @@ entryGiven s e =
       aux = take (e .«aux_len») (drop (e .aux) s);
     }
 
--- the steps from a cursor on hand out these entries, one by one; 01: "Closures of `parse_authenticators` and `parse_proofs`: a step
--- per entry."
-unfoldable pub EntryStepsGive : List ℕ → ℕ → EntryCursor → List EntryReading → Type 0
-EntryStepsGive s zero c es = es ≡ []
-EntryStepsGive s (suc n) c [] = ⊥
-EntryStepsGive s (suc n) c (r ∷ rs) =
-    (e : AuthenticatorEntry) × ((d : EntryCursor) × ((entryStep s c ≡ step.Entry e d) × ((entryGiven s e ≡ r) × EntryStepsGive s n d rs)))
+-- the cursor after i entries
+unfoldable pub entryCursorAt : List ℕ → ℕ → EntryCursor
+entryCursorAt s zero = firstEntry
+entryCursorAt s (suc i) = entryCursorBehind s (entryCursorAt s i .offset)
+
+-- the i-th step of an accepted state hands out the i-th entry of the reading; 01: "Closures of `parse_authenticators` and
+-- `parse_proofs`: a step per entry."
+pub record EntryStepGives (s : List ℕ) (i : ℕ) : Type 0 where
+  pub step : entryStep s (entryCursorAt s i) ≡ Entry (entryAt s (entryCursorAt s i .offset)) (entryCursorAt s (suc i))
+  pub reading : (d : EntryReading) → getD (stateReading s .entries) i d ≡ entryReading s (entryAt s (entryCursorAt s i .offset))
 
 -- what the state's reader gives
 unfoldable pub summaryOf : List EntryReading → StateSummary
@@ -220,11 +224,12 @@ unfoldable pub readState : List ℕ → StateAnswer
 readState s = stateAnswer (stateFault s) (stateHeaderOf s) (summaryOf (stateEntries s))
 
 -- what the readers hand out of a state, with the header h and the weights t of its answer, is its reading: the header's fields, the
--- weights of the entries, and at each step the next entry
+-- weights of the entries, and at each step the next entry; behind the last no byte follows
 pub record StateGives (s : List ℕ) (h : StateHeader) (t : StateSummary) : Type 0 where
   pub header : StateHeaderGives s h
   pub weights : summaryOf (stateReading s .entries) ≡ t
-  pub entries : EntryStepsGive s (h .«authenticator_count») firstEntry (stateReading s .entries)
+  pub entries : (i : ℕ) → i < h .«authenticator_count» → EntryStepGives s i
+  pub ended : entryCursorAt s (h .«authenticator_count») .offset ≡ length s
 
 -- document 01's number of each answer, 0 where it is accepted
 abbrev pub stateHeaderNumber : StateHeaderAnswer → ℕ
@@ -232,7 +237,7 @@ stateHeaderNumber (header.Header h) = 0
 stateHeaderNumber (header.Refused e) = errorNumber e
 
 abbrev pub entryStepNumber : EntryStep → ℕ
-entryStepNumber (step.Entry e c) = 0
+entryStepNumber (Entry e c) = 0
 entryStepNumber (step.Refused x) = errorNumber x
 
 abbrev pub stateNumber : StateAnswer → ℕ

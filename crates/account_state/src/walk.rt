@@ -11,7 +11,8 @@ use protocol::Check;
 use protocol::ProtocolError;
 ghost use mathlib.Core.Path.{_≡_};
 ghost use Prim.Native.Nat.{_+_, _≤_, _<_};
-ghost use lib.ListN.{length, drop};
+ghost use lib.ListN.{length};
+ghost use Rattle.account_state.specs.Fields.{entryBytesOf};
 ghost use Rattle.account_state.specs.Reading.{capableShare};
 ghost use Rattle.account_state.specs.EntriesWalk.{Light, withEntry, walkEntries};
 
@@ -55,7 +56,7 @@ fn with_entry(summary: StateSummary, capabilities: u16, weight: u16) -> StateSum
 
 pub(crate) fn walk_entries(state: &[u8], count: u8) -> EntriesWalkAnswer
     requires { ⌜ (32 ≤ length (now state)) × (count ≤ 16) ⌝ }
-    ensures { λ r. ⌜ r ≡ walkEntries count (drop 32 (now (state .entry))) ⌝ }
+    ensures { λ r. ⌜ r ≡ walkEntries count (entryBytesOf (now (state .entry))) ⌝ }
 {
     let mut cursor = EntryCursor::first();
     let mut summary = StateSummary {

@@ -10,7 +10,7 @@ use Rattle.protocol.specs.Rows.{decide}
 use Rattle.protocol.specs.declared.check.Check.the-variants.{Passed}
 use Rattle.account_state.specs.State.{entryRows}
 use Rattle.account_state.specs.EntriesWalk.{Light, entriesWalkAnswer, entriesWalkOf, walkEntries}
-use Rattle.account_state.proofs.WalkLaws.{Walking, entry-room, walking-first, walking-next, walking-failed, walking-done}
+use Rattle.account_state.proofs.EntriesWalkLaws.{Walking, entry-room, walking-first, walking-next, walking-failed, walking-done}
 use Rattle.account_state.proofs.walk.walk_entries.Statement.{statement}
 use Rattle.account_state.proofs.walk.walk_entries.Tie as tie
 
