@@ -22,7 +22,7 @@ use Rattle.account_state.specs.Reading.{EntryReading, StateReading, EntryTyped,
 use Rattle.account_state.specs.State.{stateHeaderRows, entryLayoutRows, entryFieldRows, entryRows, entriesRows, behindEntries, thresholdRows, stateEndRows, stateTailRows, stateRows, stateFault}
 use Rattle.account_state.proofs.Inverse.{Keys}
 use Rattle.account_state.proofs.Unique.{lengths-read, size-read, entry-read, entries-read, head-numbers, behind-head}
-use Rattle.account_state_writer.specs.Checks.{headChecks, entryChecks, entriesChecks, stateChecks, lentWeight}
+use Rattle.account_state_writer.specs.Checks.{headChecks, entryChecks, entriesChecks, stateChecks, lentCapableWeight}
 use Rattle.account_state_writer.specs.Writer.{entriesFrom}
 use Rattle.account_state_writer.proofs.Lent.{length-entries, weight-lent}
 
@@ -158,7 +158,7 @@ module _ (flags spend rotate recovery since count : ℕ) (fields bytes : List �
 
   pub head-passed : decide Passed (headChecks flags count) ≡ Passed
       → decide Passed (stateChecks flags spend rotate recovery since es)
-      ≡ (decide Passed (entriesChecks es 0) then decide Passed (thresholdRows flags spend rotate recovery since (lentWeight 1 count fields) (lentWeight 2 count fields) (lentWeight 4 count fields)))
+      ≡ (decide Passed (entriesChecks es 0) then decide Passed (thresholdRows flags spend rotate recovery since (lentCapableWeight 1 count fields) (lentCapableWeight 2 count fields) (lentCapableWeight 4 count fields)))
   unfolding stateChecks
   head-passed h =
       decide-append Passed (headChecks flags (length es)) _

@@ -20,8 +20,9 @@ use borrow.Rule.Slice.PartMut.{midOf, putMid}
 use Rattle.account_state.specs.Fields.{recoverySinceOf, sequenceOf}
 use Rattle.account_state.specs.Reading.{EntryReading, EntryTyped, EntriesTyped, entrySize, entryHeadFields, entryLengthFields, entryBytes, entriesBytes, stateHeaderFields, capableShare, capableWeight}
 use Rattle.account_state.proofs.Inverse.{Keys}
-use Rattle.account_state_writer.specs.Writer.{lentAuxLength, entryFrom, entryFieldNumbers, lengthNumbers, entryFront, entriesFrom, neededBytes}
-use Rattle.account_state_writer.specs.Checks.{entryChecks, entriesChecks, lentWeight}
+use Rattle.account_state_writer.specs.Slices.{lentAuxLength}
+use Rattle.account_state_writer.specs.Writer.{entryFrom, entryFieldNumbers, lengthNumbers, entryFront, entriesFrom, neededBytes}
+use Rattle.account_state_writer.specs.Checks.{entryChecks, entriesChecks, lentCapableWeight}
 use Rattle.protocol.specs.Rows.{decide}
 use Rattle.protocol.specs.declared.error.ProtocolError.{ProtocolError}
 use Rattle.protocol.specs.declared.check.Check.{Check}
@@ -63,9 +64,9 @@ module _ (fields : List ℕ) (count i : ℕ) (h : i < count) where
   unfolding entriesFrom
   entries-turn bytes from = rw (one, behind, aux-at, drop-drop (66 + getD fields (5 * i + 4) 0) from bytes)
 
-  pub weight-turn : (bit : ℕ) → lentWeight bit (count - i) (drop (5 * i) fields)
-      ≡ capableShare bit (getD fields (5 * i + 2) 0) (getD fields (5 * i + 3) 0) + lentWeight bit (count - (i + 1)) (drop (5 * (i + 1)) fields)
-  unfolding lentWeight
+  pub weight-turn : (bit : ℕ) → lentCapableWeight bit (count - i) (drop (5 * i) fields)
+      ≡ capableShare bit (getD fields (5 * i + 2) 0) (getD fields (5 * i + 3) 0) + lentCapableWeight bit (count - (i + 1)) (drop (5 * (i + 1)) fields)
+  unfolding lentCapableWeight
   weight-turn bit = rw (one, behind, getD-drop (5 * i) fields 2 0, getD-drop (5 * i) fields 3 0)
 
   -- a turn of the loop that counts the bytes down
@@ -83,13 +84,13 @@ pub needed-none : (n : ℕ) (fields : List ℕ) → n ≡ 0 → neededBytes n fi
 unfolding neededBytes
 needed-none n fields e = rw e
 
-pub weight-none : (bit n : ℕ) (fields : List ℕ) → n ≡ 0 → lentWeight bit n fields ≡ 0
-unfolding lentWeight
+pub weight-none : (bit n : ℕ) (fields : List ℕ) → n ≡ 0 → lentCapableWeight bit n fields ≡ 0
+unfolding lentCapableWeight
 weight-none bit n fields e = rw e
 
 -- the weights of the entries do not depend on their bytes
-pub weight-lent : (bit n : ℕ) (fields bytes : List ℕ) → capableWeight bit (entriesFrom n fields bytes) ≡ lentWeight bit n fields
-unfolding capableWeight entriesFrom entryFrom lentWeight
+pub weight-lent : (bit n : ℕ) (fields bytes : List ℕ) → capableWeight bit (entriesFrom n fields bytes) ≡ lentCapableWeight bit n fields
+unfolding capableWeight entriesFrom entryFrom lentCapableWeight
 weight-lent bit zero fields bytes = refl
 weight-lent bit (suc n) fields bytes =
     ap (λ (m : ℕ). capableShare bit (getD fields 2 0) (getD fields 3 0) + m) (weight-lent bit n (drop 5 fields) (drop (66 + lentAuxLength fields) bytes))

@@ -22,7 +22,8 @@ use Rattle.account_state.specs.Fields.{auxLengthOf, entryLengthOf, keyLengthOf,
 use Rattle.account_state.specs.Reading.{EntryReading, StateReading, EntryTyped, EntriesTyped, entryHeadFields, entryLengthFields, entryBytes, entriesBytes, stateHead, stateBytes, entryOf, entriesOf, stateReading}
 use Rattle.account_state.specs.State.{stateRows}
 use Rattle.account_state.proofs.Inverse.{Keys, state-back, state-typed, state-keys, state-limits}
-use Rattle.account_state_writer.specs.Writer.{lentAuxLength, entryFrom, entriesFrom, neededBytes, entryCount, stateTotal, sliceRows, stateWriterRows, stateFrom, stateWritten, stateStored, entriesFields, entriesPayload, StateFits}
+use Rattle.account_state_writer.specs.Slices.{lentAuxLength, lentCount}
+use Rattle.account_state_writer.specs.Writer.{entryFrom, entriesFrom, neededBytes, stateTotal, sliceRows, stateWriterRows, stateFrom, stateWritten, stateStored, entriesFields, entriesPayload, StateFits}
 use Rattle.account_state_writer.proofs.Lent.{length-head}
 
 -- the first entry's part of the bytes
@@ -126,8 +127,8 @@ module _ (s : List ℕ) (b : Bytes s) (h : AllPass (stateRows s)) where
   abbrev bytes : List ℕ
   bytes = entriesPayload (r .entries)
 
-  count : entryCount fields ≡ length (r .entries)
-  unfolding entryCount
+  count : lentCount fields ≡ length (r .entries)
+  unfolding lentCount
   count = let l = length-fields (r .entries) in omega arith
 
   -- the slices say the reading
@@ -152,8 +153,8 @@ module _ (s : List ℕ) (b : Bytes s) (h : AllPass (stateRows s)) where
       let n = needed-lent (r .entries) (state-typed s b h .entries) (state-keys s b h) in (
         eq-eqb (length fields % 5) 0 (omega arith),
         (
-          eq-eqb (neededBytes (entryCount fields) fields) (length bytes) (rw count n),
-          (le-leb (entryCount fields) 255 (rw count (omega arith)), (le-leb (stateTotal fields bytes) 16384 (omega arith), tt)),
+          eq-eqb (neededBytes (lentCount fields) fields) (length bytes) (rw count n),
+          (le-leb (lentCount fields) 255 (rw count (omega arith)), (le-leb (stateTotal fields bytes) 16384 (omega arith), tt)),
         ),
       )
 

@@ -4,12 +4,13 @@
 use Prim.Native.Nat.{ℕ, zero, suc, _+_}
 use mathlib.Core.List.{List, [], _∷_, _++_}
 use lib.Dec.{leb}
-use lib.ListN.{length, drop, getD}
+use lib.ListN.{length, drop}
 use Rattle.protocol.specs.Rows.{Row, row}
 use Rattle.protocol.specs.declared.error.ProtocolError.the-variants.{InvalidState}
 use Rattle.account_state.specs.Reading.{EntryReading, capableShare, capableWeight}
 use Rattle.account_state.specs.State.{entryFieldRows, thresholdRows}
 use Rattle.account_state.specs.declared.entry.EntryFields.{EntryFields}
+use Rattle.account_state_writer.specs.Slices.{lentWidth, lentCapabilities, lentWeight}
 
 unfoldable pub headChecks : ℕ → ℕ → List Row
 headChecks flags count =
@@ -42,6 +43,7 @@ stateChecks flags spend rotate recovery since es =
     ++ (entriesChecks es 0 ++ thresholdRows flags spend rotate recovery since (capableWeight 1 es) (capableWeight 2 es) (capableWeight 4 es))
 
 -- the weight of n entries that have a capability
-unfoldable pub lentWeight : ℕ → ℕ → List ℕ → ℕ
-lentWeight bit zero fields = 0
-lentWeight bit (suc n) fields = capableShare bit (getD fields 2 0) (getD fields 3 0) + lentWeight bit n (drop 5 fields)
+unfoldable pub lentCapableWeight : ℕ → ℕ → List ℕ → ℕ
+lentCapableWeight bit zero fields = 0
+lentCapableWeight bit (suc n) fields =
+    capableShare bit (lentCapabilities fields) (lentWeight fields) + lentCapableWeight bit n (drop lentWidth fields)

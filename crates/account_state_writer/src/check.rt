@@ -17,8 +17,9 @@ ghost use lib.ListN.{length};
 ghost use Rattle.protocol.specs.Rows.{decide};
 ghost use Rattle.protocol.specs.declared.check.Check.the-variants.{Passed};
 ghost use Rattle.account_state.specs.State.{thresholdRows};
-ghost use Rattle.account_state_writer.specs.Writer.{lentAuxLength, entryFrom, entriesFrom, neededBytes, entryCount};
-ghost use Rattle.account_state_writer.specs.Checks.{headChecks, entryChecks, entriesChecks, stateChecks, lentWeight};
+ghost use Rattle.account_state_writer.specs.Slices.{lentAuxLength, lentCount};
+ghost use Rattle.account_state_writer.specs.Writer.{entryFrom, entriesFrom, neededBytes};
+ghost use Rattle.account_state_writer.specs.Checks.{headChecks, entryChecks, entriesChecks, stateChecks, lentCapableWeight};
 
 fn check_head(flags: u8, count: usize) -> Check
     ensures { λ r. ⌜ r ≡ decide Passed (headChecks flags count) ⌝ }
@@ -74,7 +75,7 @@ fn check_entries(fields: &[u16], bytes: &[u8], count: usize) -> Check
 // The weight of the entries that have the capability of a bit.
 fn weight_of(bit: u16, fields: &[u16], count: usize) -> u32
     requires { ⌜ (5 * count ≤ length (now fields)) × (count ≤ 16) ⌝ }
-    ensures { λ r. ⌜ r ≡ lentWeight bit count (now (fields .entry)) ⌝ }
+    ensures { λ r. ⌜ r ≡ lentCapableWeight bit count (now (fields .entry)) ⌝ }
 {
     let mut i: usize = 0;
     let mut sum: u32 = 0;
@@ -97,7 +98,7 @@ fn check_end(
     count: usize,
 ) -> Check
     requires { ⌜ (5 * count ≤ length (now fields)) × (count ≤ 16) ⌝ }
-    ensures { λ r. ⌜ r ≡ decide Passed (thresholdRows flags spend rotate recovery since (lentWeight 1 count (now (fields .entry))) (lentWeight 2 count (now (fields .entry))) (lentWeight 4 count (now (fields .entry)))) ⌝ }
+    ensures { λ r. ⌜ r ≡ decide Passed (thresholdRows flags spend rotate recovery since (lentCapableWeight 1 count (now (fields .entry))) (lentCapableWeight 2 count (now (fields .entry))) (lentCapableWeight 4 count (now (fields .entry)))) ⌝ }
 {
     let summary = StateSummary {
         spend_weight: weight_of(CAP_SPEND, fields, count),
@@ -117,8 +118,8 @@ pub(crate) fn check_state(
     fields: &[u16],
     bytes: &[u8],
 ) -> Check
-    requires { ⌜ neededBytes (entryCount (now fields)) (now fields) ≡ length (now bytes) ⌝ }
-    ensures { λ r. ⌜ r ≡ decide Passed (stateChecks flags spend rotate recovery since (entriesFrom (entryCount (now (fields .entry))) (now (fields .entry)) (now (bytes .entry)))) ⌝ }
+    requires { ⌜ neededBytes (lentCount (now fields)) (now fields) ≡ length (now bytes) ⌝ }
+    ensures { λ r. ⌜ r ≡ decide Passed (stateChecks flags spend rotate recovery since (entriesFrom (lentCount (now (fields .entry))) (now (fields .entry)) (now (bytes .entry)))) ⌝ }
 {
     let count = fields.len() / 5;
     match check_head(flags, count) {

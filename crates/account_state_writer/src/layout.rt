@@ -11,7 +11,8 @@ ghost use lib.ListN.{length};
 ghost use lib.Seq.{sets};
 ghost use Rattle.octets.specs.Layout.{layoutBytes};
 ghost use Rattle.account_state.specs.Reading.{stateHeaderFields, stateBytes, entryBytes, entriesBytes};
-ghost use Rattle.account_state_writer.specs.Writer.{lentAuxLength, entryFieldNumbers, entryFront, entryFrom, entriesFrom, neededBytes, entryCount, stateFrom};
+ghost use Rattle.account_state_writer.specs.Slices.{lentAuxLength, lentCount};
+ghost use Rattle.account_state_writer.specs.Writer.{entryFieldNumbers, entryFront, entryFrom, entriesFrom, neededBytes, stateFrom};
 
 fn store_head(
     out: &mut [u8],
@@ -113,7 +114,7 @@ pub(crate) fn store_state(
     bytes: &[u8],
     out: &mut [u8],
 )
-    requires { ⌜ (entryCount (now fields) ≤ 255) × ((neededBytes (entryCount (now fields)) (now fields) ≡ length (now bytes)) × (32 + 14 * entryCount (now fields) + length (now bytes) ≤ length (now out))) ⌝ }
+    requires { ⌜ (lentCount (now fields) ≤ 255) × ((neededBytes (lentCount (now fields)) (now fields) ≡ length (now bytes)) × (32 + 14 * lentCount (now fields) + length (now bytes) ≤ length (now out))) ⌝ }
     ensures { λ _. ⌜ now (out .exit) ≡ sets (now (out .entry)) 0 (stateBytes (stateFrom flags sequence spend rotate recovery since (now (fields .entry)) (now (bytes .entry)))) ⌝ }
 {
     let count = fields.len() / 5;

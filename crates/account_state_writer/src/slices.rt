@@ -8,11 +8,12 @@ ghost use mathlib.Core.Path.{_≡_};
 ghost use lib.Dec.{eqb};
 ghost use Rattle.protocol.specs.Rows.{decide};
 ghost use Rattle.protocol.specs.declared.check.Check.the-variants.{Passed};
-ghost use Rattle.account_state_writer.specs.Writer.{neededBytes, entryCount, sliceRows};
+ghost use Rattle.account_state_writer.specs.Slices.{lentCount};
+ghost use Rattle.account_state_writer.specs.Writer.{neededBytes, sliceRows};
 
 // Whether the entries' bytes are `len` in all. What is left of `len` falls with each entry, so that no sum grows beyond it.
 fn bytes_agree(fields: &[u16], len: usize) -> bool
-    ensures { λ r. ⌜ r ≡ eqb (neededBytes (entryCount (now (fields .entry))) (now (fields .entry))) len ⌝ }
+    ensures { λ r. ⌜ r ≡ eqb (neededBytes (lentCount (now (fields .entry))) (now (fields .entry))) len ⌝ }
 {
     let count = fields.len() / 5;
     let mut i: usize = 0;

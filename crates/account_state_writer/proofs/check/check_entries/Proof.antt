@@ -10,7 +10,8 @@ use borrow.Author.Needs.{needs}
 use Rattle.octets.proofs.Parts.{part-clip}
 use Rattle.protocol.specs.Rows.{decide}
 use Rattle.protocol.specs.declared.check.Check.the-variants.{Passed}
-use Rattle.account_state_writer.specs.Writer.{lentAuxLength, entriesFrom, neededBytes}
+use Rattle.account_state_writer.specs.Slices.{lentAuxLength}
+use Rattle.account_state_writer.specs.Writer.{entriesFrom, neededBytes}
 use Rattle.account_state_writer.specs.Checks.{entriesChecks}
 use Rattle.account_state_writer.proofs.Lent.{needed-turn, checks-failed, checks-next, checks-none}
 use Rattle.account_state_writer.proofs.check.check_entries.Statement.{statement}

@@ -3,7 +3,8 @@ use native.Mathlib.Omega.{arith}
 use Rattle.octets.proofs.LeLaws.{number-one}
 use Rattle.octets.proofs.Parts.{part-length}
 use Rattle.protocol.specs.Rows.{decide}
-use Rattle.account_state_writer.specs.Writer.{lentAuxLength, entryFrom}
+use Rattle.account_state_writer.specs.Slices.{lentAuxLength}
+use Rattle.account_state_writer.specs.Writer.{entryFrom}
 use Rattle.account_state_writer.specs.Checks.{entryChecks}
 use borrow.Author.Needs.{needs}
 use Rattle.account_state_writer.proofs.check.check_entry.Statement.{statement}

@@ -5,7 +5,7 @@ use native.Mathlib.Nat.{sub-zero, zero-add}
 use native.Mathlib.Omega.{arith}
 use lib.ListN.{drop}
 use borrow.Author.Needs.{needs}
-use Rattle.account_state_writer.specs.Checks.{lentWeight}
+use Rattle.account_state_writer.specs.Checks.{lentCapableWeight}
 use Rattle.account_state_writer.proofs.Lent.{weight-turn, weight-none}
 use Rattle.account_state_writer.proofs.check.weight_of.Statement.{statement}
 use Rattle.account_state_writer.proofs.check.weight_of.Tie as tie
@@ -13,7 +13,7 @@ use Rattle.account_state_writer.proofs.check.weight_of.Tie as tie
 abbrev Inv-loop : tie.InvT-loop
 Inv-loop bit fields count i₀ sum₀ i sum =
     (i ≤ count)
-    × (sum + lentWeight bit (count - i) (drop (5 * i) fields) ≡ lentWeight bit count fields)
+    × (sum + lentCapableWeight bit (count - i) (drop (5 * i) fields) ≡ lentCapableWeight bit count fields)
     × (sum + 65535 * (count - i) ≤ 1048560)
 
 abbrev μ-loop : tie.MeasureT-loop

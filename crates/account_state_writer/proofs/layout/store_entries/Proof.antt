@@ -10,7 +10,8 @@ use lib.Seq.{sets, length-sets, getD-drop}
 use borrow.Author.Needs.{needs}
 use Rattle.octets.proofs.Parts.{part-clip}
 use Rattle.account_state.specs.Reading.{entriesBytes}
-use Rattle.account_state_writer.specs.Writer.{lentAuxLength, entriesFrom, neededBytes}
+use Rattle.account_state_writer.specs.Slices.{lentAuxLength}
+use Rattle.account_state_writer.specs.Writer.{entriesFrom, neededBytes}
 use Rattle.account_state_writer.proofs.Lent.{needed-turn, needed-none, entries-none, entries-next}
 use Rattle.account_state_writer.proofs.layout.store_entries.Statement.{statement}
 use Rattle.account_state_writer.proofs.layout.store_entries.Tie as tie

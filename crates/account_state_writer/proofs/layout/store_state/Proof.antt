@@ -7,24 +7,25 @@ use lib.Seq.{length-sets}
 use Rattle.octets.specs.Layout.{layoutBytes}
 use Rattle.octets.proofs.Stores.{sets-append}
 use Rattle.account_state.specs.Reading.{stateHeaderFields, stateHead, stateBytes}
-use Rattle.account_state_writer.specs.Writer.{entryCount, stateFrom}
+use Rattle.account_state_writer.specs.Slices.{lentCount}
+use Rattle.account_state_writer.specs.Writer.{stateFrom}
 use Rattle.account_state_writer.proofs.Lent.{length-entries, length-head}
 use borrow.Author.Needs.{needs}
 use Rattle.account_state_writer.proofs.layout.store_state.Statement.{statement}
 use Rattle.account_state_writer.proofs.layout.store_state.Tie as tie
 
 cast-store-head : tie.Need-cast-store-head
-unfolding entryCount
+unfolding lentCount
 cast-store-head c = let h = c .before .before .before .before .pre .0 in omega arith
 
 store-entries-requires : tie.Need-store-entries-requires
-unfolding entryCount
+unfolding lentCount
 store-entries-requires c κs =
     let s = c .before .before .before .before .before .before .before .before in
     (omega arith, (s .pre .1 .0, rw (c .before .before .before .store-head .ensures, length-sets) (s .pre .1 .1)))
 
 returns : tie.Need-returns
-unfolding stateBytes stateHead stateFrom entryCount
+unfolding stateBytes stateHead stateFrom lentCount
 returns c =
     let c6 = c .before .before .before .before .before .before in
     let a = c6 .before .before .before .before .before .args in

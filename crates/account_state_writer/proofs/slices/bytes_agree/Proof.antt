@@ -6,7 +6,8 @@ use native.Mathlib.Nat.{sub-zero}
 use native.Mathlib.Omega.{arith}
 use lib.Dec.{eqb}
 use lib.ListN.{length, drop, getD}
-use Rattle.account_state_writer.specs.Writer.{neededBytes, entryCount}
+use Rattle.account_state_writer.specs.Slices.{lentCount}
+use Rattle.account_state_writer.specs.Writer.{neededBytes}
 use Rattle.account_state_writer.proofs.Lent.{eqb-turn, left-turn, left-short, needed-none}
 use Rattle.account_state_writer.proofs.slices.bytes_agree.Statement.{statement}
 use Rattle.account_state_writer.proofs.slices.bytes_agree.Tie as tie
@@ -26,7 +27,7 @@ small : (c : tie.After-shared-slice-known Inv-loop μ-loop) → getD (c .before 
 small c = c .shared-slice-known .given _ .fits
 
 returns : tie.Need-returns Inv-loop μ-loop
-unfolding entryCount
+unfolding lentCount
 returns c =
     let l = c .before .before .before .loop in
     let f = c .before .before .before .before .args .fields .now in
@@ -39,7 +40,7 @@ loop-again c =
     (omega arith, refl, left-turn f (length f / 5) (l .i) (omega arith) (l .left) (c .if1 .left) ∙ l .inv .2)
 
 returns-2 : tie.Need-returns-2 Inv-loop μ-loop
-unfolding entryCount
+unfolding lentCount
 returns-2 c =
     let l = c .before .loop in
     let f = c .before .before .args .fields .now in
