@@ -166,12 +166,14 @@ module _ (s : List ℕ) (b : Bytes s) (h : AllPass (stateRows s)) where
   unfolding stateReading
   state-typed =
       record {
-        flags = number-lt s 5 1 b;
-        sequence = number-lt s 8 8 b;
-        spend = number-lt s 16 2 b;
-        rotate = number-lt s 18 2 b;
-        recovery = number-lt s 20 2 b;
-        since = number-lt s 24 8 b;
+        numbers = record {
+          flags = number-lt s 5 1 b;
+          sequence = number-lt s 8 8 b;
+          spend = number-lt s 16 2 b;
+          rotate = number-lt s 18 2 b;
+          recovery = number-lt s 20 2 b;
+          since = number-lt s 24 8 b;
+        };
         count = rw (length-entries n (entryBytesOf s)) (number-lt s 22 1 b);
         entries = entries-back n (entryBytesOf s) 0 (bytes-drop 32 s b) (parts s h .1 .0) .1;
       }

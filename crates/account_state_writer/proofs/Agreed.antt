@@ -1,22 +1,21 @@
 -- Slices that agree: the state that they say has the length that they say, and the writer's rows come down to the state's own.
 -- Assumes nothing.
-use mathlib.Core.Path.{_≡_, refl, sym, ap, _∙_}
-use mathlib.Core.List.{List, _∷_, [], _++_, append-assoc}
+use mathlib.Core.Path.{_≡_, sym, ap, _∙_}
+use mathlib.Core.List.{List, _∷_, [], append-assoc}
 use Prim.Native.Nat.{ℕ, _+_, _*_, _^_, _≤_, _<_}
 use native.Mathlib.Omega.{arith}
 use borrow.Author.Tests.{leb-true, eqb-true}
 use lib.Dec.{leb}
 use lib.ListN.{length, getD, length-append}
 use Rattle.octets.specs.Le.{Bytes}
-use Rattle.octets.specs.Layout.{layoutBytes}
-use Rattle.protocol.specs.Rows.{Row, row, _▷_, decide, AllPass}
+use Rattle.protocol.specs.Rows.{row, _▷_, decide, AllPass}
 use Rattle.protocol.specs.Write.{writeFault, writeAnswer, afterWrite}
 use Rattle.protocol.specs.declared.check.WriteAnswer.the-variants.{Refused}
 use Rattle.protocol.specs.declared.error.ProtocolError.{ProtocolError}
 use Rattle.protocol.specs.declared.error.ProtocolError.the-variants.{BufferTooShort}
 use Rattle.protocol.specs.declared.check.Check.{Check}
 use Rattle.protocol.specs.declared.check.Check.the-variants.{Passed, Failed}
-use Rattle.protocol.proofs.AllPass.{decide-append, decide-failed, all-pass-passed}
+use Rattle.protocol.proofs.AllPass.{decide-append, decide-failed}
 use Rattle.account_state.specs.Reading.{StateReading, StateTyped, stateHead, stateBytes}
 use Rattle.account_state.specs.State.{stateRows, stateFault}
 use Rattle.account_state_writer.specs.Slices.{lentCount}
@@ -56,12 +55,7 @@ module _ (flags sequence spend rotate recovery since : ℕ) (fields bytes : List
       let z = entries-typed (lentCount fields) fields bytes f b (omega (arith, g .needed)) (omega (arith, g .total)) in
       let y : StateTyped r =
       record {
-        flags = h₁;
-        sequence = h₂;
-        spend = h₃;
-        rotate = h₄;
-        recovery = h₅;
-        since = h₆;
+        numbers = record { flags = h₁; sequence = h₂; spend = h₃; rotate = h₄; recovery = h₅; since = h₆ };
         count = rw (length-entries (lentCount fields) fields bytes) (omega (arith, g .count));
         entries = z .0;
       } in

@@ -9,7 +9,7 @@ use Rattle.protocol.specs.Rows.{Row, row}
 use Rattle.protocol.specs.Write.{writeFault, writeAnswer, afterWrite}
 use Rattle.protocol.specs.declared.error.ProtocolError.the-variants.{InvalidState, SlicesDisagree}
 use Rattle.protocol.specs.declared.check.WriteAnswer.{WriteAnswer}
-use Rattle.account_state.specs.Reading.{EntryReading, StateReading, stateBytes}
+use Rattle.account_state.specs.Reading.{EntryReading, StateReading, StateNumbersTyped, stateBytes}
 use Rattle.account_state.specs.State.{stateRows}
 use Rattle.account_state_writer.specs.Slices.{lentWidth, lentSlot, lentAlgorithm, lentCapabilities, lentWeight, lentAuxLength, lentHashType, lentAbi, lentCodeHash, lentKey, lentAux, lentBytes, lentCount}
 
@@ -111,12 +111,7 @@ entriesPayload (e ∷ es) = (e .hashType ∷ e .abi ∷ []) ++ (e .codeHash ++ (
 -- what a reading lends the writer are values of the types of its parameters: u8, u64, u16, and slices of u16 and of bytes whose
 -- lengths a usize holds
 pub record StateFits (r : StateReading) : Type 0 where
-  pub flags : r .flags < 2 ^ 8
-  pub sequence : r .sequence < 2 ^ 64
-  pub spend : r .spend < 2 ^ 16
-  pub rotate : r .rotate < 2 ^ 16
-  pub recovery : r .recovery < 2 ^ 16
-  pub since : r .since < 2 ^ 64
+  pub numbers : StateNumbersTyped r
   pub fields : (i : ℕ) → getD (entriesFields (r .entries)) i 0 < 2 ^ 16
   pub bytes : Bytes (entriesPayload (r .entries))
   pub lengths : (length (entriesFields (r .entries)) < 2 ^ 64) × (length (entriesPayload (r .entries)) < 2 ^ 64)

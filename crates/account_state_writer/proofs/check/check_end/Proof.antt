@@ -5,7 +5,7 @@ use Rattle.account_state_writer.proofs.check.check_end.Tie as tie
 
 returns : tie.Need-returns
 returns c =
-    rw (c .check-thresholds .ensures, c .before .weight-of3 .ensures, c .before .before .weight-of2 .ensures, c .before .before .before .weight-of .ensures)
+    rw (c .check-thresholds .ensures, c .before .lent-capable-weight3 .ensures, c .before .before .lent-capable-weight2 .ensures, c .before .before .before .lent-capable-weight .ensures)
 
 pub check-end-spec : {M : Type 1} → statement M
 check-end-spec =

@@ -1,13 +1,12 @@
 -- `account_state_writer::layout::store_state` meets its contract: the header, and the entries behind it. Assumes nothing.
-use mathlib.Core.List.{List}
-use Prim.Native.Nat.{ℕ, _/_}
+use Prim.Native.Nat.{_/_}
 use native.Mathlib.Omega.{arith}
 use lib.ListN.{length}
 use lib.Seq.{length-sets}
 use Rattle.octets.specs.Layout.{layoutBytes}
 use Rattle.octets.proofs.Stores.{sets-append}
 use Rattle.account_state.specs.Reading.{stateHeaderFields, stateHead, stateBytes}
-use Rattle.account_state_writer.specs.Slices.{lentCount}
+use Rattle.account_state_writer.specs.Slices.{lentCount, lentWidth}
 use Rattle.account_state_writer.specs.Writer.{stateFrom}
 use Rattle.account_state_writer.proofs.Lent.{length-entries, length-head}
 use borrow.Author.Needs.{needs}
@@ -29,8 +28,8 @@ unfolding stateBytes stateHead stateFrom lentCount
 returns c =
     let c6 = c .before .before .before .before .before .before in
     let a = c6 .before .before .before .before .before .args in
-    rw (c .before .before .store-entries .ensures, c6 .store-head .ensures, length-entries (length (a .fields .now) / 5) (a .fields .now) (a .bytes .now))
-    (sets-append (a .out .now) 0 (layoutBytes (stateHeaderFields (a .flags) (a .sequence) (a .spend) (a .rotate) (a .recovery) (length (a .fields .now) / 5) (a .since))) _ 32 (omega (arith, length-head (a .flags) (a .sequence) (a .spend) (a .rotate) (a .recovery) (length (a .fields .now) / 5) (a .since))))
+    rw (c .before .before .store-entries .ensures, c6 .store-head .ensures, length-entries (length (a .fields .now) / lentWidth) (a .fields .now) (a .bytes .now))
+    (sets-append (a .out .now) 0 (layoutBytes (stateHeaderFields (a .flags) (a .sequence) (a .spend) (a .rotate) (a .recovery) (length (a .fields .now) / lentWidth) (a .since))) _ 32 (omega (arith, length-head (a .flags) (a .sequence) (a .spend) (a .rotate) (a .recovery) (length (a .fields .now) / lentWidth) (a .since))))
 
 pub store-state-spec : {M : Type 1} → statement M
 store-state-spec =
