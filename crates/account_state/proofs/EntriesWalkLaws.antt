@@ -6,37 +6,27 @@ use mathlib.Core.List.{List}
 use Prim.Native.Nat.{ℕ, suc, _+_, _-_, _*_, _≤_, _<_}
 use native.Mathlib.Nat.{add-assoc, zero-add, add-zero}
 use native.Mathlib.Omega.{arith}
-use borrow.Author.Tests.{leb-true, eqb-true}
 use lib.ListN.{length, drop, length-drop}
 use lib.Seq.{drop-drop}
 use Rattle.octets.specs.Le.{Bytes}
 use Rattle.octets.proofs.LeLaws.{number-lt, bytes-drop}
 use Rattle.protocol.specs.Policy.{hasCapability}
-use Rattle.protocol.specs.Rows.{decide, AllPass}
+use Rattle.protocol.specs.Rows.{decide}
 use Rattle.protocol.specs.declared.error.ProtocolError.{ProtocolError}
 use Rattle.protocol.specs.declared.check.Check.the-variants.{Passed, Failed}
 use Rattle.protocol.proofs.AllPass.{passed-all-pass, decide-append, decide-failed}
-use Rattle.account_state.specs.Fields.{entryLengthOf, entrySlotOf, capabilitiesOf, weightOf, keyLengthOf, auxLengthOf, entryBytesOf}
+use Rattle.account_state.proofs.Passed.{entry-passed}
+use Rattle.account_state.specs.Fields.{entryLengthOf, entrySlotOf, capabilitiesOf, weightOf, entryBytesOf}
 use Rattle.account_state.specs.Reading.{entryOf, entriesOf, capableShare, capableWeight}
-use Rattle.account_state.specs.State.{entryLayoutRows, entryRows, entriesRows, behindEntries, firstEntry, entryCursorBehind, summaryOf}
+use Rattle.account_state.specs.State.{entryRows, entriesRows, behindEntries, firstEntry, entryCursorBehind, summaryOf}
 use Rattle.account_state.specs.EntriesWalk.{withEntry, Light}
 use Rattle.account_state.specs.declared.entry.EntryCursor.{EntryCursor}
 use Rattle.account_state.specs.declared.walk.StateSummary.{StateSummary}
 
--- an entry that passes is present, and its length is that of its parts and stays inside
-pub record Present (e : List ℕ) : Type 0 where
-  pub head : 48 ≤ length e
-  pub sum : entryLengthOf e ≡ 48 + keyLengthOf e + auxLengthOf e
-  pub inside : entryLengthOf e ≤ length e
-
-pub entry-present : (e : List ℕ) (least : ℕ) → AllPass (entryRows e least) → Present e
-unfolding entryRows entryLayoutRows
-entry-present e least h =
-    record { head = leb-true _ _ (h .0); sum = eqb-true _ _ (h .1 .0); inside = leb-true _ _ (h .1 .1 .0) }
-
+-- an entry that passes has its 48 bytes
 pub entry-room : (s : List ℕ) (at least : ℕ) → decide Passed (entryRows (drop at s) least) ≡ Passed → at + 48 ≤ length s
 entry-room s at least h =
-    let p = entry-present (drop at s) least (passed-all-pass _ h) in
+    let p = entry-passed (drop at s) least (passed-all-pass _ h) .present in
     let l : length (drop at s) ≡ length s - at = length-drop at s in
     omega arith
 
@@ -128,7 +118,7 @@ module _ (s : List ℕ) (count left : ℕ) (c : EntryCursor) (t : StateSummary) 
       → Walking s count (left - 1) (entryCursorBehind s (c .offset)) (withEntry t (capabilitiesOf (drop (c .offset) s)) (weightOf (drop (c .offset) s)))
   unfolding entryCursorBehind withEntry behindEntries
   walking-next b h =
-      let p = entry-present (drop (c .offset) s) (c .least) (passed-all-pass _ h) in
+      let p = entry-passed (drop (c .offset) s) (c .least) (passed-all-pass _ h) .inside in
       let n : length (drop (c .offset) s) ≡ length s - c .offset = length-drop (c .offset) s in
       record {
         rows = rw (← drop-drop (entryLengthOf (drop (c .offset) s)) (c .offset) s)

@@ -4,7 +4,6 @@ use mathlib.Core.Path.{_≡_, refl, ap, _∙_}
 use mathlib.Core.List.{List, [], _∷_}
 use Prim.Native.Nat.{ℕ, zero, suc, _+_, _≤_}
 use native.Mathlib.Omega.{arith}
-use borrow.Author.Tests.{leb-true}
 use lib.ListN.{length, take, drop}
 use lib.Seq.{take-take}
 use Rattle.octets.specs.Le.{fromLe, numberAt}
@@ -13,6 +12,7 @@ use Rattle.protocol.specs.declared.error.ProtocolError.{ProtocolError}
 use Rattle.protocol.specs.declared.check.Check.{Check}
 use Rattle.protocol.specs.declared.check.Check.the-variants.{Passed, Failed}
 use Rattle.protocol.proofs.AllPass.{passed-all-pass, decide-append, decide-failed}
+use Rattle.account_state.proofs.Passed.{header-passed}
 use Rattle.account_state.specs.Fields.{entryCountOf, entryBytesOf}
 use Rattle.account_state.specs.Reading.{entriesOf}
 use Rattle.account_state.specs.State.{stateHeaderRows, entriesRows, stateTailRows, stateRows, stateFault, summaryOf}
@@ -33,8 +33,7 @@ front-number s n at k h = ap fromLe (front-part n at k s h)
 
 -- what the header tells of the walk
 pub head-room : (s : List ℕ) → decide Passed (stateHeaderRows s) ≡ Passed → (32 ≤ length s) × (entryCountOf s ≤ 16)
-unfolding stateHeaderRows
-head-room s h = let z = passed-all-pass _ h in (leb-true _ _ (z .0), leb-true _ _ (z .1 .1 .1 .1 .1 .1 .1 .1 .0))
+head-room s h = let z = header-passed s (passed-all-pass _ h) in (z .present, z .count)
 
 pub fault-head : (s : List ℕ) (e : ProtocolError) → decide Passed (stateHeaderRows s) ≡ Failed e → stateFault s ≡ Failed e
 unfolding stateFault stateRows

@@ -7,15 +7,13 @@ use native.Mathlib.Nat.{add-assoc, add-zero, zero-add}
 use native.Mathlib.Omega.{arith}
 use lib.ListN.{length, drop, getD, length-drop}
 use lib.Seq.{drop-drop}
-use borrow.Author.Tests.{leb-true}
 use Rattle.protocol.specs.Rows.{AllPass}
 use Rattle.protocol.proofs.AllPass.{all-pass-split}
 use Rattle.account_state.specs.Fields.{entryCountOf, entryLengthOf, codeHashOffset, keyOffset, keyLengthOf}
 use Rattle.account_state.specs.Reading.{EntryReading, entryOf, entriesOf, stateReading}
-use Rattle.account_state.specs.State.{stateRows, entryRows, entriesRows, entryAt, entryCursorBehind, entryReading, entryCursorAt, EntryStepGives, behindEntries, stateHeaderRows}
-use Rattle.account_state.proofs.EntriesWalkLaws.{entry-present}
+use Rattle.account_state.specs.State.{stateRows, entryRows, entriesRows, entryAt, entryCursorBehind, entryReading, entryCursorAt, EntryStepGives, behindEntries}
+use Rattle.account_state.proofs.Passed.{entry-passed, state-passed}
 use Rattle.account_state.proofs.Accepted.{entry-step-accepts}
-use Rattle.account_state.proofs.Inverse.{parts, no-tail}
 
 -- the entry at a place reads as the one at the front of the bytes there
 given : (s : List ℕ) (at : ℕ) → entryReading s (entryAt s at) ≡ entryOf (drop at s)
@@ -67,7 +65,7 @@ module _ (s : List ℕ) where
       → entryCursorAt s (suc k) .offset ≤ length s
   unfolding entryCursorAt entryCursorBehind
   inside-next k h l =
-      let p = entry-present (from k) (entryCursorAt s k .least) h .inside in
+      let p = entry-passed (from k) (entryCursorAt s k .least) h .inside in
       let n : length (from k) ≡ length s - entryCursorAt s k .offset = length-drop (entryCursorAt s k .offset) s in
       omega arith
 
@@ -92,18 +90,17 @@ pub steps : (s : List ℕ) → AllPass (stateRows s) → (i : ℕ) → i < entry
 unfolding entryCursorAt stateReading
 steps s h i l =
     record {
-      step = entry-step-accepts s (entryCursorAt s i) .1 (rw zero-add at (rows-from s (entryCountOf s) 0 i (parts s h .1 .0) l));
+      step = entry-step-accepts s (entryCursorAt s i) .1 (rw zero-add at (rows-from s (entryCountOf s) 0 i (state-passed s h .entries) l));
       reading = λ d. rw zero-add at (readings-from s d (entryCountOf s) 0 i l);
     }
 
 -- after them the cursor is at the end
 pub steps-end : (s : List ℕ) → AllPass (stateRows s) → entryCursorAt s (entryCountOf s) .offset ≡ length s
-unfolding entryCursorAt stateHeaderRows
+unfolding entryCursorAt
 steps-end s h =
-    let p = parts s h in
-    let least : 32 ≤ length s = leb-true _ _ (p .0 .0) in
-    let inside = rw zero-add at (inside-from s (entryCountOf s) 0 (p .1 .0) least) in
-    let none = sym (rw zero-add at (behind-from s (entryCountOf s) 0)) ∙ no-tail s h in
+    let p = state-passed s h in
+    let inside = rw zero-add at (inside-from s (entryCountOf s) 0 (p .entries) (p .header .present)) in
+    let none = sym (rw zero-add at (behind-from s (entryCountOf s) 0)) ∙ p .ended in
     let n : length (drop (entryCursorAt s (entryCountOf s) .offset) s) ≡ length s - entryCursorAt s (entryCountOf s) .offset = length-drop (entryCursorAt s (entryCountOf s) .offset) s in
     let z : length (drop (entryCursorAt s (entryCountOf s) .offset) s) ≡ 0 = ap length none in
     omega arith
