@@ -20,7 +20,7 @@ use Rattle.account_state.specs.Reading.{StateReading, StateTyped, stateHead, st
 use Rattle.account_state.specs.State.{stateRows, stateFault}
 use Rattle.account_state_writer.specs.Slices.{lentCount}
 use Rattle.account_state_writer.specs.Writer.{entriesFrom, neededBytes, stateTotal, sliceRows, stateWriterRows, stateFrom, validWritten, validStored, stateWritten, stateStored}
-use Rattle.account_state_writer.proofs.Lent.{length-all, length-head, length-entries, entries-typed}
+use Rattle.account_state_writer.proofs.Lent.{length-all, length-head, length-entries-from, entries-typed}
 use Rattle.account_state_writer.proofs.Checked.{state-checked}
 use Rattle.account_state_writer.specs.Checks.{stateChecks}
 
@@ -46,17 +46,17 @@ module _ (flags sequence spend rotate recovery since : ℕ) (fields bytes : List
       rw (length-append, length-head, e) (omega arith)
 
   -- what the checks find, with the room, is what the state's rows find
-  pub state-found : flags < 2 ^ 8 → sequence < 2 ^ 64 → spend < 2 ^ 16 → rotate < 2 ^ 16 → recovery < 2 ^ 16 → since < 2 ^ 64
+  pub checks-found : flags < 2 ^ 8 → sequence < 2 ^ 64 → spend < 2 ^ 16 → rotate < 2 ^ 16 → recovery < 2 ^ 16 → since < 2 ^ 64
       → ((i : ℕ) → getD fields i 0 < 65536) → Bytes bytes → Agreed fields bytes → (room : ℕ)
       → (decide Passed (stateChecks flags spend rotate recovery since (entriesFrom (lentCount fields) fields bytes)) ▷ row (leb (stateTotal fields bytes) room) BufferTooShort)
       ≡ writeFault (stateRows (stateBytes r)) (stateTotal fields bytes) room
   unfolding stateFrom stateTotal stateFault writeFault decide
-  state-found h₁ h₂ h₃ h₄ h₅ h₆ f b g room =
+  checks-found h₁ h₂ h₃ h₄ h₅ h₆ f b g room =
       let z = entries-typed (lentCount fields) fields bytes f b (omega (arith, g .needed)) (omega (arith, g .total)) in
       let y : StateTyped r =
       record {
         numbers = record { flags = h₁; sequence = h₂; spend = h₃; rotate = h₄; recovery = h₅; since = h₆ };
-        count = rw (length-entries (lentCount fields) fields bytes) (omega (arith, g .count));
+        count = rw (length-entries-from (lentCount fields) fields bytes) (omega (arith, g .count));
         entries = z .0;
       } in
       let e = state-checked r y (z .1) (rw (length-state b (g .needed)) (g .total)) in

@@ -104,9 +104,9 @@ pub entries-none : (n : ℕ) (fields bytes : List ℕ) → n ≡ 0 → entriesBy
 unfolding entriesFrom entriesBytes
 entries-none n fields bytes e = rw e
 
-length-fields : (fields : List ℕ) → length (layoutBytes (entryFieldNumbers fields)) ≡ 10
+length-field-numbers : (fields : List ℕ) → length (layoutBytes (entryFieldNumbers fields)) ≡ 10
 unfolding entryFieldNumbers
-length-fields fields = length-numbers (entryFieldNumbers fields)
+length-field-numbers fields = length-numbers (entryFieldNumbers fields)
 
 -- a verifier's 34 bytes, stored as numbers
 pub verifier-stored : (v l : List ℕ) → Bytes v → length v ≡ 34
@@ -134,7 +134,7 @@ verifier-stored v l b h =
 length-front : (fields verifier : List ℕ) → length verifier ≡ 34 → length (entryFront fields verifier) ≡ 48
 unfolding entryFront lengthNumbers
 length-front fields verifier h =
-    rw (length-append, length-fields fields, length-append, h, length-numbers (lengthNumbers fields))
+    rw (length-append, length-field-numbers fields, length-append, h, length-numbers (lengthNumbers fields))
 
 pub front-stored : (fields verifier l : List ℕ) → length verifier ≡ 34
     → sets (sets (sets (sets l 0 (layoutBytes (entryFieldNumbers fields))) 10 verifier) 44 (toLe 2 32)) 46 (toLe 2 (lentAuxLength fields)) ≡ sets l 0 (entryFront fields verifier)
@@ -144,7 +144,7 @@ front-stored fields verifier l h =
     rw (
       sets-append (sets (sets l 0 f) 10 verifier) 44 (toLe 2 32) (toLe 2 (lentAuxLength fields)) 46 (rw (length-to 2 32)),
       sets-append (sets l 0 f) 10 verifier (toLe 2 32 ++ toLe 2 (lentAuxLength fields)) 44 (rw h),
-      sets-append l 0 f (verifier ++ (toLe 2 32 ++ toLe 2 (lentAuxLength fields))) 10 (rw (length-fields fields)),
+      sets-append l 0 f (verifier ++ (toLe 2 32 ++ toLe 2 (lentAuxLength fields))) 10 (rw (length-field-numbers fields)),
       append-nil (toLe 2 (lentAuxLength fields)),
     )
 
@@ -172,7 +172,7 @@ module _ (fields bytes : List ℕ) (b : Bytes bytes) (h : lentBytes fields ≤ l
   length-entry =
       let m : length (take 34 bytes) ≡ 34 = part-length bytes 0 34 (omega arith) in
       let k : length (take (32 + a) (drop 34 bytes)) ≡ 32 + a = part-length bytes 34 (32 + a) (omega arith) in
-      rw (entry-form, length-append, length-fields fields, length-append, m, length-append, length-numbers (lengthNumbers fields), k) (omega arith)
+      rw (entry-form, length-append, length-field-numbers fields, length-append, m, length-append, length-numbers (lengthNumbers fields), k) (omega arith)
 
   -- its first 48 bytes stored in a part that was lent for them, and the key and aux behind
   pub entry-stored : (l ys : List ℕ) (at n m : ℕ) → n ≡ 48 → m ≡ 32 + a → at + 80 + a ≤ length l → ys ≡ sets (midOf at n l) 0 (entryFront fields (take 34 bytes))
@@ -228,10 +228,10 @@ entries-typed (suc n) fields bytes f b h k =
     } in
     ((y, r .0), (m, r .1))
 
-pub length-entries : (n : ℕ) (fields bytes : List ℕ) → length (entriesFrom n fields bytes) ≡ n
+pub length-entries-from : (n : ℕ) (fields bytes : List ℕ) → length (entriesFrom n fields bytes) ≡ n
 unfolding entriesFrom
-length-entries zero fields bytes = refl
-length-entries (suc n) fields bytes = ap suc (length-entries n (drop lentWidth fields) (drop (lentBytes fields) bytes))
+length-entries-from zero fields bytes = refl
+length-entries-from (suc n) fields bytes = ap suc (length-entries-from n (drop lentWidth fields) (drop (lentBytes fields) bytes))
 
 -- the length of what is written
 pub length-all : (n : ℕ) (fields bytes : List ℕ) → Bytes bytes → neededBytes n fields ≤ length bytes

@@ -10,7 +10,6 @@ use lib.ListN.{length, take, drop, getD, length-append}
 use lib.Seq.{drop-at}
 use Rattle.octets.specs.Le.{Bytes}
 use Rattle.octets.specs.Layout.{layoutBytes}
-use Rattle.octets.proofs.LayoutLaws.{length-numbers}
 use Rattle.octets.proofs.LeLaws.{number-one, number-lt, bytes-take, bytes-drop, bytes-append}
 use Rattle.octets.proofs.Parts.{part-back}
 use Rattle.protocol.specs.Rows.{AllPass}
@@ -18,8 +17,9 @@ use Rattle.protocol.specs.Reading.{WritesBack}
 use Rattle.protocol.proofs.AllPass.{all-pass-append}
 use Rattle.protocol.proofs.Back.{writes-back}
 use Rattle.account_state.specs.Fields.{auxLengthOf, entryLengthOf, keyLengthOf, entryCountOf}
-use Rattle.account_state.specs.Reading.{EntryReading, StateReading, EntryTyped, EntriesTyped, entryHeadFields, entryLengthFields, entryBytes, entriesBytes, stateHead, stateBytes, entryOf, entriesOf, stateReading}
+use Rattle.account_state.specs.Reading.{EntryReading, StateReading, EntryTyped, EntriesTyped, entriesBytes, stateHead, stateBytes, entryOf, entriesOf, stateReading}
 use Rattle.account_state.specs.State.{stateRows}
+use Rattle.account_state.proofs.Unique.{length-entry-bytes}
 use Rattle.account_state.proofs.Inverse.{Keys, state-back, state-typed, state-keys, state-limits}
 use Rattle.account_state_writer.specs.Slices.{lentCount, lentWidth}
 use Rattle.account_state_writer.specs.Writer.{entryFrom, entriesFrom, neededBytes, stateTotal, sliceRows, stateWriterRows, stateFrom, stateWritten, stateStored, entriesFields, entriesPayload, StateFits}
@@ -78,13 +78,12 @@ length-fields (e ∷ es) = let r = length-fields es in omega arith
 
 -- an entry's numbers take 14 bytes more in the state than in the slices
 length-written : (es : List EntryReading) → EntriesTyped es → Keys es → length (entriesBytes es) ≡ 14 * length es + length (entriesPayload es)
-unfolding entriesBytes entryBytes entryHeadFields entryLengthFields entriesPayload
+unfolding entriesBytes entriesPayload
 length-written [] y k = refl
 length-written (e ∷ es) y k =
     let r = length-written es (y .1) (k .1) in
-    let n : length (layoutBytes (entryHeadFields e)) ≡ 12 = length-numbers (entryHeadFields e) in
-    let m : length (layoutBytes (entryLengthFields e)) ≡ 4 = length-numbers (entryLengthFields e) in
-    simp length-append (omega (arith, r, n, m, y .0 .codeHash, k .0))
+    let n = length-entry-bytes e (y .0 .codeHash) in
+    simp length-append (omega (arith, r, n, y .0 .codeHash, k .0))
 
 -- the fields of entries whose numbers fit are u16
 fields-fit : (es : List EntryReading) → EntriesTyped es → (i : ℕ) → getD (entriesFields es) i 0 < 2 ^ 16

@@ -9,7 +9,7 @@ use Rattle.account_state.specs.Reading.{stateBytes}
 use Rattle.account_state.specs.State.{stateRows}
 use Rattle.account_state_writer.specs.Slices.{lentCount}
 use Rattle.account_state_writer.specs.Writer.{stateTotal, stateFrom, validWritten, validStored}
-use Rattle.account_state_writer.proofs.Agreed.{agreed, length-state, state-found}
+use Rattle.account_state_writer.proofs.Agreed.{agreed, length-state, checks-found}
 use borrow.Author.Needs.{needs}
 use Rattle.account_state_writer.proofs.encode_agreed.Statement.{statement}
 use Rattle.account_state_writer.proofs.encode_agreed.Tie as tie
@@ -35,7 +35,7 @@ found c =
     let x = k .before .fits in
     let g = agreed (a .fields .now) (a .bytes .now) (k .before .pre) in
     let b : Bytes (a .bytes .now) = λ i. c .before .before .before .shared-slice-known2 .given i .fits in
-    let z = state-found (a .flags) (a .sequence) (a .spend) (a .rotate) (a .recovery) (a .since) (a .fields .now) (a .bytes .now) (x .flags .fits) (x .sequence .fits) (x .spend .fits) (x .rotate .fits) (x .recovery .fits) (x .since .fits) (λ i. k .shared-slice-known .given i .fits) b g (length (a .out .now)) in
+    let z = checks-found (a .flags) (a .sequence) (a .spend) (a .rotate) (a .recovery) (a .since) (a .fields .now) (a .bytes .now) (x .flags .fits) (x .sequence .fits) (x .spend .fits) (x .rotate .fits) (x .recovery .fits) (x .since .fits) (λ i. k .shared-slice-known .given i .fits) b g (length (a .out .now)) in
     (length-state (a .flags) (a .sequence) (a .spend) (a .rotate) (a .recovery) (a .since) (a .fields .now) (a .bytes .now) b (g .needed), c .require .ensures ∙ rw (c .before .check-state .ensures) z)
 
 store-state-requires : tie.Need-store-state-requires

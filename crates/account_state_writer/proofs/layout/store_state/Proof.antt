@@ -8,7 +8,7 @@ use Rattle.octets.proofs.Stores.{sets-append}
 use Rattle.account_state.specs.Reading.{stateHeaderFields, stateHead, stateBytes}
 use Rattle.account_state_writer.specs.Slices.{lentCount, lentWidth}
 use Rattle.account_state_writer.specs.Writer.{stateFrom}
-use Rattle.account_state_writer.proofs.Lent.{length-entries, length-head}
+use Rattle.account_state_writer.proofs.Lent.{length-entries-from, length-head}
 use borrow.Author.Needs.{needs}
 use Rattle.account_state_writer.proofs.layout.store_state.Statement.{statement}
 use Rattle.account_state_writer.proofs.layout.store_state.Tie as tie
@@ -28,7 +28,7 @@ unfolding stateBytes stateHead stateFrom lentCount
 returns c =
     let c6 = c .before .before .before .before .before .before in
     let a = c6 .before .before .before .before .before .args in
-    rw (c .before .before .store-entries .ensures, c6 .store-head .ensures, length-entries (length (a .fields .now) / lentWidth) (a .fields .now) (a .bytes .now))
+    rw (c .before .before .store-entries .ensures, c6 .store-head .ensures, length-entries-from (length (a .fields .now) / lentWidth) (a .fields .now) (a .bytes .now))
     (sets-append (a .out .now) 0 (layoutBytes (stateHeaderFields (a .flags) (a .sequence) (a .spend) (a .rotate) (a .recovery) (length (a .fields .now) / lentWidth) (a .since))) _ 32 (omega (arith, length-head (a .flags) (a .sequence) (a .spend) (a .rotate) (a .recovery) (length (a .fields .now) / lentWidth) (a .since))))
 
 pub store-state-spec : {M : Type 1} → statement M
