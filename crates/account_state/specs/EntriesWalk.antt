@@ -2,7 +2,7 @@
 -- What the walk over the entries gives: their weights and the count of bytes behind them, or the first refusal.
 use Prim.Native.Nat.{ℕ, _+_, _*_, _≤_}
 use mathlib.Core.List.{List}
-use lib.ListN.{length, drop}
+use lib.ListN.{length}
 use Rattle.protocol.specs.Rows.{decide}
 use Rattle.protocol.specs.declared.check.Check.{Check}
 use Rattle.protocol.specs.declared.check.Check.the-variants.{Passed, Failed}
@@ -25,8 +25,7 @@ walkEntries n e = entriesWalkAnswer (decide Passed (entriesRows n e 0)) (entries
 
 -- what the checks after the last entry find
 unfoldable pub endFault : List ℕ → EntriesWalk → Check
-endFault s w =
-    decide Passed (stateEndRows s (w .tail) (w .summary .«spend_weight») (w .summary .«rotate_weight») (w .summary .«recovery_weight»))
+endFault s w = decide Passed (stateEndRows s (w .tail) (w .summary))
 
 -- the weights with one entry's added
 unfoldable pub withEntry : StateSummary → ℕ → ℕ → StateSummary

@@ -145,6 +145,7 @@ abbrev pub EntriesTyped : List EntryReading → Type 0
 EntriesTyped [] = Unit {0}
 EntriesTyped (e ∷ es) = EntryTyped e × EntriesTyped es
 
+-- the header's numbers
 pub record StateNumbersTyped (r : StateReading) : Type 0 where
   pub flags : r .flags < 2 ^ 8
   pub sequence : r .sequence < 2 ^ 64

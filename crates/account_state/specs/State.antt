@@ -53,7 +53,7 @@ entryLayoutRows e least =
     ∷ row (leb least (entrySlotOf e)) InvalidState
     ∷ []
 
--- of an entry that is read or is to be written
+-- Those from weight on are of the numbers of an entry that is read or is to be written.
 unfoldable pub entryFieldRows : EntryFields → List Row
 entryFieldRows f =
     row (leb 1 (f .weight)) InvalidState
@@ -65,6 +65,7 @@ entryFieldRows f =
     ∷ row (leb 1 (f .«aux_len»)) InvalidState
     ∷ []
 
+-- the numbers of the entry at the front of the bytes
 abbrev pub entryFieldsOf : List ℕ → EntryFields
 entryFieldsOf e =
     record {
@@ -97,24 +98,27 @@ recoveryThresholdRows flags threshold since weight =
     (row (eqb threshold 0) InvalidState ∷ row (eqb since 0) InvalidState ∷ [])
 
 -- 01: "spend or rotate threshold 0 or above the weight of its holders is 38."
-unfoldable pub thresholdRows : ℕ → ℕ → ℕ → ℕ → ℕ → ℕ → ℕ → ℕ → List Row
-thresholdRows flags spend rotate recovery since spendWeight rotateWeight recoveryWeight =
+unfoldable pub thresholdRows : ℕ → ℕ → ℕ → ℕ → ℕ → StateSummary → List Row
+thresholdRows flags spend rotate recovery since weights =
     row (leb 1 spend) UnsatisfiableThreshold
     ∷ row (leb 1 rotate) UnsatisfiableThreshold
-    ∷ row (leb spend spendWeight) UnsatisfiableThreshold
-    ∷ row (leb rotate rotateWeight) UnsatisfiableThreshold
-    ∷ recoveryThresholdRows flags recovery since recoveryWeight
+    ∷ row (leb spend (weights .«spend_weight»)) UnsatisfiableThreshold
+    ∷ row (leb rotate (weights .«rotate_weight»)) UnsatisfiableThreshold
+    ∷ recoveryThresholdRows flags recovery since (weights .«recovery_weight»)
 
 -- 01: "After the last entry no byte follows (21). Then:" the thresholds
-unfoldable pub stateEndRows : List ℕ → ℕ → ℕ → ℕ → ℕ → List Row
-stateEndRows s tail spend rotate recovery =
+unfoldable pub stateEndRows : List ℕ → ℕ → StateSummary → List Row
+stateEndRows s tail weights =
     row (eqb tail 0) InvalidState
-    ∷ thresholdRows (flagsOf s) (spendThresholdOf s) (rotateThresholdOf s) (recoveryThresholdOf s) (recoverySinceOf s) spend rotate recovery
+    ∷ thresholdRows (flagsOf s) (spendThresholdOf s) (rotateThresholdOf s) (recoveryThresholdOf s) (recoverySinceOf s) weights
 
--- the checks after the last entry; spend, rotate and recovery are capability bits 1, 2 and 4
+-- the weights of the holders of each capability; 01: "Capability bits 1, 2, 4, 8: spend, rotate, recovery, session issue."
+unfoldable pub summaryOf : List EntryReading → StateSummary
+summaryOf es = record { «spend_weight» = capableWeight 1 es; «rotate_weight» = capableWeight 2 es; «recovery_weight» = capableWeight 4 es }
+
+-- the checks after the last entry
 unfoldable pub stateTailRows : List ℕ → ℕ → List ℕ → List Row
-stateTailRows s n e =
-    stateEndRows s (length (behindEntries n e)) (capableWeight 1 (entriesOf n e)) (capableWeight 2 (entriesOf n e)) (capableWeight 4 (entriesOf n e))
+stateTailRows s n e = stateEndRows s (length (behindEntries n e)) (summaryOf (entriesOf n e))
 
 -- all checks of a state
 unfoldable pub stateRows : List ℕ → List Row
@@ -213,9 +217,6 @@ pub record EntryStepGives (s : List ℕ) (i : ℕ) : Type 0 where
   pub reading : (d : EntryReading) → getD (stateReading s .entries) i d ≡ entryReading s (entryAt s (entryCursorAt s i .offset))
 
 -- what the state's reader gives
-unfoldable pub summaryOf : List EntryReading → StateSummary
-summaryOf es = record { «spend_weight» = capableWeight 1 es; «rotate_weight» = capableWeight 2 es; «recovery_weight» = capableWeight 4 es }
-
 unfoldable pub stateAnswer : Check → StateHeader → StateSummary → StateAnswer
 stateAnswer Passed h t = answer.Valid h t
 stateAnswer (Failed e) h t = answer.Refused e

@@ -11,6 +11,7 @@ use crate::fields::hash_type_of;
 use crate::fields::key_length_of;
 use crate::fields::weight_of;
 use octets::rest;
+use protocol::ACCOUNT_STATE_HEADER_LEN;
 use protocol::CAP_KNOWN_MASK;
 use protocol::Check;
 use protocol::ProtocolError;
@@ -44,7 +45,7 @@ pub struct AuthenticatorEntry {
     pub aux_len: usize,
 }
 
-// The numbers of an entry that its checks read, wherever they come from.
+// The numbers of an entry that its checks read; the entry is read or is to be written.
 pub struct EntryFields {
     pub algorithm_id: u16,
     pub capabilities: u16,
@@ -66,7 +67,7 @@ impl EntryCursor {
         ensures { λ r. ⌜ r ≡ firstEntry ⌝ }
     {
         EntryCursor {
-            offset: 32,
+            offset: ACCOUNT_STATE_HEADER_LEN,
             least: 0,
         }
     }

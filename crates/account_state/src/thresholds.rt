@@ -33,7 +33,7 @@ pub fn check_thresholds(
     since: u64,
     summary: StateSummary,
 ) -> Check
-    ensures { λ r. ⌜ r ≡ decide Passed (thresholdRows flags spend rotate recovery since (summary .«spend_weight») (summary .«rotate_weight») (summary .«recovery_weight»)) ⌝ }
+    ensures { λ r. ⌜ r ≡ decide Passed (thresholdRows flags spend rotate recovery since summary) ⌝ }
 {
     let unmet = ProtocolError::UnsatisfiableThreshold;
     let check = Check::Passed

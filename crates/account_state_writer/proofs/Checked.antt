@@ -18,13 +18,13 @@ use Rattle.protocol.specs.declared.check.Check.{Check}
 use Rattle.protocol.specs.declared.check.Check.the-variants.{Passed, Failed}
 use Rattle.protocol.proofs.AllPass.{decide-append, decide-failed, decide-then, passed-all-pass}
 use Rattle.account_state.specs.Fields.{auxLengthOf, entryLengthOf, entrySlotOf, keyLengthOf, abiOf, algorithmOf, capabilitiesOf, hashTypeOf, stateHeaderLengthOf, stateMagicOf, stateReservedOf, stateVersionOf, weightOf}
-use Rattle.account_state.specs.Reading.{EntryReading, StateReading, EntryTyped, EntriesTyped, StateTyped, stateMagic, entryLengthFields, entryBytes, entriesBytes, stateHeaderFields, stateHead, stateBytes, entryOf, capableWeight}
-use Rattle.account_state.specs.State.{stateHeaderRows, entryLayoutRows, entryFieldRows, entryRows, entriesRows, behindEntries, thresholdRows, stateEndRows, stateTailRows, stateRows, stateFault}
+use Rattle.account_state.specs.Reading.{EntryReading, StateReading, EntryTyped, EntriesTyped, StateTyped, stateMagic, entryLengthFields, entryBytes, entriesBytes, stateHeaderFields, stateHead, stateBytes, entryOf}
+use Rattle.account_state.specs.State.{stateHeaderRows, entryLayoutRows, entryFieldRows, entryRows, entriesRows, behindEntries, thresholdRows, summaryOf, stateEndRows, stateTailRows, stateRows, stateFault}
 use Rattle.account_state.proofs.Inverse.{Keys}
 use Rattle.account_state.proofs.Unique.{HeaderRead, length-entry-bytes, lengths-read, size-read, entry-read, entries-read, header-read, behind-head}
-use Rattle.account_state_writer.specs.Checks.{headChecks, entryChecks, entriesChecks, stateChecks, lentCapableWeight}
+use Rattle.account_state_writer.specs.Checks.{headChecks, entryChecks, entriesChecks, stateChecks, lentSummary}
 use Rattle.account_state_writer.specs.Writer.{entriesFrom}
-use Rattle.account_state_writer.proofs.Lent.{length-entries-from, weight-lent}
+use Rattle.account_state_writer.proofs.Lent.{length-entries-from, summary-lent}
 
 -- a row that passes finds nothing
 row-true : (c : Check) (e : ProtocolError) → c ▷ row true e ≡ c
@@ -112,11 +112,11 @@ module _ (r : StateReading) (y : StateTyped r) (k : Keys (r .entries)) (h : leng
       rw (e₁, e₂, e₃, e₄, e₅, e₆, m .flags, m .count) (simp row-true)
 
   end-checked : (c : Check) → decide c (stateTailRows b n (entriesBytes (r .entries)))
-      ≡ decide c (thresholdRows (r .flags) (r .spend) (r .rotate) (r .recovery) (r .since) (capableWeight 1 (r .entries)) (capableWeight 2 (r .entries)) (capableWeight 4 (r .entries)))
+      ≡ decide c (thresholdRows (r .flags) (r .spend) (r .rotate) (r .recovery) (r .since) (summaryOf (r .entries)))
   unfolding stateTailRows stateEndRows decide
   end-checked c =
       rw (entries-behind (r .entries) (y .entries), entries-read (r .entries) (y .entries), m .flags, m .spend, m .rotate, m .recovery, m .since)
-      (ap (λ (x : Check). decide x (thresholdRows (r .flags) (r .spend) (r .rotate) (r .recovery) (r .since) (capableWeight 1 (r .entries)) (capableWeight 2 (r .entries)) (capableWeight 4 (r .entries)))) (row-true c InvalidState))
+      (ap (λ (x : Check). decide x (thresholdRows (r .flags) (r .spend) (r .rotate) (r .recovery) (r .since) (summaryOf (r .entries)))) (row-true c InvalidState))
 
   pub state-checked : stateFault b ≡ decide Passed (stateChecks (r .flags) (r .spend) (r .rotate) (r .recovery) (r .since) (r .entries))
   unfolding stateFault stateRows stateChecks
@@ -143,9 +143,9 @@ module _ (flags spend rotate recovery since count : ℕ) (fields bytes : List �
 
   pub head-passed : decide Passed (headChecks flags count) ≡ Passed
       → decide Passed (stateChecks flags spend rotate recovery since es)
-      ≡ (decide Passed (entriesChecks es 0) then decide Passed (thresholdRows flags spend rotate recovery since (lentCapableWeight 1 count fields) (lentCapableWeight 2 count fields) (lentCapableWeight 4 count fields)))
+      ≡ (decide Passed (entriesChecks es 0) then decide Passed (thresholdRows flags spend rotate recovery since (lentSummary count fields)))
   unfolding stateChecks
   head-passed h =
       decide-append Passed (headChecks flags (length es)) _
-      ∙ rw (length-entries-from count fields bytes, h, weight-lent 1 count fields bytes, weight-lent 2 count fields bytes, weight-lent 4 count fields bytes)
+      ∙ rw (length-entries-from count fields bytes, h, summary-lent count fields bytes)
       (decide-append Passed (entriesChecks es 0) _ ∙ decide-then (decide Passed (entriesChecks es 0)) _)

@@ -17,10 +17,11 @@ use Rattle.octets.proofs.Parts.{join, part-length}
 use Rattle.octets.proofs.Stores.{sets-append, sets-lent}
 use borrow.Rule.Slice.PartMut.{midOf, putMid}
 use Rattle.account_state.specs.Reading.{EntryReading, EntryTyped, EntriesTyped, entryHeadFields, entryLengthFields, entryBytes, entriesBytes, stateHeaderFields, capableShare, capableWeight}
+use Rattle.account_state.specs.State.{summaryOf}
 use Rattle.account_state.proofs.Inverse.{Keys}
 use Rattle.account_state_writer.specs.Slices.{lentWidth, lentCapabilities, lentWeight, lentAuxLength, lentBytes}
 use Rattle.account_state_writer.specs.Writer.{entryFrom, entryFieldNumbers, lengthNumbers, entryFront, entriesFrom, neededBytes}
-use Rattle.account_state_writer.specs.Checks.{entryChecks, entriesChecks, lentCapableWeight}
+use Rattle.account_state_writer.specs.Checks.{entryChecks, entriesChecks, lentCapableWeight, lentSummary}
 use Rattle.protocol.specs.Rows.{decide}
 use Rattle.protocol.specs.declared.error.ProtocolError.{ProtocolError}
 use Rattle.protocol.specs.declared.check.Check.{Check}
@@ -94,11 +95,15 @@ unfolding lentCapableWeight
 weight-none bit n fields e = rw e
 
 -- the weights of the entries do not depend on their bytes
-pub weight-lent : (bit n : ℕ) (fields bytes : List ℕ) → capableWeight bit (entriesFrom n fields bytes) ≡ lentCapableWeight bit n fields
+weight-lent : (bit n : ℕ) (fields bytes : List ℕ) → capableWeight bit (entriesFrom n fields bytes) ≡ lentCapableWeight bit n fields
 unfolding capableWeight entriesFrom entryFrom lentCapableWeight
 weight-lent bit zero fields bytes = refl
 weight-lent bit (suc n) fields bytes =
     ap (λ (m : ℕ). capableShare bit (lentCapabilities fields) (lentWeight fields) + m) (weight-lent bit n (drop lentWidth fields) (drop (lentBytes fields) bytes))
+
+pub summary-lent : (n : ℕ) (fields bytes : List ℕ) → summaryOf (entriesFrom n fields bytes) ≡ lentSummary n fields
+unfolding summaryOf lentSummary
+summary-lent n fields bytes = rw (weight-lent 1 n fields bytes, weight-lent 2 n fields bytes, weight-lent 4 n fields bytes)
 
 pub entries-none : (n : ℕ) (fields bytes : List ℕ) → n ≡ 0 → entriesBytes (entriesFrom n fields bytes) ≡ []
 unfolding entriesFrom entriesBytes

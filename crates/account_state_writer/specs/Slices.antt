@@ -1,7 +1,7 @@
 -- The lent slices of a state's writer, by the names of their parts; each definition is of the first entry in them.
 -- `fields` has five numbers for each entry: slot, algorithm, capabilities, weight, length of aux. `bytes` has each entry's hash
 -- type, ABI, code hash (32 bytes), key (32 bytes) and aux, end to end.
-use Prim.Native.Nat.{ℕ, _+_, _*_, _/_}
+use Prim.Native.Nat.{ℕ, _+_, _/_}
 use mathlib.Core.List.{List}
 use lib.ListN.{length, take, drop, getD}
 use Rattle.octets.specs.Le.{numberAt}

@@ -13,6 +13,7 @@ use Rattle.account_state.specs.Reading.{EntryReading, StateReading, StateNumber
 use Rattle.account_state.specs.State.{stateRows}
 use Rattle.account_state_writer.specs.Slices.{lentWidth, lentSlot, lentAlgorithm, lentCapabilities, lentWeight, lentAuxLength, lentHashType, lentAbi, lentCodeHash, lentKey, lentAux, lentBytes, lentCount}
 
+-- the entry at the front of the slices
 unfoldable pub entryFrom : List ℕ → List ℕ → EntryReading
 entryFrom fields bytes =
     record {

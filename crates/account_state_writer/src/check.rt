@@ -1,10 +1,10 @@
 // The checks of the state that the slices say, before a byte of it is written.
-use crate::slices::LENT_ABI;
+use crate::slices::LENT_ABI_OFFSET;
 use crate::slices::LENT_ALGORITHM;
 use crate::slices::LENT_AUX_LENGTH;
 use crate::slices::LENT_AUX_OFFSET;
 use crate::slices::LENT_CAPABILITIES;
-use crate::slices::LENT_HASH_TYPE;
+use crate::slices::LENT_HASH_TYPE_OFFSET;
 use crate::slices::LENT_SLOT;
 use crate::slices::LENT_WEIGHT;
 use crate::slices::LENT_WIDTH;
@@ -28,7 +28,7 @@ ghost use Rattle.protocol.specs.declared.check.Check.the-variants.{Passed};
 ghost use Rattle.account_state.specs.State.{thresholdRows};
 ghost use Rattle.account_state_writer.specs.Slices.{lentWidth, lentBytes, lentCount};
 ghost use Rattle.account_state_writer.specs.Writer.{entryFrom, entriesFrom, neededBytes};
-ghost use Rattle.account_state_writer.specs.Checks.{headChecks, entryChecks, entriesChecks, stateChecks, lentCapableWeight};
+ghost use Rattle.account_state_writer.specs.Checks.{headChecks, entryChecks, entriesChecks, stateChecks, lentCapableWeight, lentSummary};
 
 fn check_head(flags: u8, count: usize) -> Check
     ensures { λ r. ⌜ r ≡ decide Passed (headChecks flags count) ⌝ }
@@ -55,8 +55,8 @@ fn check_entry(fields: &[u16], bytes: &[u8], least: u32) -> Check
             algorithm_id: fields[LENT_ALGORITHM],
             capabilities: fields[LENT_CAPABILITIES],
             weight: fields[LENT_WEIGHT],
-            verifier_hash_type: bytes[LENT_HASH_TYPE],
-            verifier_abi: bytes[LENT_ABI],
+            verifier_hash_type: bytes[LENT_HASH_TYPE_OFFSET],
+            verifier_abi: bytes[LENT_ABI_OFFSET],
             key_len: 32,
             aux_len: fields[LENT_AUX_LENGTH],
         },
@@ -114,7 +114,7 @@ fn check_end(
     count: usize,
 ) -> Check
     requires { ⌜ (lentWidth * count ≤ length (now fields)) × (count ≤ 16) ⌝ }
-    ensures { λ r. ⌜ r ≡ decide Passed (thresholdRows flags spend rotate recovery since (lentCapableWeight 1 count (now (fields .entry))) (lentCapableWeight 2 count (now (fields .entry))) (lentCapableWeight 4 count (now (fields .entry)))) ⌝ }
+    ensures { λ r. ⌜ r ≡ decide Passed (thresholdRows flags spend rotate recovery since (lentSummary count (now (fields .entry)))) ⌝ }
 {
     let summary = StateSummary {
         spend_weight: lent_capable_weight(CAP_SPEND, fields, count),

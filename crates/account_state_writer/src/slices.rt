@@ -25,9 +25,9 @@ pub(crate) const LENT_WEIGHT: usize = 3;
 pub(crate) const LENT_AUX_LENGTH: usize = 4;
 
 // Where an entry's parts begin in its `bytes`; its code hash stands before the key.
-pub(crate) const LENT_HASH_TYPE: usize = 0;
+pub(crate) const LENT_HASH_TYPE_OFFSET: usize = 0;
 
-pub(crate) const LENT_ABI: usize = 1;
+pub(crate) const LENT_ABI_OFFSET: usize = 1;
 
 pub(crate) const LENT_KEY_OFFSET: usize = 34;
 

@@ -18,7 +18,7 @@ returns c =
     let s = now (a .state) in
     let t = a .walk .summary in
     rw (c .and .ensures, c .before .check-thresholds .ensures, c .before .before .recovery-since-of .ensures, c .before .before .before .recovery-threshold-of .ensures, c4 .rotate-threshold-of .ensures, c4 .before .spend-threshold-of .ensures, c4 .before .before .flags-of .ensures, c4 .before .before .before .require .ensures)
-    (sym (decide-then _ (thresholdRows (flagsOf s) (spendThresholdOf s) (rotateThresholdOf s) (recoveryThresholdOf s) (recoverySinceOf s) (t .«spend_weight») (t .«rotate_weight») (t .«recovery_weight»))))
+    (sym (decide-then _ (thresholdRows (flagsOf s) (spendThresholdOf s) (rotateThresholdOf s) (recoveryThresholdOf s) (recoverySinceOf s) t)))
 
 pub check-end-spec : {M : Type 1} → statement M
 check-end-spec =
