@@ -4,7 +4,7 @@ use mathlib.Core.Path.{_≡_, refl, sym, ap, _∙_}
 use mathlib.Core.Logic.{_↔_}
 use mathlib.Core.Bool.{Bool, true, false, cond, true≢false}
 use mathlib.Core.List.{List, [], _∷_, _++_}
-use Prim.Native.Nat.{ℕ, _+_, _≤_, _<_, _%_}
+use Prim.Native.Nat.{ℕ, _+_, _≤_, _<_}
 use native.Mathlib.Omega.{arith}
 use lib.Dec.{eqb, leb}
 use lib.ListN.{length, drop}
@@ -15,7 +15,7 @@ use Rattle.protocol.proofs.AllPass.{passed-all-pass, all-pass-passed, all-pass-
 use Rattle.protocol.specs.declared.error.ProtocolError.the-variants.{SlicesDisagree}
 use Rattle.protocol.specs.declared.check.Check.{Check}
 use Rattle.protocol.specs.declared.check.Check.the-variants.{Passed, Failed}
-use Rattle.account_state.specs.Fields.{entryCountOf, flagsOf, recoveryThresholdOf, rotateThresholdOf, spendThresholdOf}
+use Rattle.account_state.specs.Fields.{entryCountOf, flagsOf, recoveryEnabled, recoveryThresholdOf, rotateThresholdOf, spendThresholdOf}
 use Rattle.account_state.specs.State as state
 use Rattle.scene_table.specs.Scene.{Scene}
 use Rattle.scene_table.specs.Lent.{sceneIn}
@@ -38,7 +38,7 @@ use Rattle.account_lock.proofs.LockLaws.{group-operation}
 pub record Thresholds (s : List ℕ) : Type 0 where
   pub spend : 1 ≤ spendThresholdOf s
   pub rotate : 1 ≤ rotateThresholdOf s
-  pub recovery : eqb (flagsOf s % 2) 1 ≡ true → 1 ≤ recoveryThresholdOf s
+  pub recovery : recoveryEnabled (flagsOf s) ≡ true → 1 ≤ recoveryThresholdOf s
 
 state-thresholds : (s : List ℕ) → AllPass (state.stateRows s) → Thresholds s
 unfolding state.stateRows state.stateTailRows state.stateEndRows state.thresholdRows state.recoveryThresholdRows
@@ -70,7 +70,7 @@ module _ (s : Scene) (h : AllPass (earlyRows s)) where
   thresholds = state-thresholds (current s) state-passes
 
   -- only a recovery asks for recovery, and it is on then
-  recovery-on : eqb (operation s) 1 ≡ false → eqb (operation s) 3 ≡ true → eqb (flagsOf (current s) % 2) 1 ≡ true
+  recovery-on : eqb (operation s) 1 ≡ false → eqb (operation s) 3 ≡ true → recoveryEnabled (flagsOf (current s)) ≡ true
   unfolding transitionRows successionRows recoveryRows
   recovery-on p q =
       let c : AllPass (successionRows (operation s) (stateSince (operation s) (account s) s) (current s) (successor s)) =

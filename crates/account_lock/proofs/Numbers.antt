@@ -5,7 +5,7 @@ use mathlib.Core.Path.{_≡_, refl}
 use mathlib.Core.Logic.{_≢_, _⊎_, inl, inr, _↔_}
 use mathlib.Core.Bool.{Bool, true, false, cond}
 use mathlib.Core.List.{List, [], _∷_, _++_}
-use Prim.Native.Nat.{ℕ, zero, suc, _+_, _%_, _≤_}
+use Prim.Native.Nat.{ℕ, zero, suc, _+_, _≤_}
 use native.Mathlib.Omega.{arith}
 use lib.Dec.{eqb}
 use lib.ListN.{length, drop}
@@ -19,7 +19,7 @@ use Rattle.protocol.specs.declared.check.Check.the-variants.{Passed, Failed}
 use Rattle.protocol.proofs.Each.{Each, Refuses, each-append, each-cond, each-refuses, each-failed}
 use Rattle.molecule.specs.Table3.{tableRows}
 use Rattle.molecule.specs.Bytes as molecule
-use Rattle.account_state.specs.Fields.{entryLengthOf, entrySlotOf, entryCountOf}
+use Rattle.account_state.specs.Fields.{recoveryEnabled, entryLengthOf, entrySlotOf, entryCountOf}
 use Rattle.account_state.specs.State as state
 use Rattle.account_witness.specs.Header.{witnessHeaderRows}
 use Rattle.account_witness.specs.Reading.{ProofReading}
@@ -63,7 +63,7 @@ entries-early (suc n) e least =
 -- its recovery
 recovery-early : (flags threshold since weight : ℕ) → Each Early (state.recoveryThresholdRows flags threshold since weight)
 unfolding state.recoveryThresholdRows
-recovery-early flags threshold since weight = each-cond Early (eqb (flags % 2) 1) _ _ (search arith) (search arith)
+recovery-early flags threshold since weight = each-cond Early (recoveryEnabled flags) _ _ (search arith) (search arith)
 
 -- what follows its entries
 tail-early : (s : List ℕ) (n : ℕ) (e : List ℕ) → Each Early (state.stateTailRows s n e)

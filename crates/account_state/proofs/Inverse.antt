@@ -2,32 +2,22 @@
 -- Assumes nothing.
 use mathlib.Core.Path.{_≡_, refl, sym, ap, _∙_}
 use mathlib.Core.List.{List, [], _∷_, _++_, append-assoc, append-nil}
-use Prim.Native.Nat.{ℕ, zero, suc, _+_, _^_, _≤_, _<_}
+use Prim.Native.Nat.{ℕ, zero, suc, _+_, _≤_}
 use native.Mathlib.Omega.{arith}
-use borrow.Author.Tests.{leb-true, eqb-true}
-use lib.ListN.{length, take, drop, length-append, take-append-drop}
-use lib.Seq.{take-length}
+use lib.ListN.{length, take, drop, take-append-drop}
 use Rattle.octets.specs.Le.{Bytes}
-use Rattle.octets.specs.Layout.{layoutBytes, layoutAt}
+use Rattle.octets.specs.Layout.{layoutAt}
 use Rattle.octets.proofs.LeLaws.{number-lt, bytes-drop}
 use Rattle.octets.proofs.LayoutLaws.{table-back}
 use Rattle.octets.proofs.Parts.{join, part-length}
 use Rattle.protocol.specs.Rows.{AllPass}
 use Rattle.protocol.proofs.AllPass.{all-pass-split}
-use Rattle.account_state.specs.Fields.{auxLengthOf, entryCountOf, entryLengthOf, entrySlotOf, keyLengthOf, stateHeaderLengthOf, stateMagicOf, stateReservedOf, stateVersionOf}
-use Rattle.account_state.specs.Reading.{EntryReading, StateReading, stateMagic, entrySize, entryHeadFields, entryLengthFields, entryBytes, entriesBytes, stateHeaderFields, stateHead, stateBytes, entryOf, entriesOf, stateReading, EntryTyped, EntriesTyped, StateTyped}
-use Rattle.account_state.specs.State.{stateHeaderRows, entryLayoutRows, entryFieldRows, entryRows, entriesRows, behindEntries, stateEndRows, stateTailRows, stateRows}
+use Rattle.account_state.proofs.Passed.{EntryPassed, entry-passed, state-passed}
+use Rattle.account_state.specs.Fields.{auxLengthOf, entryCountOf, entryLengthOf, entrySlotOf, keyLengthOf, entryBytesOf}
+use Rattle.account_state.specs.Reading.{EntryReading, entryHeadFields, entryLengthFields, entryBytes, entriesBytes, stateHeaderFields, stateHead, stateBytes, entryOf, entriesOf, stateReading, EntryTyped, EntriesTyped, StateTyped}
+use Rattle.account_state.specs.State.{entryRows, entriesRows, behindEntries, stateRows}
 
--- what an entry that passes says of its lengths
-record Lengths (e : List ℕ) : Type 0 where
-  sum : entryLengthOf e ≡ 48 + keyLengthOf e + auxLengthOf e
-  inside : entryLengthOf e ≤ length e
-
-lengths : (e : List ℕ) (least : ℕ) → AllPass (entryRows e least) → Lengths e
-unfolding entryRows entryLayoutRows
-lengths e least h = record { sum = eqb-true _ _ (h .1 .0); inside = leb-true _ _ (h .1 .1 .0) }
-
-module _ (e : List ℕ) (b : Bytes e) (z : Lengths e) where
+module _ (e : List ℕ) (least : ℕ) (b : Bytes e) (z : EntryPassed e least) where
   abbrev k : ℕ
   k = keyLengthOf e
 
@@ -81,9 +71,9 @@ unfolding entriesBytes entriesOf entriesRows behindEntries
 entries-back zero e least b h = (refl, tt)
 entries-back (suc n) e least b h =
     let p = all-pass-split (entryRows e least) _ h in
-    let z = lengths e least (p .0) in
+    let z = entry-passed e least (p .0) in
     let r = entries-back n (drop (entryLengthOf e) e) _ (bytes-drop (entryLengthOf e) e b) (p .1) in
-    (append-assoc (entryBytes (entryOf e)) _ _ ∙ rw (r .0, entry-back e b z) (take-append-drop (entryLengthOf e) e), (entry-typed e b z, r .1))
+    (append-assoc (entryBytes (entryOf e)) _ _ ∙ rw (r .0, entry-back e least b z) (take-append-drop (entryLengthOf e) e), (entry-typed e least b z, r .1))
 
 -- and each of their keys has 32 bytes
 abbrev pub Keys : List EntryReading → Type 0
@@ -91,13 +81,12 @@ Keys [] = Unit {0}
 Keys (e ∷ es) = (length (e .key) ≡ 32) × Keys es
 
 entry-key : (e : List ℕ) (least : ℕ) → AllPass (entryRows e least) → length (entryOf e .key) ≡ 32
-unfolding entryOf entryRows entryFieldRows
+unfolding entryOf
 entry-key e least h =
-    let z = lengths e least h in
+    let z = entry-passed e least h in
     let s = z .sum in
     let i = z .inside in
-    let k : keyLengthOf e ≡ 32 = eqb-true _ _ (all-pass-split (entryLayoutRows e least) (entryFieldRows e) h .1 .1 .1 .1 .1 .1 .0) in
-    part-length e 48 (keyLengthOf e) (omega arith) ∙ k
+    part-length e 48 (keyLengthOf e) (omega arith) ∙ z .key
 
 entries-keys : (n : ℕ) (e : List ℕ) (least : ℕ) → AllPass (entriesRows n e least) → Keys (entriesOf n e)
 unfolding entriesOf entriesRows
@@ -111,72 +100,44 @@ unfolding entriesOf
 length-entries zero e = refl
 length-entries (suc n) e = ap suc (length-entries n (drop (entryLengthOf e) e))
 
--- what a header that passes says
-record Head (s : List ℕ) : Type 0 where
-  present : 32 ≤ length s
-  magic : stateMagicOf s ≡ stateMagic
-  version : stateVersionOf s ≡ 1
-  size : stateHeaderLengthOf s ≡ 32
-  zeroByte : stateReservedOf s ≡ 0
-
-head : (s : List ℕ) → AllPass (stateHeaderRows s) → Head s
-unfolding stateHeaderRows
-head s h =
-    record {
-      present = leb-true _ _ (h .0);
-      magic = eqb-true _ _ (h .1 .1 .0);
-      version = eqb-true _ _ (h .1 .1 .1 .0);
-      size = eqb-true _ _ (h .1 .1 .1 .1 .1 .0);
-      zeroByte = eqb-true _ _ (h .1 .1 .1 .1 .1 .1 .0);
-    }
-
-nothing : (l : List ℕ) → length l ≡ 0 → l ≡ []
-nothing [] e = refl
-nothing (x ∷ l) e = absurd (omega arith)
-
 module _ (s : List ℕ) (b : Bytes s) (h : AllPass (stateRows s)) where
   abbrev n : ℕ
   n = entryCountOf s
 
-  pub parts : AllPass (stateHeaderRows s) × (AllPass (entriesRows n (drop 32 s) 0) × AllPass (stateTailRows s n (drop 32 s)))
-  unfolding stateRows
-  parts = let p = all-pass-split (stateHeaderRows s) _ h in (p .0, all-pass-split (entriesRows n (drop 32 s) 0) _ (p .1))
-
-  -- no byte follows the last entry
-  no-tail : behindEntries n (drop 32 s) ≡ []
-  unfolding stateTailRows stateEndRows
-  no-tail = nothing _ (eqb-true _ 0 (parts .1 .1 .0))
-
   pub state-back : stateBytes (stateReading s) ≡ s
   unfolding stateBytes stateReading stateHead stateHeaderFields layoutAt
   state-back =
-      let z = head s (parts .0) in
+      let p = state-passed s h in
+      let z = p .header in
       let l = z .present in
-      let r = entries-back n (drop 32 s) 0 (bytes-drop 32 s b) (parts .1 .0) in
-      let t = rw (z .magic, z .version, z .size, z .zeroByte) at (table-back (4 ∷ 1 ∷ 1 ∷ 2 ∷ 8 ∷ 2 ∷ 2 ∷ 2 ∷ 1 ∷ 1 ∷ 8 ∷ []) s 0 b (omega arith)) in
-      let e : entriesBytes (entriesOf n (drop 32 s)) ≡ drop 32 s = sym (append-nil _) ∙ (rw no-tail at (r .0)) in
-      rw (length-entries n (drop 32 s), t, e) (take-append-drop 32 s)
+      let r = entries-back n (entryBytesOf s) 0 (bytes-drop 32 s b) (p .entries) in
+      let t = rw (z .magic, z .version, z .size, z .reserved) at (table-back (4 ∷ 1 ∷ 1 ∷ 2 ∷ 8 ∷ 2 ∷ 2 ∷ 2 ∷ 1 ∷ 1 ∷ 8 ∷ []) s 0 b (omega arith)) in
+      let e : entriesBytes (entriesOf n (entryBytesOf s)) ≡ drop 32 s = sym (append-nil _) ∙ (rw (p .ended) at (r .0)) in
+      rw (length-entries n (entryBytesOf s), t, e) (take-append-drop 32 s)
 
   pub state-keys : Keys (stateReading s .entries)
   unfolding stateReading
-  state-keys = entries-keys n (drop 32 s) 0 (parts .1 .0)
+  state-keys = entries-keys n (entryBytesOf s) 0 (state-passed s h .entries)
 
   -- its length and its count stay within their limits
   pub state-limits : (length s ≤ 16384) × (length (stateReading s .entries) ≤ 16)
-  unfolding stateHeaderRows stateReading
+  unfolding stateReading
   state-limits =
-      (leb-true _ _ (parts .0 .1 .0), rw (length-entries n (drop 32 s)) (leb-true _ _ (parts .0 .1 .1 .1 .1 .1 .1 .1 .1 .0)))
+      let z = state-passed s h .header in
+      (z .limit, rw (length-entries n (entryBytesOf s)) (z .count))
 
   pub state-typed : StateTyped (stateReading s)
   unfolding stateReading
   state-typed =
       record {
-        flags = number-lt s 5 1 b;
-        sequence = number-lt s 8 8 b;
-        spend = number-lt s 16 2 b;
-        rotate = number-lt s 18 2 b;
-        recovery = number-lt s 20 2 b;
-        since = number-lt s 24 8 b;
-        count = rw (length-entries n (drop 32 s)) (number-lt s 22 1 b);
-        entries = entries-back n (drop 32 s) 0 (bytes-drop 32 s b) (parts .1 .0) .1;
+        numbers = record {
+          flags = number-lt s 5 1 b;
+          sequence = number-lt s 8 8 b;
+          spend = number-lt s 16 2 b;
+          rotate = number-lt s 18 2 b;
+          recovery = number-lt s 20 2 b;
+          since = number-lt s 24 8 b;
+        };
+        count = rw (length-entries n (entryBytesOf s)) (number-lt s 22 1 b);
+        entries = entries-back n (entryBytesOf s) 0 (bytes-drop 32 s b) (state-passed s h .entries) .1;
       }

@@ -1,6 +1,10 @@
-pub mod WalkLaws
+pub mod Passed
+pub mod EntriesWalkLaws
 pub mod StateLaws
 pub mod Inverse
 pub mod Unique
-pub mod Theorem
+pub mod Accepted
+pub mod Steps
+pub mod StateGiven
+pub mod Slots
 pub mod Smallest

@@ -2,25 +2,24 @@
 -- and an aux that is not empty.
 -- Assumes nothing.
 use mathlib.Core.Path.{_≡_}
-use mathlib.Core.List.{List, _++_}
+use mathlib.Core.List.{List}
 use Prim.Native.Nat.{ℕ, zero, suc, _+_, _-_, _≤_}
 use native.Mathlib.Omega.{arith}
-use borrow.Author.Tests.{leb-true, eqb-true}
-use lib.ListN.{length, drop, length-drop}
+use lib.ListN.{length, length-drop}
 use Rattle.protocol.specs.Rows.{AllPass}
 use Rattle.protocol.proofs.AllPass.{all-pass-split}
-use Rattle.account_state.specs.Fields.{auxLengthOf, entryCountOf, entryLengthOf, keyLengthOf}
-use Rattle.account_state.specs.State.{stateHeaderRows, entryLayoutRows, entryFieldRows, entryRows, entriesRows, stateTailRows, stateRows}
+use Rattle.account_state.specs.Fields.{auxLengthOf, entryCountOf, entryLengthOf, keyLengthOf, entryBytesOf}
+use Rattle.account_state.specs.State.{entryRows, entriesRows, stateRows}
+use Rattle.account_state.proofs.Passed.{entry-passed, state-passed}
 
 -- an entry that passes has 81 bytes
 entry-smallest : (e : List ℕ) (least : ℕ) → AllPass (entryRows e least) → 81 ≤ length e
-unfolding entryRows entryLayoutRows entryFieldRows
 entry-smallest e least h =
-    let z = all-pass-split (entryLayoutRows e least) (entryFieldRows e) h in
-    let whole : entryLengthOf e ≡ 48 + keyLengthOf e + auxLengthOf e = eqb-true _ _ (z .0 .1 .0) in
-    let inside : entryLengthOf e ≤ length e = leb-true _ _ (z .0 .1 .1 .0) in
-    let key : keyLengthOf e ≡ 32 = eqb-true _ _ (z .1 .1 .1 .1 .1 .1 .0) in
-    let aux : 1 ≤ auxLengthOf e = leb-true _ _ (z .1 .1 .1 .1 .1 .1 .1 .0) in
+    let z = entry-passed e least h in
+    let whole : entryLengthOf e ≡ 48 + keyLengthOf e + auxLengthOf e = z .sum in
+    let inside : entryLengthOf e ≤ length e = z .inside in
+    let key : keyLengthOf e ≡ 32 = z .key in
+    let aux : 1 ≤ auxLengthOf e = z .aux in
     omega arith
 
 -- so have the entries that pass, if there is one
@@ -31,12 +30,9 @@ entries-smallest (suc n) e least some h = entry-smallest e least (all-pass-split
 
 -- The theorem: a state that passes its rows has at least 113 bytes.
 pub state-smallest : (s : List ℕ) → AllPass (stateRows s) → 113 ≤ length s
-unfolding stateRows stateHeaderRows
 state-smallest s h =
-    let count = entryCountOf s in
-    let e = drop 32 s in
-    let z = all-pass-split (stateHeaderRows s) (entriesRows count e 0 ++ stateTailRows s count e) h in
-    let entries = all-pass-split (entriesRows count e 0) (stateTailRows s count e) (z .1) .0 in
-    let l : 81 ≤ length e = entries-smallest count e 0 (leb-true _ _ (z .0 .1 .1 .1 .1 .1 .1 .1 .0)) entries in
+    let p = state-passed s h in
+    let e = entryBytesOf s in
+    let l : 81 ≤ length e = entries-smallest (entryCountOf s) e 0 (p .header .some) (p .entries) in
     let n : length e ≡ length s - 32 = length-drop 32 s in
     omega arith

@@ -1,16 +1,24 @@
 -- A reading whose fields fit is read back from its written form, so a state has one reading.
 -- Assumes nothing.
 use mathlib.Core.Path.{_≡_, refl, sym, ap, _∙_}
-use mathlib.Core.List.{List, [], _∷_, _++_, append-assoc, append-nil}
-use Prim.Native.Nat.{ℕ, zero, suc, _+_, _^_, _≤_, _<_}
+use mathlib.Core.List.{List, [], _∷_, _++_, append-assoc}
+use Prim.Native.Nat.{ℕ, _+_}
 use native.Mathlib.Omega.{arith}
 use lib.ListN.{length, take, drop, length-append}
 use lib.Seq.{drop-at}
 use Rattle.octets.specs.Layout.{layoutBytes, layoutAt, fieldValue}
 use Rattle.octets.proofs.LayoutLaws.{numbers-back, length-numbers}
 use Rattle.octets.proofs.Parts.{part-back}
-use Rattle.account_state.specs.Fields.{abiOf, algorithmOf, auxLengthOf, entryCountOf, entryLengthOf, entrySlotOf, flagsOf, hashTypeOf, keyLengthOf, recoverySinceOf, recoveryThresholdOf, rotateThresholdOf, sequenceOf, spendThresholdOf, capabilitiesOf, weightOf}
-use Rattle.account_state.specs.Reading.{EntryReading, StateReading, entrySize, entryHeadFields, entryLengthFields, entryBytes, entriesBytes, stateHeaderFields, stateHead, stateBytes, entryOf, entriesOf, stateReading, EntryTyped, EntriesTyped, StateTyped}
+use Rattle.account_state.specs.Fields.{stateMagicOf, stateVersionOf, stateHeaderLengthOf, stateReservedOf, abiOf, algorithmOf, auxLengthOf, entryCountOf, entryLengthOf, entrySlotOf, flagsOf, hashTypeOf, keyLengthOf, recoverySinceOf, recoveryThresholdOf, rotateThresholdOf, sequenceOf, spendThresholdOf, capabilitiesOf, weightOf}
+use Rattle.account_state.specs.Reading.{EntryReading, StateReading, stateMagic, entrySize, entryHeadFields, entryLengthFields, entryBytes, entriesBytes, stateHeaderFields, stateHead, stateBytes, entryOf, entriesOf, stateReading, EntryTyped, EntriesTyped, StateTyped}
+
+-- the length of an entry's bytes
+pub length-entry-bytes : (e : EntryReading) → length (e .codeHash) ≡ 32 → length (entryBytes e) ≡ entrySize e
+unfolding entryBytes entryHeadFields entryLengthFields
+length-entry-bytes e h =
+    let n : length (layoutBytes (entryHeadFields e)) ≡ 12 = length-numbers (entryHeadFields e) in
+    let m : length (layoutBytes (entryLengthFields e)) ≡ 4 = length-numbers (entryLengthFields e) in
+    simp length-append (omega (arith, n, m, h))
 
 -- an entry at the front of bytes s
 module _ (e : EntryReading) (t s : List ℕ) (y : EntryTyped e) (q : s ≡ entryBytes e ++ t) where
@@ -47,8 +55,8 @@ module _ (e : EntryReading) (t s : List ℕ) (y : EntryTyped e) (q : s ≡ entry
       (q ∙ simp append-assoc) (simp (length-append, tables .0, tables .1, y .codeHash) (omega arith)) refl
 
   pub size-read : entryLengthOf s ≡ length (entryBytes e)
-  unfolding entryBytes entryHeadFields layoutAt
-  size-read = ap (fieldValue 0) head-read ∙ sym (simp (length-append, tables .0, tables .1, y .codeHash) (omega arith))
+  unfolding entryHeadFields layoutAt
+  size-read = ap (fieldValue 0) head-read ∙ sym (length-entry-bytes e (y .codeHash))
 
   pub entry-read : entryOf s ≡ e
   unfolding entryOf entryHeadFields entryLengthFields layoutAt
@@ -75,26 +83,51 @@ entries-read (e ∷ es) y =
       entries-read es (y .1),
     )
 
--- the numbers of a state's header, and what follows them
-pub head-numbers : (r : StateReading) → StateTyped r → layoutAt (4 ∷ 1 ∷ 1 ∷ 2 ∷ 8 ∷ 2 ∷ 2 ∷ 2 ∷ 1 ∷ 1 ∷ 8 ∷ []) (stateBytes r) 0 ≡ stateHead r
+-- the numbers of a state's header
+head-numbers : (r : StateReading) → StateTyped r → layoutAt (4 ∷ 1 ∷ 1 ∷ 2 ∷ 8 ∷ 2 ∷ 2 ∷ 2 ∷ 1 ∷ 1 ∷ 8 ∷ []) (stateBytes r) 0 ≡ stateHead r
 unfolding stateBytes stateHead stateHeaderFields
 head-numbers r y =
     numbers-back (stateHead r) (layoutBytes (stateHead r) ++ entriesBytes (r .entries)) [] (entriesBytes (r .entries)) 0 (omega arith) refl refl
 
+-- by their names
+pub record HeaderRead (r : StateReading) : Type 0 where
+  pub magic : stateMagicOf (stateBytes r) ≡ stateMagic
+  pub version : stateVersionOf (stateBytes r) ≡ 1
+  pub flags : flagsOf (stateBytes r) ≡ r .flags
+  pub size : stateHeaderLengthOf (stateBytes r) ≡ 32
+  pub sequence : sequenceOf (stateBytes r) ≡ r .sequence
+  pub spend : spendThresholdOf (stateBytes r) ≡ r .spend
+  pub rotate : rotateThresholdOf (stateBytes r) ≡ r .rotate
+  pub recovery : recoveryThresholdOf (stateBytes r) ≡ r .recovery
+  pub count : entryCountOf (stateBytes r) ≡ length (r .entries)
+  pub reserved : stateReservedOf (stateBytes r) ≡ 0
+  pub since : recoverySinceOf (stateBytes r) ≡ r .since
+
+pub header-read : (r : StateReading) → StateTyped r → HeaderRead r
+unfolding stateHead stateHeaderFields layoutAt
+header-read r y =
+    let h = head-numbers r y in
+    record {
+      magic = ap (fieldValue 0) h;
+      version = ap (fieldValue 1) h;
+      flags = ap (fieldValue 2) h;
+      size = ap (fieldValue 3) h;
+      sequence = ap (fieldValue 4) h;
+      spend = ap (fieldValue 5) h;
+      rotate = ap (fieldValue 6) h;
+      recovery = ap (fieldValue 7) h;
+      count = ap (fieldValue 8) h;
+      reserved = ap (fieldValue 9) h;
+      since = ap (fieldValue 10) h;
+    }
+
+-- and what follows them
 pub behind-head : (r : StateReading) → drop 32 (stateBytes r) ≡ entriesBytes (r .entries)
 unfolding stateBytes stateHead stateHeaderFields
 behind-head r = drop-at (layoutBytes (stateHead r)) (entriesBytes (r .entries)) 32 (length-numbers (stateHead r))
 
 pub state-read : (r : StateReading) → StateTyped r → stateReading (stateBytes r) ≡ r
-unfolding stateReading stateHead stateHeaderFields layoutAt
+unfolding stateReading
 state-read r y =
-    let s = stateBytes r in
-    let h = head-numbers r y in
-    let e₁ : flagsOf s ≡ r .flags = ap (fieldValue 2) h in
-    let e₂ : sequenceOf s ≡ r .sequence = ap (fieldValue 4) h in
-    let e₃ : spendThresholdOf s ≡ r .spend = ap (fieldValue 5) h in
-    let e₄ : rotateThresholdOf s ≡ r .rotate = ap (fieldValue 6) h in
-    let e₅ : recoveryThresholdOf s ≡ r .recovery = ap (fieldValue 7) h in
-    let e₆ : recoverySinceOf s ≡ r .since = ap (fieldValue 10) h in
-    let e₇ : entryCountOf s ≡ length (r .entries) = ap (fieldValue 8) h in
-    rw (e₁, e₂, e₃, e₄, e₅, e₆, e₇, behind-head r, entries-read (r .entries) (y .entries))
+    let h = header-read r y in
+    rw (h .flags, h .sequence, h .spend, h .rotate, h .recovery, h .since, h .count, behind-head r, entries-read (r .entries) (y .entries))

@@ -1,6 +1,8 @@
 -- The fields of an account state by their names, in the layout's order. The bytes of an entry are those from it on.
-use Prim.Native.Nat.{ℕ, _+_}
+use Prim.Native.Nat.{ℕ, _+_, _/_, _%_}
+use mathlib.Core.Bool.{Bool}
 use mathlib.Core.List.{List}
+use lib.Dec.{eqb}
 use lib.ListN.{take, drop}
 use Rattle.octets.specs.Le.{numberAt}
 
@@ -14,6 +16,14 @@ stateVersionOf s = numberAt s 4 1
 
 abbrev pub flagsOf : List ℕ → ℕ
 flagsOf s = numberAt s 5 1
+
+-- 01: "With flag 1 set the same holds for recovery."
+abbrev pub recoveryEnabled : ℕ → Bool
+recoveryEnabled flags = eqb (flags / 1 % 2) 1
+
+-- the original's STATE_FLAG_SESSION_ENABLED: flag 2
+abbrev pub sessionEnabled : ℕ → Bool
+sessionEnabled flags = eqb (flags / 2 % 2) 1
 
 abbrev pub stateHeaderLengthOf : List ℕ → ℕ
 stateHeaderLengthOf s = numberAt s 6 2
@@ -66,8 +76,15 @@ hashTypeOf e = numberAt e 10 1
 abbrev pub abiOf : List ℕ → ℕ
 abiOf e = numberAt e 11 1
 
+-- where the code hash begins, and where the key does
+abbrev pub codeHashOffset : ℕ
+codeHashOffset = 12
+
+abbrev pub keyOffset : ℕ
+keyOffset = 48
+
 abbrev pub codeHashOf : List ℕ → List ℕ
-codeHashOf e = take 32 (drop 12 e)
+codeHashOf e = take 32 (drop codeHashOffset e)
 
 abbrev pub keyLengthOf : List ℕ → ℕ
 keyLengthOf e = numberAt e 44 2
@@ -76,7 +93,7 @@ abbrev pub auxLengthOf : List ℕ → ℕ
 auxLengthOf e = numberAt e 46 2
 
 abbrev pub keyOf : List ℕ → List ℕ
-keyOf e = take (keyLengthOf e) (drop 48 e)
+keyOf e = take (keyLengthOf e) (drop keyOffset e)
 
 abbrev pub auxOf : List ℕ → List ℕ
-auxOf e = take (auxLengthOf e) (drop (48 + keyLengthOf e) e)
+auxOf e = take (auxLengthOf e) (drop (keyOffset + keyLengthOf e) e)

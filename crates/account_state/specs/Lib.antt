@@ -1,4 +1,4 @@
 pub mod Fields
 pub mod Reading
 pub mod State
-pub mod Walk
+pub mod EntriesWalk

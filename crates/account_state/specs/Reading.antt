@@ -145,12 +145,16 @@ abbrev pub EntriesTyped : List EntryReading → Type 0
 EntriesTyped [] = Unit {0}
 EntriesTyped (e ∷ es) = EntryTyped e × EntriesTyped es
 
-pub record StateTyped (r : StateReading) : Type 0 where
+-- the header's numbers
+pub record StateNumbersTyped (r : StateReading) : Type 0 where
   pub flags : r .flags < 2 ^ 8
   pub sequence : r .sequence < 2 ^ 64
   pub spend : r .spend < 2 ^ 16
   pub rotate : r .rotate < 2 ^ 16
   pub recovery : r .recovery < 2 ^ 16
   pub since : r .since < 2 ^ 64
+
+pub record StateTyped (r : StateReading) : Type 0 where
+  pub numbers : StateNumbersTyped r
   pub count : length (r .entries) < 2 ^ 8
   pub entries : EntriesTyped (r .entries)

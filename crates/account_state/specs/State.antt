@@ -1,9 +1,9 @@
 -- The checks of an account state, in document 01's order, and what its readers give.
 use mathlib.Core.Path.{_≡_}
-use Prim.Native.Nat.{ℕ, zero, suc, _+_, _%_}
+use Prim.Native.Nat.{ℕ, zero, suc, _+_, _<_}
 use mathlib.Core.Bool.{cond}
 use mathlib.Core.List.{List, [], _∷_, _++_}
-use lib.ListN.{length, take, drop}
+use lib.ListN.{length, take, drop, getD}
 use lib.Dec.{leb, eqb}
 use Rattle.protocol.specs.Errors.{errorNumber}
 use Rattle.protocol.specs.Policy.{isSupportedAlgorithm}
@@ -11,14 +11,16 @@ use Rattle.protocol.specs.Rows.{Row, row, decide}
 use Rattle.protocol.specs.declared.error.ProtocolError.the-variants.{InvalidState, InvalidVerifierRef, UnsupportedVersion, UnsupportedAlgorithm, UnsatisfiableThreshold}
 use Rattle.protocol.specs.declared.check.Check.{Check}
 use Rattle.protocol.specs.declared.check.Check.the-variants.{Passed, Failed}
-use Rattle.account_state.specs.Fields.{stateMagicOf, stateVersionOf, flagsOf, stateHeaderLengthOf, sequenceOf, spendThresholdOf, rotateThresholdOf, recoveryThresholdOf, entryCountOf, stateReservedOf, recoverySinceOf, entryLengthOf, entrySlotOf, algorithmOf, capabilitiesOf, weightOf, hashTypeOf, abiOf, keyLengthOf, auxLengthOf, entryBytesOf}
+use Rattle.account_state.specs.Fields.{stateMagicOf, stateVersionOf, flagsOf, recoveryEnabled, stateHeaderLengthOf, sequenceOf, spendThresholdOf, rotateThresholdOf, recoveryThresholdOf, entryCountOf, stateReservedOf, recoverySinceOf, entryLengthOf, entrySlotOf, algorithmOf, capabilitiesOf, weightOf, hashTypeOf, abiOf, codeHashOffset, keyOffset, keyLengthOf, auxLengthOf, entryBytesOf}
 use Rattle.account_state.specs.Reading.{EntryReading, stateMagic, entriesOf, stateEntries, stateReading, capableWeight}
 use Rattle.account_state.specs.declared.header.StateHeader.{StateHeader}
 use Rattle.account_state.specs.declared.header.StateHeaderAnswer.{StateHeaderAnswer}
 use Rattle.account_state.specs.declared.header.StateHeaderAnswer.the-variants as header
 use Rattle.account_state.specs.declared.entry.AuthenticatorEntry.{AuthenticatorEntry}
 use Rattle.account_state.specs.declared.entry.EntryCursor.{EntryCursor}
+use Rattle.account_state.specs.declared.entry.EntryFields.{EntryFields}
 use Rattle.account_state.specs.declared.entry.EntryStep.{EntryStep}
+use Rattle.account_state.specs.declared.entry.EntryStep.the-variants.{Entry}
 use Rattle.account_state.specs.declared.entry.EntryStep.the-variants as step
 use Rattle.account_state.specs.declared.walk.StateSummary.{StateSummary}
 use Rattle.account_state.specs.declared.StateAnswer.{StateAnswer}
@@ -51,19 +53,33 @@ entryLayoutRows e least =
     ∷ row (leb least (entrySlotOf e)) InvalidState
     ∷ []
 
-unfoldable pub entryFieldRows : List ℕ → List Row
-entryFieldRows e =
-    row (leb 1 (weightOf e)) InvalidState
-    ∷ row (leb (capabilitiesOf e) 0x000f) InvalidState
-    ∷ row (leb (hashTypeOf e) 1) InvalidVerifierRef
-    ∷ row (eqb (abiOf e) 1) InvalidVerifierRef
-    ∷ row (isSupportedAlgorithm (algorithmOf e)) UnsupportedAlgorithm
-    ∷ row (eqb (keyLengthOf e) 32) InvalidState
-    ∷ row (leb 1 (auxLengthOf e)) InvalidState
+-- Those from weight on are of the numbers of an entry that is read or is to be written.
+unfoldable pub entryFieldRows : EntryFields → List Row
+entryFieldRows f =
+    row (leb 1 (f .weight)) InvalidState
+    ∷ row (leb (f .capabilities) 0x000f) InvalidState
+    ∷ row (leb (f .«verifier_hash_type») 1) InvalidVerifierRef
+    ∷ row (eqb (f .«verifier_abi») 1) InvalidVerifierRef
+    ∷ row (isSupportedAlgorithm (f .«algorithm_id»)) UnsupportedAlgorithm
+    ∷ row (eqb (f .«key_len») 32) InvalidState
+    ∷ row (leb 1 (f .«aux_len»)) InvalidState
     ∷ []
 
+-- the numbers of the entry at the front of the bytes
+abbrev pub entryFieldsOf : List ℕ → EntryFields
+entryFieldsOf e =
+    record {
+      «algorithm_id» = algorithmOf e;
+      capabilities = capabilitiesOf e;
+      weight = weightOf e;
+      «verifier_hash_type» = hashTypeOf e;
+      «verifier_abi» = abiOf e;
+      «key_len» = keyLengthOf e;
+      «aux_len» = auxLengthOf e;
+    }
+
 unfoldable pub entryRows : List ℕ → ℕ → List Row
-entryRows e least = entryLayoutRows e least ++ entryFieldRows e
+entryRows e least = entryLayoutRows e least ++ entryFieldRows (entryFieldsOf e)
 
 unfoldable pub entriesRows : ℕ → List ℕ → ℕ → List Row
 entriesRows zero e least = []
@@ -77,29 +93,32 @@ behindEntries (suc n) e = behindEntries n (drop (entryLengthOf e) e)
 -- 01: "With flag 1 set the same holds for recovery. With flag 1 clear, a recovery threshold or recovery_since other than 0 is 21."
 unfoldable pub recoveryThresholdRows : ℕ → ℕ → ℕ → ℕ → List Row
 recoveryThresholdRows flags threshold since weight =
-    cond (eqb (flags % 2) 1)
+    cond (recoveryEnabled flags)
     (row (leb 1 threshold) UnsatisfiableThreshold ∷ row (leb threshold weight) UnsatisfiableThreshold ∷ [])
     (row (eqb threshold 0) InvalidState ∷ row (eqb since 0) InvalidState ∷ [])
 
 -- 01: "spend or rotate threshold 0 or above the weight of its holders is 38."
-unfoldable pub thresholdRows : ℕ → ℕ → ℕ → ℕ → ℕ → ℕ → ℕ → ℕ → List Row
-thresholdRows flags spend rotate recovery since spendWeight rotateWeight recoveryWeight =
+unfoldable pub thresholdRows : ℕ → ℕ → ℕ → ℕ → ℕ → StateSummary → List Row
+thresholdRows flags spend rotate recovery since weights =
     row (leb 1 spend) UnsatisfiableThreshold
     ∷ row (leb 1 rotate) UnsatisfiableThreshold
-    ∷ row (leb spend spendWeight) UnsatisfiableThreshold
-    ∷ row (leb rotate rotateWeight) UnsatisfiableThreshold
-    ∷ recoveryThresholdRows flags recovery since recoveryWeight
+    ∷ row (leb spend (weights .«spend_weight»)) UnsatisfiableThreshold
+    ∷ row (leb rotate (weights .«rotate_weight»)) UnsatisfiableThreshold
+    ∷ recoveryThresholdRows flags recovery since (weights .«recovery_weight»)
 
 -- 01: "After the last entry no byte follows (21). Then:" the thresholds
-unfoldable pub stateEndRows : List ℕ → ℕ → ℕ → ℕ → ℕ → List Row
-stateEndRows s tail spend rotate recovery =
+unfoldable pub stateEndRows : List ℕ → ℕ → StateSummary → List Row
+stateEndRows s tail weights =
     row (eqb tail 0) InvalidState
-    ∷ thresholdRows (flagsOf s) (spendThresholdOf s) (rotateThresholdOf s) (recoveryThresholdOf s) (recoverySinceOf s) spend rotate recovery
+    ∷ thresholdRows (flagsOf s) (spendThresholdOf s) (rotateThresholdOf s) (recoveryThresholdOf s) (recoverySinceOf s) weights
 
--- the checks after the last entry; spend, rotate and recovery are capability bits 1, 2 and 4
+-- the weights of the holders of each capability; 01: "Capability bits 1, 2, 4, 8: spend, rotate, recovery, session issue."
+unfoldable pub summaryOf : List EntryReading → StateSummary
+summaryOf es = record { «spend_weight» = capableWeight 1 es; «rotate_weight» = capableWeight 2 es; «recovery_weight» = capableWeight 4 es }
+
+-- the checks after the last entry
 unfoldable pub stateTailRows : List ℕ → ℕ → List ℕ → List Row
-stateTailRows s n e =
-    stateEndRows s (length (behindEntries n e)) (capableWeight 1 (entriesOf n e)) (capableWeight 2 (entriesOf n e)) (capableWeight 4 (entriesOf n e))
+stateTailRows s n e = stateEndRows s (length (behindEntries n e)) (summaryOf (entriesOf n e))
 
 -- all checks of a state
 unfoldable pub stateRows : List ℕ → List Row
@@ -148,10 +167,10 @@ entryAt s at =
       weight = weightOf (drop at s);
       «verifier_hash_type» = hashTypeOf (drop at s);
       «verifier_abi» = abiOf (drop at s);
-      «verifier_code_hash» = at + 12;
-      «key_id» = at + 48;
+      «verifier_code_hash» = at + codeHashOffset;
+      «key_id» = at + keyOffset;
       «key_len» = keyLengthOf (drop at s);
-      aux = at + 48 + keyLengthOf (drop at s);
+      aux = at + keyOffset + keyLengthOf (drop at s);
       «aux_len» = auxLengthOf (drop at s);
     }
 
@@ -163,7 +182,7 @@ unfoldable pub entryCursorBehind : List ℕ → ℕ → EntryCursor
 entryCursorBehind s at = record { offset = at + entryLengthOf (drop at s); least = entrySlotOf (drop at s) + 1 }
 
 unfoldable pub entryStepAnswer : Check → AuthenticatorEntry → EntryCursor → EntryStep
-entryStepAnswer Passed e c = step.Entry e c
+entryStepAnswer Passed e c = Entry e c
 entryStepAnswer (Failed x) e c = step.Refused x
 
 unfoldable pub entryStep : List ℕ → EntryCursor → EntryStep
@@ -172,8 +191,8 @@ entryStep s c =
 
 -- the reading of an entry that a step hands out: its numbers, and the bytes at its places; 01: "a place in the input counting as the
 -- bytes there"
-unfoldable pub entryGiven : List ℕ → AuthenticatorEntry → EntryReading
-entryGiven s e =
+unfoldable pub entryReading : List ℕ → AuthenticatorEntry → EntryReading
+entryReading s e =
     record {
       slot = e .slot;
       algorithm = e .«algorithm_id»;
@@ -186,18 +205,18 @@ entryGiven s e =
       aux = take (e .«aux_len») (drop (e .aux) s);
     }
 
--- the steps from a cursor on hand out these entries, one by one; 01: "Closures of `parse_authenticators` and `parse_proofs`: a step
--- per entry."
-unfoldable pub EntryStepsGive : List ℕ → ℕ → EntryCursor → List EntryReading → Type 0
-EntryStepsGive s zero c es = es ≡ []
-EntryStepsGive s (suc n) c [] = ⊥
-EntryStepsGive s (suc n) c (r ∷ rs) =
-    (e : AuthenticatorEntry) × ((d : EntryCursor) × ((entryStep s c ≡ step.Entry e d) × ((entryGiven s e ≡ r) × EntryStepsGive s n d rs)))
+-- the cursor after i entries
+unfoldable pub entryCursorAt : List ℕ → ℕ → EntryCursor
+entryCursorAt s zero = firstEntry
+entryCursorAt s (suc i) = entryCursorBehind s (entryCursorAt s i .offset)
+
+-- the i-th step of an accepted state hands out the i-th entry of the reading; 01: "Closures of `parse_authenticators` and
+-- `parse_proofs`: a step per entry."
+pub record EntryStepGives (s : List ℕ) (i : ℕ) : Type 0 where
+  pub step : entryStep s (entryCursorAt s i) ≡ Entry (entryAt s (entryCursorAt s i .offset)) (entryCursorAt s (suc i))
+  pub reading : (d : EntryReading) → getD (stateReading s .entries) i d ≡ entryReading s (entryAt s (entryCursorAt s i .offset))
 
 -- what the state's reader gives
-unfoldable pub summaryOf : List EntryReading → StateSummary
-summaryOf es = record { «spend_weight» = capableWeight 1 es; «rotate_weight» = capableWeight 2 es; «recovery_weight» = capableWeight 4 es }
-
 unfoldable pub stateAnswer : Check → StateHeader → StateSummary → StateAnswer
 stateAnswer Passed h t = answer.Valid h t
 stateAnswer (Failed e) h t = answer.Refused e
@@ -206,11 +225,12 @@ unfoldable pub readState : List ℕ → StateAnswer
 readState s = stateAnswer (stateFault s) (stateHeaderOf s) (summaryOf (stateEntries s))
 
 -- what the readers hand out of a state, with the header h and the weights t of its answer, is its reading: the header's fields, the
--- weights of the entries, and at each step the next entry
+-- weights of the entries, and at each step the next entry; behind the last no byte follows
 pub record StateGives (s : List ℕ) (h : StateHeader) (t : StateSummary) : Type 0 where
   pub header : StateHeaderGives s h
   pub weights : summaryOf (stateReading s .entries) ≡ t
-  pub entries : EntryStepsGive s (h .«authenticator_count») firstEntry (stateReading s .entries)
+  pub entries : (i : ℕ) → i < h .«authenticator_count» → EntryStepGives s i
+  pub ended : entryCursorAt s (h .«authenticator_count») .offset ≡ length s
 
 -- document 01's number of each answer, 0 where it is accepted
 abbrev pub stateHeaderNumber : StateHeaderAnswer → ℕ
@@ -218,7 +238,7 @@ stateHeaderNumber (header.Header h) = 0
 stateHeaderNumber (header.Refused e) = errorNumber e
 
 abbrev pub entryStepNumber : EntryStep → ℕ
-entryStepNumber (step.Entry e c) = 0
+entryStepNumber (Entry e c) = 0
 entryStepNumber (step.Refused x) = errorNumber x
 
 abbrev pub stateNumber : StateAnswer → ℕ

@@ -1,7 +1,17 @@
 // The authenticator entries of an account state, one step for each.
+use crate::fields::CODE_HASH_OFFSET;
+use crate::fields::KEY_OFFSET;
+use crate::fields::abi_of;
+use crate::fields::algorithm_of;
+use crate::fields::aux_length_of;
+use crate::fields::capabilities_of;
+use crate::fields::entry_length_of;
+use crate::fields::entry_slot_of;
+use crate::fields::hash_type_of;
+use crate::fields::key_length_of;
+use crate::fields::weight_of;
 use octets::rest;
-use octets::u8_at;
-use octets::u16_at;
+use protocol::ACCOUNT_STATE_HEADER_LEN;
 use protocol::CAP_KNOWN_MASK;
 use protocol::Check;
 use protocol::ProtocolError;
@@ -12,7 +22,7 @@ ghost use Prim.Native.Nat.{_+_, _≤_};
 ghost use lib.ListN.{length};
 ghost use Rattle.protocol.specs.Rows.{decide};
 ghost use Rattle.protocol.specs.declared.check.Check.the-variants.{Passed};
-ghost use Rattle.account_state.specs.State.{entryLayoutRows, entryFieldRows, entryRows, entryAt, firstEntry, entryCursorBehind, entryStep};
+ghost use Rattle.account_state.specs.State.{entryLayoutRows, entryFieldRows, entryFieldsOf, entryRows, entryAt, firstEntry, entryCursorBehind, entryStep};
 
 // Where the next entry begins, and the least slot that it may have: one above its predecessor's.
 pub struct EntryCursor {
@@ -35,6 +45,17 @@ pub struct AuthenticatorEntry {
     pub aux_len: usize,
 }
 
+// The numbers of an entry that its checks read; the entry is read or is to be written.
+pub struct EntryFields {
+    pub algorithm_id: u16,
+    pub capabilities: u16,
+    pub weight: u16,
+    pub verifier_hash_type: u8,
+    pub verifier_abi: u8,
+    pub key_len: u16,
+    pub aux_len: u16,
+}
+
 pub enum EntryStep {
     Entry(AuthenticatorEntry, EntryCursor),
     Refused(ProtocolError),
@@ -46,7 +67,7 @@ impl EntryCursor {
         ensures { λ r. ⌜ r ≡ firstEntry ⌝ }
     {
         EntryCursor {
-            offset: 32,
+            offset: ACCOUNT_STATE_HEADER_LEN,
             least: 0,
         }
     }
@@ -58,31 +79,45 @@ fn check_layout(entry: &[u8], least: u32) -> Check
     ensures { λ r. ⌜ r ≡ decide Passed (entryLayoutRows (now (entry .entry)) least) ⌝ }
 {
     let invalid = ProtocolError::InvalidState;
-    let len = u16_at(entry, 0) as usize;
-    let parts = 48 + u16_at(entry, 44) as usize + u16_at(entry, 46) as usize;
+    let len = entry_length_of(entry) as usize;
+    let parts = 48 + key_length_of(entry) as usize + aux_length_of(entry) as usize;
     Check::Passed
         .require(len == parts, invalid)
         .require(len <= entry.len(), invalid)
-        .require(least <= u16_at(entry, 2) as u32, invalid)
+        .require(least <= entry_slot_of(entry) as u32, invalid)
 }
 
-// The policy fields of the entry at the front of the bytes.
-fn check_fields(entry: &[u8], check: Check) -> Check
-    ensures { λ r. ⌜ r ≡ decide check (entryFieldRows (now (entry .entry))) ⌝ }
+// The checks of an entry's fields, where it is read or is to be written.
+pub fn check_entry_fields(check: Check, fields: EntryFields) -> Check
+    ensures { λ r. ⌜ r ≡ decide check (entryFieldRows fields) ⌝ }
 {
     let invalid = ProtocolError::InvalidState;
     let verifier = ProtocolError::InvalidVerifierRef;
     check
-        .require(1 <= u16_at(entry, 8), invalid)
-        .require(u16_at(entry, 6) <= CAP_KNOWN_MASK, invalid)
-        .require(u8_at(entry, 10) <= 1, verifier)
-        .require(u8_at(entry, 11) == VERIFIER_ABI_V1, verifier)
+        .require(1 <= fields.weight, invalid)
+        .require(fields.capabilities <= CAP_KNOWN_MASK, invalid)
+        .require(fields.verifier_hash_type <= 1, verifier)
+        .require(fields.verifier_abi == VERIFIER_ABI_V1, verifier)
         .require(
-            is_supported_algorithm(u16_at(entry, 4)),
+            is_supported_algorithm(fields.algorithm_id),
             ProtocolError::UnsupportedAlgorithm,
         )
-        .require(u16_at(entry, 44) == 32, invalid)
-        .require(1 <= u16_at(entry, 46), invalid)
+        .require(fields.key_len == 32, invalid)
+        .require(1 <= fields.aux_len, invalid)
+}
+
+fn entry_fields_of(entry: &[u8]) -> EntryFields
+    ensures { λ r. ⌜ r ≡ entryFieldsOf (now (entry .entry)) ⌝ }
+{
+    EntryFields {
+        algorithm_id: algorithm_of(entry),
+        capabilities: capabilities_of(entry),
+        weight: weight_of(entry),
+        verifier_hash_type: hash_type_of(entry),
+        verifier_abi: abi_of(entry),
+        key_len: key_length_of(entry),
+        aux_len: aux_length_of(entry),
+    }
 }
 
 // The first row stands alone, so that no read behind it looks for the end of the bytes.
@@ -92,7 +127,7 @@ pub(crate) fn check_entry(entry: &[u8], least: u32) -> Check
     if entry.len() < 48 {
         return Check::Failed(ProtocolError::InvalidState);
     }
-    check_fields(entry, check_layout(entry, least))
+    check_entry_fields(check_layout(entry, least), entry_fields_of(entry))
 }
 
 // The fields of an entry at a place whose first 48 bytes the state has.
@@ -101,19 +136,19 @@ fn entry_at(state: &[u8], at: usize) -> AuthenticatorEntry
     ensures { λ r. ⌜ r ≡ entryAt (now (state .entry)) at ⌝ }
 {
     let entry = &state[at..];
-    let key = u16_at(entry, 44) as usize;
+    let key = key_length_of(entry) as usize;
     AuthenticatorEntry {
-        slot: u16_at(entry, 2),
-        algorithm_id: u16_at(entry, 4),
-        capabilities: u16_at(entry, 6),
-        weight: u16_at(entry, 8),
-        verifier_hash_type: u8_at(entry, 10),
-        verifier_abi: u8_at(entry, 11),
-        verifier_code_hash: at + 12,
-        key_id: at + 48,
+        slot: entry_slot_of(entry),
+        algorithm_id: algorithm_of(entry),
+        capabilities: capabilities_of(entry),
+        weight: weight_of(entry),
+        verifier_hash_type: hash_type_of(entry),
+        verifier_abi: abi_of(entry),
+        verifier_code_hash: at + CODE_HASH_OFFSET,
+        key_id: at + KEY_OFFSET,
         key_len: key,
-        aux: at + 48 + key,
-        aux_len: u16_at(entry, 46) as usize,
+        aux: at + KEY_OFFSET + key,
+        aux_len: aux_length_of(entry) as usize,
     }
 }
 
@@ -123,8 +158,8 @@ pub(crate) fn cursor_behind(state: &[u8], at: usize) -> EntryCursor
 {
     let entry = &state[at..];
     EntryCursor {
-        offset: at + u16_at(entry, 0) as usize,
-        least: u16_at(entry, 2) as u32 + 1,
+        offset: at + entry_length_of(entry) as usize,
+        least: entry_slot_of(entry) as u32 + 1,
     }
 }
 

@@ -4,8 +4,15 @@ use octets::u8_at;
 use octets::u16_at;
 use octets::u32_at;
 use octets::u64_at;
+use protocol::STATE_FLAG_RECOVERY_ENABLED;
+use protocol::STATE_FLAG_SESSION_ENABLED;
 ghost use mathlib.Core.Path.{_≡_};
-ghost use Rattle.account_state.specs.Fields.{stateMagicOf, stateVersionOf, flagsOf, stateHeaderLengthOf, sequenceOf, spendThresholdOf, rotateThresholdOf, recoveryThresholdOf, entryCountOf, stateReservedOf, recoverySinceOf, entryLengthOf, entrySlotOf, algorithmOf, capabilitiesOf, weightOf, hashTypeOf, abiOf, codeHashOf, keyLengthOf, auxLengthOf, keyOf, auxOf};
+ghost use Rattle.account_state.specs.Fields.{stateMagicOf, stateVersionOf, flagsOf, recoveryEnabled, sessionEnabled, stateHeaderLengthOf, sequenceOf, spendThresholdOf, rotateThresholdOf, recoveryThresholdOf, entryCountOf, stateReservedOf, recoverySinceOf, entryLengthOf, entrySlotOf, algorithmOf, capabilitiesOf, weightOf, hashTypeOf, abiOf, codeHashOf, keyLengthOf, auxLengthOf, keyOf, auxOf};
+
+// Where an entry's code hash begins, and where its key does, behind the numbers.
+pub(crate) const CODE_HASH_OFFSET: usize = 12;
+
+pub(crate) const KEY_OFFSET: usize = 48;
 
 pub(crate) fn state_magic_of(state: &[u8]) -> u32
     ensures { λ r. ⌜ r ≡ stateMagicOf (now (state .entry)) ⌝ }
@@ -23,6 +30,18 @@ pub fn flags_of(state: &[u8]) -> u8
     ensures { λ r. ⌜ r ≡ flagsOf (now (state .entry)) ⌝ }
 {
     u8_at(state, 5)
+}
+
+pub fn recovery_enabled(flags: u8) -> bool
+    ensures { λ r. ⌜ r ≡ recoveryEnabled flags ⌝ }
+{
+    flags / STATE_FLAG_RECOVERY_ENABLED % 2 == 1
+}
+
+pub fn session_enabled(flags: u8) -> bool
+    ensures { λ r. ⌜ r ≡ sessionEnabled flags ⌝ }
+{
+    flags / STATE_FLAG_SESSION_ENABLED % 2 == 1
 }
 
 pub(crate) fn state_header_length_of(state: &[u8]) -> u16
@@ -118,7 +137,7 @@ pub(crate) fn abi_of(entry: &[u8]) -> u8
 pub fn code_hash_of(entry: &[u8]) -> &[u8]
     ensures { λ r. ⌜ now r ≡ codeHashOf (now (entry .entry)) ⌝ }
 {
-    part(entry, 12, 32)
+    part(entry, CODE_HASH_OFFSET, 32)
 }
 
 pub(crate) fn key_length_of(entry: &[u8]) -> u16
@@ -136,12 +155,12 @@ pub(crate) fn aux_length_of(entry: &[u8]) -> u16
 pub fn key_of(entry: &[u8]) -> &[u8]
     ensures { λ r. ⌜ now r ≡ keyOf (now (entry .entry)) ⌝ }
 {
-    part(entry, 48, key_length_of(entry) as usize)
+    part(entry, KEY_OFFSET, key_length_of(entry) as usize)
 }
 
 pub fn aux_of(entry: &[u8]) -> &[u8]
     ensures { λ r. ⌜ now r ≡ auxOf (now (entry .entry)) ⌝ }
 {
-    let start = 48 + key_length_of(entry) as usize;
+    let start = KEY_OFFSET + key_length_of(entry) as usize;
     part(entry, start, aux_length_of(entry) as usize)
 }

@@ -1,8 +1,15 @@
 // The header of an account state.
-use octets::u8_at;
-use octets::u16_at;
-use octets::u32_at;
-use octets::u64_at;
+use crate::fields::entry_count_of;
+use crate::fields::flags_of;
+use crate::fields::recovery_since_of;
+use crate::fields::recovery_threshold_of;
+use crate::fields::rotate_threshold_of;
+use crate::fields::sequence_of;
+use crate::fields::spend_threshold_of;
+use crate::fields::state_header_length_of;
+use crate::fields::state_magic_of;
+use crate::fields::state_reserved_of;
+use crate::fields::state_version_of;
 use protocol::ACCOUNT_STATE_HEADER_LEN;
 use protocol::ACCOUNT_STATE_MAGIC;
 use protocol::ACCOUNT_STATE_MAX_LEN;
@@ -41,20 +48,20 @@ pub(crate) fn check_head(state: &[u8]) -> Check
     if state.len() < ACCOUNT_STATE_HEADER_LEN {
         return Check::Failed(invalid);
     }
-    let count = u8_at(state, 22);
+    let count = entry_count_of(state);
     Check::Passed
         .require(state.len() <= ACCOUNT_STATE_MAX_LEN, invalid)
-        .require(u32_at(state, 0) == ACCOUNT_STATE_MAGIC, invalid)
+        .require(state_magic_of(state) == ACCOUNT_STATE_MAGIC, invalid)
         .require(
-            u8_at(state, 4) == ACCOUNT_STATE_VERSION,
+            state_version_of(state) == ACCOUNT_STATE_VERSION,
             ProtocolError::UnsupportedVersion,
         )
-        .require(u8_at(state, 5) <= STATE_FLAGS_KNOWN_MASK, invalid)
+        .require(flags_of(state) <= STATE_FLAGS_KNOWN_MASK, invalid)
         .require(
-            u16_at(state, 6) as usize == ACCOUNT_STATE_HEADER_LEN,
+            state_header_length_of(state) as usize == ACCOUNT_STATE_HEADER_LEN,
             invalid,
         )
-        .require(u8_at(state, 23) == 0, invalid)
+        .require(state_reserved_of(state) == 0, invalid)
         .require(1 <= count, invalid)
         .require(count as usize <= AUTHENTICATOR_MAX_COUNT, invalid)
 }
@@ -66,13 +73,13 @@ pub(crate) fn header_at(state: &[u8]) -> StateHeader
 {
     let head = &state[0..ACCOUNT_STATE_HEADER_LEN];
     StateHeader {
-        flags: u8_at(head, 5),
-        sequence: u64_at(head, 8),
-        spend_threshold: u16_at(head, 16),
-        rotate_threshold: u16_at(head, 18),
-        recovery_threshold: u16_at(head, 20),
-        authenticator_count: u8_at(head, 22),
-        recovery_since: u64_at(head, 24),
+        flags: flags_of(head),
+        sequence: sequence_of(head),
+        spend_threshold: spend_threshold_of(head),
+        rotate_threshold: rotate_threshold_of(head),
+        recovery_threshold: recovery_threshold_of(head),
+        authenticator_count: entry_count_of(head),
+        recovery_since: recovery_since_of(head),
     }
 }
 

@@ -7,12 +7,9 @@ mod thresholds; // thresholds.rt
 
 use self::header::check_head;
 use self::header::header_at;
-use self::walk::Walk;
-use self::walk::WalkAnswer;
+use self::walk::EntriesWalk;
+use self::walk::EntriesWalkAnswer;
 use self::walk::walk_entries;
-use octets::u8_at;
-use octets::u16_at;
-use octets::u64_at;
 use protocol::Check;
 use protocol::ProtocolError;
 ghost use mathlib.Core.Path.{_≡_};
@@ -20,10 +17,12 @@ ghost use Prim.Native.Nat.{_≤_};
 ghost use lib.ListN.{length};
 ghost use Rattle.protocol.specs.Rows.{decide};
 ghost use Rattle.account_state.specs.State.{stateHeaderOf, stateAnswer, readState};
-ghost use Rattle.account_state.specs.Walk.{endFault};
+ghost use Rattle.account_state.specs.EntriesWalk.{endFault};
 pub use self::entry::AuthenticatorEntry;
 pub use self::entry::EntryCursor;
+pub use self::entry::EntryFields;
 pub use self::entry::EntryStep;
+pub use self::entry::check_entry_fields;
 pub use self::entry::next_entry;
 pub use self::fields::algorithm_of;
 pub use self::fields::aux_of;
@@ -35,10 +34,12 @@ pub use self::fields::entry_slot_of;
 pub use self::fields::flags_of;
 pub use self::fields::hash_type_of;
 pub use self::fields::key_of;
+pub use self::fields::recovery_enabled;
 pub use self::fields::recovery_since_of;
 pub use self::fields::recovery_threshold_of;
 pub use self::fields::rotate_threshold_of;
 pub use self::fields::sequence_of;
+pub use self::fields::session_enabled;
 pub use self::fields::spend_threshold_of;
 pub use self::fields::weight_of;
 pub use self::header::StateHeader;
@@ -53,23 +54,23 @@ pub enum StateAnswer {
 }
 
 // The checks after the last entry.
-fn check_end(state: &[u8], walk: Walk) -> Check
+fn check_end(state: &[u8], walk: EntriesWalk) -> Check
     ensures { λ r. ⌜ r ≡ endFault (now (state .entry)) walk ⌝ }
 {
     let summary = walk.summary;
     let check = Check::Passed.require(walk.tail == 0, ProtocolError::InvalidState);
     check.and(check_thresholds(
-        u8_at(state, 5),
-        u16_at(state, 16),
-        u16_at(state, 18),
-        u16_at(state, 20),
-        u64_at(state, 24),
+        flags_of(state),
+        spend_threshold_of(state),
+        rotate_threshold_of(state),
+        recovery_threshold_of(state),
+        recovery_since_of(state),
         summary,
     ))
 }
 
 // The answer once every entry passed.
-fn state_end(state: &[u8], walk: Walk) -> StateAnswer
+fn state_end(state: &[u8], walk: EntriesWalk) -> StateAnswer
     requires { ⌜ 32 ≤ length (now state) ⌝ }
     ensures { λ r. ⌜ r ≡ stateAnswer (endFault (now (state .entry)) walk) (stateHeaderOf (now (state .entry))) (walk .summary) ⌝ }
 {
@@ -88,9 +89,9 @@ pub fn validate_state(state: &[u8]) -> StateAnswer
 {
     match check_head(state) {
         Check::Failed(error) => StateAnswer::Refused(error),
-        Check::Passed => match walk_entries(state, u8_at(state, 22)) {
-            WalkAnswer::Refused(error) => StateAnswer::Refused(error),
-            WalkAnswer::Walked(walk) => state_end(state, walk),
+        Check::Passed => match walk_entries(state, entry_count_of(state)) {
+            EntriesWalkAnswer::Refused(error) => StateAnswer::Refused(error),
+            EntriesWalkAnswer::Walked(walk) => state_end(state, walk),
         },
     }
 }

@@ -1,4 +1,5 @@
 // The thresholds of a state beside the weights of their holders.
+use crate::fields::recovery_enabled;
 use crate::walk::StateSummary;
 use protocol::Check;
 use protocol::ProtocolError;
@@ -12,7 +13,7 @@ fn check_recovery(check: Check, flags: u8, threshold: u16, since: u64, weight: u
 {
     let unmet = ProtocolError::UnsatisfiableThreshold;
     let invalid = ProtocolError::InvalidState;
-    if flags % 2 == 1 {
+    if recovery_enabled(flags) {
         check
             .require(1 <= threshold, unmet)
             .require(threshold as u32 <= weight, unmet)
@@ -32,7 +33,7 @@ pub fn check_thresholds(
     since: u64,
     summary: StateSummary,
 ) -> Check
-    ensures { λ r. ⌜ r ≡ decide Passed (thresholdRows flags spend rotate recovery since (summary .«spend_weight») (summary .«rotate_weight») (summary .«recovery_weight»)) ⌝ }
+    ensures { λ r. ⌜ r ≡ decide Passed (thresholdRows flags spend rotate recovery since summary) ⌝ }
 {
     let unmet = ProtocolError::UnsatisfiableThreshold;
     let check = Check::Passed

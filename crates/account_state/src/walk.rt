@@ -2,7 +2,8 @@
 use crate::entry::EntryCursor;
 use crate::entry::check_entry;
 use crate::entry::cursor_behind;
-use octets::u16_at;
+use crate::fields::capabilities_of;
+use crate::fields::weight_of;
 use protocol::CAP_RECOVERY;
 use protocol::CAP_ROTATE;
 use protocol::CAP_SPEND;
@@ -10,9 +11,10 @@ use protocol::Check;
 use protocol::ProtocolError;
 ghost use mathlib.Core.Path.{_≡_};
 ghost use Prim.Native.Nat.{_+_, _≤_, _<_};
-ghost use lib.ListN.{length, drop};
+ghost use lib.ListN.{length};
+ghost use Rattle.account_state.specs.Fields.{entryBytesOf};
 ghost use Rattle.account_state.specs.Reading.{capableShare};
-ghost use Rattle.account_state.specs.Walk.{Light, withEntry, walkEntries};
+ghost use Rattle.account_state.specs.EntriesWalk.{Light, withEntry, walkEntries};
 
 pub struct StateSummary {
     pub spend_weight: u32,
@@ -20,13 +22,14 @@ pub struct StateSummary {
     pub recovery_weight: u32,
 }
 
-pub(crate) struct Walk {
+// The bytes behind the last entry, and the weights of all.
+pub(crate) struct EntriesWalk {
     pub tail: usize,
     pub summary: StateSummary,
 }
 
-pub(crate) enum WalkAnswer {
-    Walked(Walk),
+pub(crate) enum EntriesWalkAnswer {
+    Walked(EntriesWalk),
     Refused(ProtocolError),
 }
 
@@ -51,9 +54,9 @@ fn with_entry(summary: StateSummary, capabilities: u16, weight: u16) -> StateSum
     }
 }
 
-pub(crate) fn walk_entries(state: &[u8], count: u8) -> WalkAnswer
+pub(crate) fn walk_entries(state: &[u8], count: u8) -> EntriesWalkAnswer
     requires { ⌜ (32 ≤ length (now state)) × (count ≤ 16) ⌝ }
-    ensures { λ r. ⌜ r ≡ walkEntries count (drop 32 (now (state .entry))) ⌝ }
+    ensures { λ r. ⌜ r ≡ walkEntries count (entryBytesOf (now (state .entry))) ⌝ }
 {
     let mut cursor = EntryCursor::first();
     let mut summary = StateSummary {
@@ -66,15 +69,15 @@ pub(crate) fn walk_entries(state: &[u8], count: u8) -> WalkAnswer
         let at = cursor.offset;
         let entry = &state[at..];
         match check_entry(entry, cursor.least) {
-            Check::Failed(error) => return WalkAnswer::Refused(error),
+            Check::Failed(error) => return EntriesWalkAnswer::Refused(error),
             Check::Passed => {
-                summary = with_entry(summary, u16_at(entry, 6), u16_at(entry, 8));
+                summary = with_entry(summary, capabilities_of(entry), weight_of(entry));
                 cursor = cursor_behind(state, at);
             }
         }
         left -= 1;
     }
-    WalkAnswer::Walked(Walk {
+    EntriesWalkAnswer::Walked(EntriesWalk {
         tail: state.len() - cursor.offset,
         summary,
     })

@@ -1,34 +1,34 @@
 -- Slices that agree: the state that they say has the length that they say, and the writer's rows come down to the state's own.
 -- Assumes nothing.
-use mathlib.Core.Path.{_≡_, refl, sym, ap, _∙_}
-use mathlib.Core.List.{List, _∷_, [], _++_, append-assoc}
+use mathlib.Core.Path.{_≡_, sym, ap, _∙_}
+use mathlib.Core.List.{List, _∷_, [], append-assoc}
 use Prim.Native.Nat.{ℕ, _+_, _*_, _^_, _≤_, _<_}
 use native.Mathlib.Omega.{arith}
 use borrow.Author.Tests.{leb-true, eqb-true}
 use lib.Dec.{leb}
 use lib.ListN.{length, getD, length-append}
 use Rattle.octets.specs.Le.{Bytes}
-use Rattle.octets.specs.Layout.{layoutBytes}
-use Rattle.protocol.specs.Rows.{Row, row, _▷_, decide, AllPass}
+use Rattle.protocol.specs.Rows.{row, _▷_, decide, AllPass}
 use Rattle.protocol.specs.Write.{writeFault, writeAnswer, afterWrite}
 use Rattle.protocol.specs.declared.check.WriteAnswer.the-variants.{Refused}
 use Rattle.protocol.specs.declared.error.ProtocolError.{ProtocolError}
 use Rattle.protocol.specs.declared.error.ProtocolError.the-variants.{BufferTooShort}
 use Rattle.protocol.specs.declared.check.Check.{Check}
 use Rattle.protocol.specs.declared.check.Check.the-variants.{Passed, Failed}
-use Rattle.protocol.proofs.AllPass.{decide-append, decide-failed, all-pass-passed}
+use Rattle.protocol.proofs.AllPass.{decide-append, decide-failed}
 use Rattle.account_state.specs.Reading.{StateReading, StateTyped, stateHead, stateBytes}
 use Rattle.account_state.specs.State.{stateRows, stateFault}
-use Rattle.account_state_writer.specs.Writer.{entryCount, entriesFrom, neededBytes, stateTotal, sliceRows, stateWriterRows, stateFrom, validWritten, validStored, stateWritten, stateStored}
-use Rattle.account_state_writer.proofs.Lent.{length-all, length-head, length-entries, entries-typed}
+use Rattle.account_state_writer.specs.Slices.{lentCount}
+use Rattle.account_state_writer.specs.Writer.{entriesFrom, neededBytes, stateTotal, sliceRows, stateWriterRows, stateFrom, validWritten, validStored, stateWritten, stateStored}
+use Rattle.account_state_writer.proofs.Lent.{length-all, length-head, length-entries-from, entries-typed}
 use Rattle.account_state_writer.proofs.Checked.{state-checked}
 use Rattle.account_state_writer.specs.Checks.{stateChecks}
 
 -- what the rows say
 pub record Agreed (fields bytes : List ℕ) : Type 0 where
-  pub needed : neededBytes (entryCount fields) fields ≡ length bytes
-  pub count : entryCount fields ≤ 255
-  pub total : 32 + 14 * entryCount fields + length bytes ≤ 16384
+  pub needed : neededBytes (lentCount fields) fields ≡ length bytes
+  pub count : lentCount fields ≤ 255
+  pub total : 32 + 14 * lentCount fields + length bytes ≤ 16384
 
 pub agreed : (fields bytes : List ℕ) → AllPass (sliceRows fields bytes) → Agreed fields bytes
 unfolding sliceRows stateTotal
@@ -39,29 +39,24 @@ module _ (flags sequence spend rotate recovery since : ℕ) (fields bytes : List
   abbrev r : StateReading
   r = stateFrom flags sequence spend rotate recovery since fields bytes
 
-  pub length-state : Bytes bytes → neededBytes (entryCount fields) fields ≡ length bytes → length (stateBytes r) ≡ stateTotal fields bytes
+  pub length-state : Bytes bytes → neededBytes (lentCount fields) fields ≡ length bytes → length (stateBytes r) ≡ stateTotal fields bytes
   unfolding stateBytes stateHead stateFrom stateTotal
   length-state b n =
-      let e = length-all (entryCount fields) fields bytes b (omega arith) in
+      let e = length-all (lentCount fields) fields bytes b (omega arith) in
       rw (length-append, length-head, e) (omega arith)
 
   -- what the checks find, with the room, is what the state's rows find
-  pub state-found : flags < 2 ^ 8 → sequence < 2 ^ 64 → spend < 2 ^ 16 → rotate < 2 ^ 16 → recovery < 2 ^ 16 → since < 2 ^ 64
+  pub checks-found : flags < 2 ^ 8 → sequence < 2 ^ 64 → spend < 2 ^ 16 → rotate < 2 ^ 16 → recovery < 2 ^ 16 → since < 2 ^ 64
       → ((i : ℕ) → getD fields i 0 < 65536) → Bytes bytes → Agreed fields bytes → (room : ℕ)
-      → (decide Passed (stateChecks flags spend rotate recovery since (entriesFrom (entryCount fields) fields bytes)) ▷ row (leb (stateTotal fields bytes) room) BufferTooShort)
+      → (decide Passed (stateChecks flags spend rotate recovery since (entriesFrom (lentCount fields) fields bytes)) ▷ row (leb (stateTotal fields bytes) room) BufferTooShort)
       ≡ writeFault (stateRows (stateBytes r)) (stateTotal fields bytes) room
   unfolding stateFrom stateTotal stateFault writeFault decide
-  state-found h₁ h₂ h₃ h₄ h₅ h₆ f b g room =
-      let z = entries-typed (entryCount fields) fields bytes f b (omega (arith, g .needed)) (omega (arith, g .total)) in
+  checks-found h₁ h₂ h₃ h₄ h₅ h₆ f b g room =
+      let z = entries-typed (lentCount fields) fields bytes f b (omega (arith, g .needed)) (omega (arith, g .total)) in
       let y : StateTyped r =
       record {
-        flags = h₁;
-        sequence = h₂;
-        spend = h₃;
-        rotate = h₄;
-        recovery = h₅;
-        since = h₆;
-        count = rw (length-entries (entryCount fields) fields bytes) (omega (arith, g .count));
+        numbers = record { flags = h₁; sequence = h₂; spend = h₃; rotate = h₄; recovery = h₅; since = h₆ };
+        count = rw (length-entries-from (lentCount fields) fields bytes) (omega (arith, g .count));
         entries = z .0;
       } in
       let e = state-checked r y (z .1) (rw (length-state b (g .needed)) (g .total)) in

@@ -17,14 +17,14 @@ use Rattle.protocol.specs.declared.error.ProtocolError.the-variants.{InvalidSta
 use Rattle.protocol.specs.declared.check.Check.{Check}
 use Rattle.protocol.specs.declared.check.Check.the-variants.{Passed, Failed}
 use Rattle.protocol.proofs.AllPass.{decide-append, decide-failed, decide-then, passed-all-pass}
-use Rattle.account_state.specs.Fields.{auxLengthOf, entryLengthOf, entrySlotOf, keyLengthOf, abiOf, algorithmOf, capabilitiesOf, entryCountOf, flagsOf, hashTypeOf, recoverySinceOf, recoveryThresholdOf, rotateThresholdOf, spendThresholdOf, stateMagicOf, stateReservedOf, stateVersionOf, weightOf}
-use Rattle.account_state.specs.Reading.{EntryReading, StateReading, EntryTyped, EntriesTyped, StateTyped, stateMagic, entryHeadFields, entryLengthFields, entryBytes, entriesBytes, stateHeaderFields, stateHead, stateBytes, entryOf, capableWeight}
-use Rattle.account_state.specs.State.{stateHeaderRows, entryLayoutRows, entryFieldRows, entryRows, entriesRows, behindEntries, thresholdRows, stateEndRows, stateTailRows, stateRows, stateFault}
+use Rattle.account_state.specs.Fields.{auxLengthOf, entryLengthOf, entrySlotOf, keyLengthOf, abiOf, algorithmOf, capabilitiesOf, hashTypeOf, stateHeaderLengthOf, stateMagicOf, stateReservedOf, stateVersionOf, weightOf}
+use Rattle.account_state.specs.Reading.{EntryReading, StateReading, EntryTyped, EntriesTyped, StateTyped, stateMagic, entryLengthFields, entryBytes, entriesBytes, stateHeaderFields, stateHead, stateBytes, entryOf}
+use Rattle.account_state.specs.State.{stateHeaderRows, entryLayoutRows, entryFieldRows, entryRows, entriesRows, behindEntries, thresholdRows, summaryOf, stateEndRows, stateTailRows, stateRows, stateFault}
 use Rattle.account_state.proofs.Inverse.{Keys}
-use Rattle.account_state.proofs.Unique.{lengths-read, size-read, entry-read, entries-read, head-numbers, behind-head}
-use Rattle.account_state_writer.specs.Checks.{headChecks, entryChecks, entriesChecks, stateChecks, lentWeight}
+use Rattle.account_state.proofs.Unique.{HeaderRead, length-entry-bytes, lengths-read, size-read, entry-read, entries-read, header-read, behind-head}
+use Rattle.account_state_writer.specs.Checks.{headChecks, entryChecks, entriesChecks, stateChecks, lentSummary}
 use Rattle.account_state_writer.specs.Writer.{entriesFrom}
-use Rattle.account_state_writer.proofs.Lent.{length-entries, weight-lent}
+use Rattle.account_state_writer.proofs.Lent.{length-entries-from, summary-lent}
 
 -- a row that passes finds nothing
 row-true : (c : Check) (e : ProtocolError) → c ▷ row true e ≡ c
@@ -42,11 +42,7 @@ module _ (e : EntryReading) (t : List ℕ) (y : EntryTyped e) (k : length (e .ke
   s = entryBytes e ++ t
 
   size : length (entryBytes e) ≡ 80 + length (e .aux)
-  unfolding entryBytes entryHeadFields entryLengthFields
-  size =
-      let n : length (layoutBytes (entryHeadFields e)) ≡ 12 = length-numbers (entryHeadFields e) in
-      let m : length (layoutBytes (entryLengthFields e)) ≡ 4 = length-numbers (entryLengthFields e) in
-      simp length-append (omega (arith, n, m, y .codeHash, k))
+  size = let l = length-entry-bytes e (y .codeHash) in omega arith
 
   slot-read : entrySlotOf s ≡ e .slot
   unfolding entryOf
@@ -56,20 +52,19 @@ module _ (e : EntryReading) (t : List ℕ) (y : EntryTyped e) (k : length (e .ke
   unfolding entryRows entryLayoutRows entryFieldRows entryChecks entryOf entryLengthFields layoutAt decide
   entry-checked c least =
       let r = entry-read e t s y refl in
-      let m : keyLengthOf s ≡ 32 = ap (fieldValue 0) (lengths-read e t s y refl) ∙ k in
+      let m : keyLengthOf s ≡ length (e .key) = ap (fieldValue 0) (lengths-read e t s y refl) in
       let a : auxLengthOf s ≡ length (e .aux) = ap (fieldValue 1) (lengths-read e t s y refl) in
       let z : entryLengthOf s ≡ 80 + length (e .aux) = size-read e t s y refl ∙ size in
       let l : length s ≡ 80 + length (e .aux) + length t = length-append (entryBytes e) t ∙ ap (λ (n : ℕ). n + length t) size in
       let e₁ : leb 48 (length s) ≡ true = le-leb 48 (length s) (omega arith) in
       let e₂ : eqb (entryLengthOf s) (48 + keyLengthOf s + auxLengthOf s) ≡ true = eq-eqb (entryLengthOf s) (48 + keyLengthOf s + auxLengthOf s) (omega arith) in
       let e₃ : leb (entryLengthOf s) (length s) ≡ true = le-leb (entryLengthOf s) (length s) (omega arith) in
-      let e₄ : eqb (keyLengthOf s) 32 ≡ true = eq-eqb (keyLengthOf s) 32 m in
       let f₁ : algorithmOf s ≡ e .algorithm = ap (λ (x : EntryReading). x .algorithm) r in
       let f₂ : capabilitiesOf s ≡ e .capabilities = ap (λ (x : EntryReading). x .capabilities) r in
       let f₃ : weightOf s ≡ e .weight = ap (λ (x : EntryReading). x .weight) r in
       let f₄ : hashTypeOf s ≡ e .hashType = ap (λ (x : EntryReading). x .hashType) r in
       let f₅ : abiOf s ≡ e .abi = ap (λ (x : EntryReading). x .abi) r in
-      rw (e₁, e₂, e₃, e₄, a, slot-read, f₁, f₂, f₃, f₄, f₅) (simp row-true)
+      rw (e₁, e₂, e₃, m, a, slot-read, f₁, f₂, f₃, f₄, f₅) (simp row-true)
 
 -- entries one behind another
 entries-checked : (es : List EntryReading) → EntriesTyped es → Keys es → (c : Check) (least : ℕ)
@@ -96,49 +91,38 @@ module _ (r : StateReading) (y : StateTyped r) (k : Keys (r .entries)) (h : leng
   abbrev n : ℕ
   n = length (r .entries)
 
-  flags-read : flagsOf b ≡ r .flags
-  unfolding stateHead stateHeaderFields layoutAt
-  flags-read = ap (fieldValue 2) (head-numbers r y)
-
-  count-read : entryCountOf b ≡ n
-  unfolding stateHead stateHeaderFields layoutAt
-  count-read = ap (fieldValue 8) (head-numbers r y)
+  abbrev m : HeaderRead r
+  m = header-read r y
 
   present : 32 ≤ length b
   unfolding stateBytes stateHead stateHeaderFields
   present =
-      let m : length (layoutBytes (stateHead r)) ≡ 32 = length-numbers (stateHead r) in
-      rw (length-append, m) (omega arith)
+      let l : length (layoutBytes (stateHead r)) ≡ 32 = length-numbers (stateHead r) in
+      rw (length-append, l) (omega arith)
 
   head-checked : decide Passed (stateHeaderRows b) ≡ decide Passed (headChecks (r .flags) n)
-  unfolding stateHeaderRows headChecks stateHead stateHeaderFields layoutAt decide
+  unfolding stateHeaderRows headChecks decide
   head-checked =
-      let m = head-numbers r y in
       let e₁ : leb 32 (length b) ≡ true = le-leb 32 (length b) present in
       let e₂ : leb (length b) 16384 ≡ true = le-leb (length b) 16384 h in
-      let e₃ : eqb (stateMagicOf b) stateMagic ≡ true = eq-eqb (stateMagicOf b) stateMagic (ap (fieldValue 0) m) in
-      let e₄ : eqb (stateVersionOf b) 1 ≡ true = eq-eqb (stateVersionOf b) 1 (ap (fieldValue 1) m) in
-      let e₅ : eqb (capabilitiesOf b) 32 ≡ true = eq-eqb (capabilitiesOf b) 32 (ap (fieldValue 3) m) in
-      let e₆ : eqb (stateReservedOf b) 0 ≡ true = eq-eqb (stateReservedOf b) 0 (ap (fieldValue 9) m) in
-      rw (e₁, e₂, e₃, e₄, e₅, e₆, flags-read, count-read) (simp row-true)
+      let e₃ : eqb (stateMagicOf b) stateMagic ≡ true = eq-eqb (stateMagicOf b) stateMagic (m .magic) in
+      let e₄ : eqb (stateVersionOf b) 1 ≡ true = eq-eqb (stateVersionOf b) 1 (m .version) in
+      let e₅ : eqb (stateHeaderLengthOf b) 32 ≡ true = eq-eqb (stateHeaderLengthOf b) 32 (m .size) in
+      let e₆ : eqb (stateReservedOf b) 0 ≡ true = eq-eqb (stateReservedOf b) 0 (m .reserved) in
+      rw (e₁, e₂, e₃, e₄, e₅, e₆, m .flags, m .count) (simp row-true)
 
   end-checked : (c : Check) → decide c (stateTailRows b n (entriesBytes (r .entries)))
-      ≡ decide c (thresholdRows (r .flags) (r .spend) (r .rotate) (r .recovery) (r .since) (capableWeight 1 (r .entries)) (capableWeight 2 (r .entries)) (capableWeight 4 (r .entries)))
-  unfolding stateTailRows stateEndRows stateHead stateHeaderFields layoutAt decide
+      ≡ decide c (thresholdRows (r .flags) (r .spend) (r .rotate) (r .recovery) (r .since) (summaryOf (r .entries)))
+  unfolding stateTailRows stateEndRows decide
   end-checked c =
-      let m = head-numbers r y in
-      let f₁ : spendThresholdOf b ≡ r .spend = ap (fieldValue 5) m in
-      let f₂ : rotateThresholdOf b ≡ r .rotate = ap (fieldValue 6) m in
-      let f₃ : recoveryThresholdOf b ≡ r .recovery = ap (fieldValue 7) m in
-      let f₄ : recoverySinceOf b ≡ r .since = ap (fieldValue 10) m in
-      rw (entries-behind (r .entries) (y .entries), entries-read (r .entries) (y .entries), flags-read, f₁, f₂, f₃, f₄)
-      (ap (λ (x : Check). decide x (thresholdRows (r .flags) (r .spend) (r .rotate) (r .recovery) (r .since) (capableWeight 1 (r .entries)) (capableWeight 2 (r .entries)) (capableWeight 4 (r .entries)))) (row-true c InvalidState))
+      rw (entries-behind (r .entries) (y .entries), entries-read (r .entries) (y .entries), m .flags, m .spend, m .rotate, m .recovery, m .since)
+      (ap (λ (x : Check). decide x (thresholdRows (r .flags) (r .spend) (r .rotate) (r .recovery) (r .since) (summaryOf (r .entries)))) (row-true c InvalidState))
 
   pub state-checked : stateFault b ≡ decide Passed (stateChecks (r .flags) (r .spend) (r .rotate) (r .recovery) (r .since) (r .entries))
   unfolding stateFault stateRows stateChecks
   state-checked =
       decide-append Passed (stateHeaderRows b) _
-      ∙ (rw (head-checked, count-read, behind-head r)
+      ∙ (rw (head-checked, m .count, behind-head r)
       (decide-append (decide Passed (headChecks (r .flags) n)) (entriesRows n (entriesBytes (r .entries)) 0) _
       ∙ (rw (entries-checked (r .entries) (y .entries) k (decide Passed (headChecks (r .flags) n)) 0) (end-checked _)
       ∙ sym (decide-append (decide Passed (headChecks (r .flags) n)) (entriesChecks (r .entries) 0) _)))
@@ -155,13 +139,13 @@ module _ (flags spend rotate recovery since count : ℕ) (fields bytes : List �
 
   pub head-failed : (x : ProtocolError) → decide Passed (headChecks flags count) ≡ Failed x → decide Passed (stateChecks flags spend rotate recovery since es) ≡ Failed x
   unfolding stateChecks
-  head-failed x h = decide-append Passed (headChecks flags (length es)) _ ∙ rw (length-entries count fields bytes, h) (decide-failed _ x)
+  head-failed x h = decide-append Passed (headChecks flags (length es)) _ ∙ rw (length-entries-from count fields bytes, h) (decide-failed _ x)
 
   pub head-passed : decide Passed (headChecks flags count) ≡ Passed
       → decide Passed (stateChecks flags spend rotate recovery since es)
-      ≡ (decide Passed (entriesChecks es 0) then decide Passed (thresholdRows flags spend rotate recovery since (lentWeight 1 count fields) (lentWeight 2 count fields) (lentWeight 4 count fields)))
+      ≡ (decide Passed (entriesChecks es 0) then decide Passed (thresholdRows flags spend rotate recovery since (lentSummary count fields)))
   unfolding stateChecks
   head-passed h =
       decide-append Passed (headChecks flags (length es)) _
-      ∙ rw (length-entries count fields bytes, h, weight-lent 1 count fields bytes, weight-lent 2 count fields bytes, weight-lent 4 count fields bytes)
+      ∙ rw (length-entries-from count fields bytes, h, summary-lent count fields bytes)
       (decide-append Passed (entriesChecks es 0) _ ∙ decide-then (decide Passed (entriesChecks es 0)) _)

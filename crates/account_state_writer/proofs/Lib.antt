@@ -1,4 +1,4 @@
 pub mod Lent
 pub mod Checked
 pub mod Agreed
-pub mod Theorem
+pub mod WritesBack

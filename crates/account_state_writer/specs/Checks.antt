@@ -1,30 +1,38 @@
 -- Private: no public contract cites this file.
--- The checks of a state that its writer laid out: those of the state's rows that such a state can fail, in their order, said of
--- what the slices say. `state-checked` equates them with the state's own rows.
+-- The checks of a state that its writer laid out: the state's rows in their order, without those on its layout, said of what the
+-- slices say. `state-checked` equates them with the state's own rows.
 use Prim.Native.Nat.{ℕ, zero, suc, _+_}
 use mathlib.Core.List.{List, [], _∷_, _++_}
-use lib.Dec.{leb, eqb}
-use lib.ListN.{length, drop, getD}
-use Rattle.protocol.specs.Policy.{isSupportedAlgorithm}
+use lib.Dec.{leb}
+use lib.ListN.{length, drop}
 use Rattle.protocol.specs.Rows.{Row, row}
-use Rattle.protocol.specs.declared.error.ProtocolError.the-variants.{InvalidState, InvalidVerifierRef, UnsupportedAlgorithm}
-use Rattle.account_state.specs.Reading.{EntryReading, capableShare, capableWeight}
-use Rattle.account_state.specs.State.{thresholdRows}
+use Rattle.protocol.specs.declared.error.ProtocolError.the-variants.{InvalidState}
+use Rattle.account_state.specs.Reading.{EntryReading, capableShare}
+use Rattle.account_state.specs.State.{entryFieldRows, thresholdRows, summaryOf}
+use Rattle.account_state.specs.declared.entry.EntryFields.{EntryFields}
+use Rattle.account_state.specs.declared.walk.StateSummary.{StateSummary}
+use Rattle.account_state_writer.specs.Slices.{lentWidth, lentCapabilities, lentWeight}
 
 unfoldable pub headChecks : ℕ → ℕ → List Row
 headChecks flags count =
     row (leb flags 3) InvalidState ∷ row (leb 1 count) InvalidState ∷ row (leb count 16) InvalidState ∷ []
 
+-- the fields of an entry that its reading says
+abbrev pub readingFields : EntryReading → EntryFields
+readingFields e =
+    record {
+      «algorithm_id» = e .algorithm;
+      capabilities = e .capabilities;
+      weight = e .weight;
+      «verifier_hash_type» = e .hashType;
+      «verifier_abi» = e .abi;
+      «key_len» = length (e .key);
+      «aux_len» = length (e .aux);
+    }
+
 unfoldable pub entryChecks : EntryReading → ℕ → List Row
 entryChecks e least =
-    row (leb least (e .slot)) InvalidState
-    ∷ row (leb 1 (e .weight)) InvalidState
-    ∷ row (leb (e .capabilities) 0x000f) InvalidState
-    ∷ row (leb (e .hashType) 1) InvalidVerifierRef
-    ∷ row (eqb (e .abi) 1) InvalidVerifierRef
-    ∷ row (isSupportedAlgorithm (e .algorithm)) UnsupportedAlgorithm
-    ∷ row (leb 1 (length (e .aux))) InvalidState
-    ∷ []
+    row (leb least (e .slot)) InvalidState ∷ entryFieldRows (readingFields e)
 
 unfoldable pub entriesChecks : List EntryReading → ℕ → List Row
 entriesChecks [] least = []
@@ -33,9 +41,18 @@ entriesChecks (e ∷ es) least = entryChecks e least ++ entriesChecks es (e .slo
 unfoldable pub stateChecks : ℕ → ℕ → ℕ → ℕ → ℕ → List EntryReading → List Row
 stateChecks flags spend rotate recovery since es =
     headChecks flags (length es)
-    ++ (entriesChecks es 0 ++ thresholdRows flags spend rotate recovery since (capableWeight 1 es) (capableWeight 2 es) (capableWeight 4 es))
+    ++ (entriesChecks es 0 ++ thresholdRows flags spend rotate recovery since (summaryOf es))
 
 -- the weight of n entries that have a capability
-unfoldable pub lentWeight : ℕ → ℕ → List ℕ → ℕ
-lentWeight bit zero fields = 0
-lentWeight bit (suc n) fields = capableShare bit (getD fields 2 0) (getD fields 3 0) + lentWeight bit n (drop 5 fields)
+unfoldable pub lentCapableWeight : ℕ → ℕ → List ℕ → ℕ
+lentCapableWeight bit zero fields = 0
+lentCapableWeight bit (suc n) fields =
+    capableShare bit (lentCapabilities fields) (lentWeight fields) + lentCapableWeight bit n (drop lentWidth fields)
+
+unfoldable pub lentSummary : ℕ → List ℕ → StateSummary
+lentSummary n fields =
+    record {
+      «spend_weight» = lentCapableWeight 1 n fields;
+      «rotate_weight» = lentCapableWeight 2 n fields;
+      «recovery_weight» = lentCapableWeight 4 n fields;
+    }

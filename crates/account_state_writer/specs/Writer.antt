@@ -1,45 +1,41 @@
--- The writer of account states: host/src/lib.rs, `encode_state`, over lent slices of numbers and bytes.
--- `fields` has five numbers for each entry: slot, algorithm, capabilities, weight, length of aux. `bytes` has each entry's hash
--- type, ABI, code hash (32 bytes), key (32 bytes) and aux, end to end.
-use Prim.Native.Nat.{ℕ, zero, suc, _+_, _*_, _/_, _%_, _^_, _<_}
+-- The writer of account states: host/src/lib.rs, `encode_state`, over lent slices of numbers and bytes (Slices).
+use Prim.Native.Nat.{ℕ, zero, suc, _+_, _*_, _%_, _^_, _<_}
 use mathlib.Core.List.{List, [], _∷_, _++_}
 use lib.Dec.{leb, eqb}
-use lib.ListN.{length, take, drop, getD}
-use Rattle.octets.specs.Le.{numberAt, Bytes}
+use lib.ListN.{length, drop, getD}
+use Rattle.octets.specs.Le.{Bytes}
 use Rattle.octets.specs.Layout.{Field, layoutBytes}
 use Rattle.protocol.specs.Rows.{Row, row}
 use Rattle.protocol.specs.Write.{writeFault, writeAnswer, afterWrite}
 use Rattle.protocol.specs.declared.error.ProtocolError.the-variants.{InvalidState, SlicesDisagree}
 use Rattle.protocol.specs.declared.check.WriteAnswer.{WriteAnswer}
-use Rattle.account_state.specs.Reading.{EntryReading, StateReading, stateBytes}
+use Rattle.account_state.specs.Reading.{EntryReading, StateReading, StateNumbersTyped, stateBytes}
 use Rattle.account_state.specs.State.{stateRows}
+use Rattle.account_state_writer.specs.Slices.{lentWidth, lentSlot, lentAlgorithm, lentCapabilities, lentWeight, lentAuxLength, lentHashType, lentAbi, lentCodeHash, lentKey, lentAux, lentBytes, lentCount}
 
--- the length of the aux of the first entry
-abbrev pub lentAuxLength : List ℕ → ℕ
-lentAuxLength fields = getD fields 4 0
-
+-- the entry at the front of the slices
 unfoldable pub entryFrom : List ℕ → List ℕ → EntryReading
 entryFrom fields bytes =
     record {
-      slot = getD fields 0 0;
-      algorithm = getD fields 1 0;
-      capabilities = getD fields 2 0;
-      weight = getD fields 3 0;
-      hashType = numberAt bytes 0 1;
-      abi = numberAt bytes 1 1;
-      codeHash = take 32 (drop 2 bytes);
-      key = take 32 (drop 34 bytes);
-      aux = take (lentAuxLength fields) (drop 66 bytes);
+      slot = lentSlot fields;
+      algorithm = lentAlgorithm fields;
+      capabilities = lentCapabilities fields;
+      weight = lentWeight fields;
+      hashType = lentHashType bytes;
+      abi = lentAbi bytes;
+      codeHash = lentCodeHash bytes;
+      key = lentKey bytes;
+      aux = lentAux fields bytes;
     }
 
 -- the first five numbers of an entry's layout, whose key has 32 bytes
 unfoldable pub entryFieldNumbers : List ℕ → List Field
 entryFieldNumbers fields =
     record { width = 2; value = 80 + lentAuxLength fields }
-    ∷ record { width = 2; value = getD fields 0 0 }
-    ∷ record { width = 2; value = getD fields 1 0 }
-    ∷ record { width = 2; value = getD fields 2 0 }
-    ∷ record { width = 2; value = getD fields 3 0 }
+    ∷ record { width = 2; value = lentSlot fields }
+    ∷ record { width = 2; value = lentAlgorithm fields }
+    ∷ record { width = 2; value = lentCapabilities fields }
+    ∷ record { width = 2; value = lentWeight fields }
     ∷ []
 
 -- the 48 bytes before an entry's key: these numbers, the bytes of its verifier, and the lengths of key and aux
@@ -51,27 +47,24 @@ entryFront fields verifier = layoutBytes (entryFieldNumbers fields) ++ (verifier
 
 unfoldable pub entriesFrom : ℕ → List ℕ → List ℕ → List EntryReading
 entriesFrom zero fields bytes = []
-entriesFrom (suc n) fields bytes = entryFrom fields bytes ∷ entriesFrom n (drop 5 fields) (drop (66 + lentAuxLength fields) bytes)
+entriesFrom (suc n) fields bytes = entryFrom fields bytes ∷ entriesFrom n (drop lentWidth fields) (drop (lentBytes fields) bytes)
 
 -- how many bytes n entries have
 unfoldable pub neededBytes : ℕ → List ℕ → ℕ
 neededBytes zero fields = 0
-neededBytes (suc n) fields = 66 + lentAuxLength fields + neededBytes n (drop 5 fields)
-
-unfoldable pub entryCount : List ℕ → ℕ
-entryCount fields = length fields / 5
+neededBytes (suc n) fields = lentBytes fields + neededBytes n (drop lentWidth fields)
 
 -- an entry takes 14 bytes more in the state than in `bytes`: its numbers
 unfoldable pub stateTotal : List ℕ → List ℕ → ℕ
-stateTotal fields bytes = 32 + 14 * entryCount fields + length bytes
+stateTotal fields bytes = 32 + 14 * lentCount fields + length bytes
 
 -- 01: "slices that don't agree with each other are 7, before all else"; then, as in the Rust, a count that fits its byte and a
 -- state of at most 16,384 bytes
 unfoldable pub sliceRows : List ℕ → List ℕ → List Row
 sliceRows fields bytes =
-    row (eqb (length fields % 5) 0) SlicesDisagree
-    ∷ row (eqb (neededBytes (entryCount fields) fields) (length bytes)) SlicesDisagree
-    ∷ row (leb (entryCount fields) 255) InvalidState
+    row (eqb (length fields % lentWidth) 0) SlicesDisagree
+    ∷ row (eqb (neededBytes (lentCount fields) fields) (length bytes)) SlicesDisagree
+    ∷ row (leb (lentCount fields) 255) InvalidState
     ∷ row (leb (stateTotal fields bytes) 16384) InvalidState
     ∷ []
 
@@ -88,7 +81,7 @@ stateFrom flags sequence spend rotate recovery since fields bytes =
       rotate = rotate;
       recovery = recovery;
       since = since;
-      entries = entriesFrom (entryCount fields) fields bytes;
+      entries = entriesFrom (lentCount fields) fields bytes;
     }
 
 -- bytes that are a valid state are written as they are
@@ -119,12 +112,7 @@ entriesPayload (e ∷ es) = (e .hashType ∷ e .abi ∷ []) ++ (e .codeHash ++ (
 -- what a reading lends the writer are values of the types of its parameters: u8, u64, u16, and slices of u16 and of bytes whose
 -- lengths a usize holds
 pub record StateFits (r : StateReading) : Type 0 where
-  pub flags : r .flags < 2 ^ 8
-  pub sequence : r .sequence < 2 ^ 64
-  pub spend : r .spend < 2 ^ 16
-  pub rotate : r .rotate < 2 ^ 16
-  pub recovery : r .recovery < 2 ^ 16
-  pub since : r .since < 2 ^ 64
+  pub numbers : StateNumbersTyped r
   pub fields : (i : ℕ) → getD (entriesFields (r .entries)) i 0 < 2 ^ 16
   pub bytes : Bytes (entriesPayload (r .entries))
   pub lengths : (length (entriesFields (r .entries)) < 2 ^ 64) × (length (entriesPayload (r .entries)) < 2 ^ 64)

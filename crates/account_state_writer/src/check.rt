@@ -1,25 +1,34 @@
 // The checks of the state that the slices say, before a byte of it is written.
+use crate::slices::LENT_ABI_OFFSET;
+use crate::slices::LENT_ALGORITHM;
+use crate::slices::LENT_AUX_LENGTH;
+use crate::slices::LENT_AUX_OFFSET;
+use crate::slices::LENT_CAPABILITIES;
+use crate::slices::LENT_HASH_TYPE_OFFSET;
+use crate::slices::LENT_SLOT;
+use crate::slices::LENT_WEIGHT;
+use crate::slices::LENT_WIDTH;
+use account_state::EntryFields;
 use account_state::StateSummary;
+use account_state::check_entry_fields;
 use account_state::check_thresholds;
 use account_state::share;
 use protocol::AUTHENTICATOR_MAX_COUNT;
-use protocol::CAP_KNOWN_MASK;
 use protocol::CAP_RECOVERY;
 use protocol::CAP_ROTATE;
 use protocol::CAP_SPEND;
 use protocol::Check;
 use protocol::ProtocolError;
 use protocol::STATE_FLAGS_KNOWN_MASK;
-use protocol::VERIFIER_ABI_V1;
-use protocol::is_supported_algorithm;
 ghost use mathlib.Core.Path.{_≡_};
 ghost use Prim.Native.Nat.{_+_, _*_, _≤_};
 ghost use lib.ListN.{length};
 ghost use Rattle.protocol.specs.Rows.{decide};
 ghost use Rattle.protocol.specs.declared.check.Check.the-variants.{Passed};
 ghost use Rattle.account_state.specs.State.{thresholdRows};
-ghost use Rattle.account_state_writer.specs.Writer.{lentAuxLength, entryFrom, entriesFrom, neededBytes, entryCount};
-ghost use Rattle.account_state_writer.specs.Checks.{headChecks, entryChecks, entriesChecks, stateChecks, lentWeight};
+ghost use Rattle.account_state_writer.specs.Slices.{lentWidth, lentBytes, lentCount};
+ghost use Rattle.account_state_writer.specs.Writer.{entryFrom, entriesFrom, neededBytes};
+ghost use Rattle.account_state_writer.specs.Checks.{headChecks, entryChecks, entriesChecks, stateChecks, lentCapableWeight, lentSummary};
 
 fn check_head(flags: u8, count: usize) -> Check
     ensures { λ r. ⌜ r ≡ decide Passed (headChecks flags count) ⌝ }
@@ -33,38 +42,41 @@ fn check_head(flags: u8, count: usize) -> Check
 
 // The entry at the front of the slices.
 fn check_entry(fields: &[u16], bytes: &[u8], least: u32) -> Check
-    requires { ⌜ (5 ≤ length (now fields)) × (66 + lentAuxLength (now fields) ≤ length (now bytes)) ⌝ }
+    requires { ⌜ (lentWidth ≤ length (now fields)) × (lentBytes (now fields) ≤ length (now bytes)) ⌝ }
     ensures { λ r. ⌜ r ≡ decide Passed (entryChecks (entryFrom (now (fields .entry)) (now (bytes .entry))) least) ⌝ }
 {
-    let invalid = ProtocolError::InvalidState;
-    let verifier = ProtocolError::InvalidVerifierRef;
-    Check::Passed
-        .require(least <= fields[0] as u32, invalid)
-        .require(1 <= fields[3], invalid)
-        .require(fields[2] <= CAP_KNOWN_MASK, invalid)
-        .require(bytes[0] <= 1, verifier)
-        .require(bytes[1] == VERIFIER_ABI_V1, verifier)
-        .require(
-            is_supported_algorithm(fields[1]),
-            ProtocolError::UnsupportedAlgorithm,
-        )
-        .require(1 <= fields[4], invalid)
+    let check = Check::Passed.require(
+        least <= fields[LENT_SLOT] as u32,
+        ProtocolError::InvalidState,
+    );
+    check_entry_fields(
+        check,
+        EntryFields {
+            algorithm_id: fields[LENT_ALGORITHM],
+            capabilities: fields[LENT_CAPABILITIES],
+            weight: fields[LENT_WEIGHT],
+            verifier_hash_type: bytes[LENT_HASH_TYPE_OFFSET],
+            verifier_abi: bytes[LENT_ABI_OFFSET],
+            key_len: 32,
+            aux_len: fields[LENT_AUX_LENGTH],
+        },
+    )
 }
 
 fn check_entries(fields: &[u16], bytes: &[u8], count: usize) -> Check
-    requires { ⌜ (5 * count ≤ length (now fields)) × (neededBytes count (now fields) ≡ length (now bytes)) ⌝ }
+    requires { ⌜ (lentWidth * count ≤ length (now fields)) × (neededBytes count (now fields) ≡ length (now bytes)) ⌝ }
     ensures { λ r. ⌜ r ≡ decide Passed (entriesChecks (entriesFrom count (now (fields .entry)) (now (bytes .entry))) 0) ⌝ }
 {
     let mut i: usize = 0;
     let mut from: usize = 0;
     let mut least: u32 = 0;
     while i < count {
-        let start = 5 * i;
+        let start = LENT_WIDTH * i;
         match check_entry(&fields[start..], &bytes[from..], least) {
             Check::Failed(error) => return Check::Failed(error),
             Check::Passed => {
-                least = fields[start] as u32 + 1;
-                from += 66 + fields[start + 4] as usize;
+                least = fields[start + LENT_SLOT] as u32 + 1;
+                from += LENT_AUX_OFFSET + fields[start + LENT_AUX_LENGTH] as usize;
             }
         }
         i += 1;
@@ -73,15 +85,19 @@ fn check_entries(fields: &[u16], bytes: &[u8], count: usize) -> Check
 }
 
 // The weight of the entries that have the capability of a bit.
-fn weight_of(bit: u16, fields: &[u16], count: usize) -> u32
-    requires { ⌜ (5 * count ≤ length (now fields)) × (count ≤ 16) ⌝ }
-    ensures { λ r. ⌜ r ≡ lentWeight bit count (now (fields .entry)) ⌝ }
+fn lent_capable_weight(bit: u16, fields: &[u16], count: usize) -> u32
+    requires { ⌜ (lentWidth * count ≤ length (now fields)) × (count ≤ 16) ⌝ }
+    ensures { λ r. ⌜ r ≡ lentCapableWeight bit count (now (fields .entry)) ⌝ }
 {
     let mut i: usize = 0;
     let mut sum: u32 = 0;
     while i < count {
-        let start = 5 * i;
-        sum += share(bit, fields[start + 2], fields[start + 3]);
+        let start = LENT_WIDTH * i;
+        sum += share(
+            bit,
+            fields[start + LENT_CAPABILITIES],
+            fields[start + LENT_WEIGHT],
+        );
         i += 1;
     }
     sum
@@ -97,13 +113,13 @@ fn check_end(
     fields: &[u16],
     count: usize,
 ) -> Check
-    requires { ⌜ (5 * count ≤ length (now fields)) × (count ≤ 16) ⌝ }
-    ensures { λ r. ⌜ r ≡ decide Passed (thresholdRows flags spend rotate recovery since (lentWeight 1 count (now (fields .entry))) (lentWeight 2 count (now (fields .entry))) (lentWeight 4 count (now (fields .entry)))) ⌝ }
+    requires { ⌜ (lentWidth * count ≤ length (now fields)) × (count ≤ 16) ⌝ }
+    ensures { λ r. ⌜ r ≡ decide Passed (thresholdRows flags spend rotate recovery since (lentSummary count (now (fields .entry)))) ⌝ }
 {
     let summary = StateSummary {
-        spend_weight: weight_of(CAP_SPEND, fields, count),
-        rotate_weight: weight_of(CAP_ROTATE, fields, count),
-        recovery_weight: weight_of(CAP_RECOVERY, fields, count),
+        spend_weight: lent_capable_weight(CAP_SPEND, fields, count),
+        rotate_weight: lent_capable_weight(CAP_ROTATE, fields, count),
+        recovery_weight: lent_capable_weight(CAP_RECOVERY, fields, count),
     };
     check_thresholds(flags, spend, rotate, recovery, since, summary)
 }
@@ -118,10 +134,10 @@ pub(crate) fn check_state(
     fields: &[u16],
     bytes: &[u8],
 ) -> Check
-    requires { ⌜ neededBytes (entryCount (now fields)) (now fields) ≡ length (now bytes) ⌝ }
-    ensures { λ r. ⌜ r ≡ decide Passed (stateChecks flags spend rotate recovery since (entriesFrom (entryCount (now (fields .entry))) (now (fields .entry)) (now (bytes .entry)))) ⌝ }
+    requires { ⌜ neededBytes (lentCount (now fields)) (now fields) ≡ length (now bytes) ⌝ }
+    ensures { λ r. ⌜ r ≡ decide Passed (stateChecks flags spend rotate recovery since (entriesFrom (lentCount (now (fields .entry))) (now (fields .entry)) (now (bytes .entry)))) ⌝ }
 {
-    let count = fields.len() / 5;
+    let count = fields.len() / LENT_WIDTH;
     match check_head(flags, count) {
         Check::Failed(error) => Check::Failed(error),
         Check::Passed => check_entries(fields, bytes, count).and(check_end(

@@ -5,6 +5,7 @@ mod layout; // layout.rt
 
 use self::check::check_state;
 use self::layout::store_state;
+use self::slices::LENT_WIDTH;
 use self::slices::check_slices;
 use protocol::ACCOUNT_STATE_HEADER_LEN;
 use protocol::Check;
@@ -31,7 +32,7 @@ fn encode_agreed(
     ensures { λ r. ⌜ r ≡ validWritten (stateBytes (stateFrom flags sequence spend rotate recovery since (now (fields .entry)) (now (bytes .entry)))) (now (out .entry)) ⌝ }
     ensures { λ _. ⌜ now (out .exit) ≡ validStored (stateBytes (stateFrom flags sequence spend rotate recovery since (now (fields .entry)) (now (bytes .entry)))) (now (out .entry)) ⌝ }
 {
-    let total = ACCOUNT_STATE_HEADER_LEN + 14 * (fields.len() / 5) + bytes.len();
+    let total = ACCOUNT_STATE_HEADER_LEN + 14 * (fields.len() / LENT_WIDTH) + bytes.len();
     let check = check_state(flags, spend, rotate, recovery, since, fields, bytes).require(
         total <= out.len(),
         ProtocolError::BufferTooShort,

@@ -19,7 +19,7 @@ use Rattle.protocol.specs.Policy.{isSupportedAlgorithm, isOperation, hasCapabil
 use Rattle.protocol.specs.Args.{argsRows, argsFault, argsAnswer, readArgs, argsNumber}
 use Rattle.account_state.specs.Reading.{entryOf, entriesOf, capableShare, capableWeight}
 use Rattle.account_state.specs.State.{stateHeaderRows, entryLayoutRows, entryFieldRows, entryRows, entriesRows, behindEntries, recoveryThresholdRows, thresholdRows, stateEndRows, stateTailRows, stateRows, stateFault, stateHeaderOf, summaryOf, stateAnswer, readState, stateNumber}
-use Rattle.account_state.proofs.Theorem.{state-refuses}
+use Rattle.account_state.proofs.Accepted.{state-refuses}
 use Rattle.account_witness.specs.Header.{witnessHeaderRows, witnessHeaderOf}
 use Rattle.account_witness.specs.Walk.{proofLayoutRows, proofsLayoutRows}
 use Rattle.account_witness.specs.Witness.{witnessRows, witnessFault, witnessAnswer, readWitness, witnessNumber}

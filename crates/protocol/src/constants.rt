@@ -49,6 +49,10 @@ pub const CAP_RECOVERY: u16 = 0x0004;
 
 pub const CAP_KNOWN_MASK: u16 = 0x000f;
 
+pub const STATE_FLAG_RECOVERY_ENABLED: u8 = 0x01;
+
+pub const STATE_FLAG_SESSION_ENABLED: u8 = 0x02;
+
 pub const STATE_FLAGS_KNOWN_MASK: u8 = 0x03;
 
 pub const ALG_P256_WEBAUTHN: u16 = 0x0001;

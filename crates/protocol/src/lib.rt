@@ -36,6 +36,8 @@ pub use self::constants::CAP_SPEND;
 pub use self::constants::OP_RECOVERY;
 pub use self::constants::OP_ROTATE;
 pub use self::constants::OP_SPEND;
+pub use self::constants::STATE_FLAG_RECOVERY_ENABLED;
+pub use self::constants::STATE_FLAG_SESSION_ENABLED;
 pub use self::constants::STATE_FLAGS_KNOWN_MASK;
 pub use self::constants::VERIFIER_ABI_V1;
 pub use self::constants::VERIFIER_MAGIC;

@@ -1,13 +1,13 @@
 -- 01, "Where each refusal is raised", from "data above 16,384" to "recovery off; since too low": the rows of the current state
 -- and its successor.
-use Prim.Native.Nat.{ℕ, _+_, _%_}
+use Prim.Native.Nat.{ℕ, _+_}
 use mathlib.Core.Bool.{cond}
 use mathlib.Core.List.{List, [], _∷_, _++_}
 use lib.ListN.{length}
 use lib.Dec.{eqb, leb}
 use Rattle.protocol.specs.Rows.{Row, row}
 use Rattle.protocol.specs.declared.error.ProtocolError.the-variants.{InvalidState, InvalidSequence, InvalidCapability, RecoveryLocked}
-use Rattle.account_state.specs.Fields.{flagsOf, sequenceOf, recoverySinceOf}
+use Rattle.account_state.specs.Fields.{flagsOf, recoveryEnabled, sequenceOf, recoverySinceOf}
 use Rattle.account_state.specs.State.{stateRows}
 
 -- "data above 16,384", 21, of the current state and of its successor
@@ -27,7 +27,7 @@ successorRows current successor =
 -- "recovery off; since too low", 29; 34; flag 1 of the state, and "recovery_since and the input's since are compared as plain u64"
 unfoldable pub recoveryRows : ℕ → List ℕ → List Row
 recoveryRows since current =
-    row (eqb (flagsOf current % 2) 1) InvalidCapability ∷ row (leb (recoverySinceOf current) since) RecoveryLocked ∷ []
+    row (recoveryEnabled (flagsOf current)) InvalidCapability ∷ row (leb (recoverySinceOf current) since) RecoveryLocked ∷ []
 
 -- only a recovery (3) has the rows on recovery
 unfoldable pub successionRows : ℕ → ℕ → List ℕ → List ℕ → List Row

@@ -5,7 +5,7 @@ use Rattle.protocol.specs.Rows.{decide}
 use Rattle.protocol.proofs.AllPass.{decide-then}
 use Rattle.account_state.specs.Fields.{flagsOf, recoverySinceOf, recoveryThresholdOf, rotateThresholdOf, spendThresholdOf}
 use Rattle.account_state.specs.State.{thresholdRows, stateEndRows}
-use Rattle.account_state.specs.Walk.{endFault}
+use Rattle.account_state.specs.EntriesWalk.{endFault}
 use borrow.Author.Needs.{needs}
 use Rattle.account_state.proofs.check_end.Statement.{statement}
 use Rattle.account_state.proofs.check_end.Tie as tie
@@ -17,8 +17,8 @@ returns c =
     let a = c4 .before .before .before .before .before .before .before .args in
     let s = now (a .state) in
     let t = a .walk .summary in
-    rw (c .and .ensures, c .before .check-thresholds .ensures, c .before .before .u64-at .ensures, c .before .before .before .u16-at3 .ensures, c4 .u16-at2 .ensures, c4 .before .u16-at .ensures, c4 .before .before .u8-at .ensures, c4 .before .before .before .require .ensures)
-    (sym (decide-then _ (thresholdRows (flagsOf s) (spendThresholdOf s) (rotateThresholdOf s) (recoveryThresholdOf s) (recoverySinceOf s) (t .«spend_weight») (t .«rotate_weight») (t .«recovery_weight»))))
+    rw (c .and .ensures, c .before .check-thresholds .ensures, c .before .before .recovery-since-of .ensures, c .before .before .before .recovery-threshold-of .ensures, c4 .rotate-threshold-of .ensures, c4 .before .spend-threshold-of .ensures, c4 .before .before .flags-of .ensures, c4 .before .before .before .require .ensures)
+    (sym (decide-then _ (thresholdRows (flagsOf s) (spendThresholdOf s) (rotateThresholdOf s) (recoveryThresholdOf s) (recoverySinceOf s) t)))
 
 pub check-end-spec : {M : Type 1} → statement M
 check-end-spec =

@@ -15,7 +15,7 @@ head c = sym (c .before .before .check-head .ensures) ∙ c .enum-told .given .1
 walk-entries-requires : tie.Need-walk-entries-requires
 walk-entries-requires c κs =
     let z = head-room _ (head (c .before)) in
-    (z .0, rw (c .u8-at .ensures) (z .1))
+    (z .0, rw (c .entry-count-of .ensures) (z .1))
 
 state-end-requires : tie.Need-state-end-requires
 state-end-requires c κs = head-room _ (head (c .before .before .before .before .before)) .0
@@ -28,14 +28,14 @@ returns-2 : tie.Need-returns-2
 unfolding readState stateAnswer
 returns-2 c =
     let c5 = c .before .before .before .before .before in
-    let h = rw (c .before .before .before .before .u8-at .ensures) at (sym (c .before .before .before .walk-entries .ensures) ∙ c .before .error2 .given .1) in
+    let h = rw (c .before .before .before .before .entry-count-of .ensures) at (sym (c .before .before .before .walk-entries .ensures) ∙ c .before .error2 .given .1) in
     rw (fault-entries _ (head c5) _ h)
 
 returns-3 : tie.Need-returns-3
 unfolding readState
 returns-3 c =
     let c4 = c .before .before .before .before in
-    let h = rw (c4 .before .u8-at .ensures) at (sym (c4 .walk-entries .ensures) ∙ c .before .before .walk .given .1) in
+    let h = rw (c4 .before .entry-count-of .ensures) at (sym (c4 .walk-entries .ensures) ∙ c .before .before .walk .given .1) in
     let z = fault-end _ (head (c4 .before .before)) _ h in
     rw (c .state-end .ensures, z .0, z .1)
 

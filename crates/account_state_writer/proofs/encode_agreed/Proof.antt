@@ -7,14 +7,15 @@ use Rattle.protocol.specs.Write.{writeFault}
 use Rattle.protocol.proofs.Outcome.{write-refused, write-fits, write-done}
 use Rattle.account_state.specs.Reading.{stateBytes}
 use Rattle.account_state.specs.State.{stateRows}
-use Rattle.account_state_writer.specs.Writer.{entryCount, stateTotal, stateFrom, validWritten, validStored}
-use Rattle.account_state_writer.proofs.Agreed.{agreed, length-state, state-found}
+use Rattle.account_state_writer.specs.Slices.{lentCount}
+use Rattle.account_state_writer.specs.Writer.{stateTotal, stateFrom, validWritten, validStored}
+use Rattle.account_state_writer.proofs.Agreed.{agreed, length-state, checks-found}
 use borrow.Author.Needs.{needs}
 use Rattle.account_state_writer.proofs.encode_agreed.Statement.{statement}
 use Rattle.account_state_writer.proofs.encode_agreed.Tie as tie
 
 add-total-2 : tie.Need-add-total-2
-unfolding entryCount
+unfolding lentCount
 add-total-2 c = let h = agreed _ _ (c .before .before .before .pre) in omega (arith, h .total)
 
 check-state-requires : tie.Need-check-state-requires
@@ -27,18 +28,18 @@ found : (c : tie.After-require)
     let b = a .bytes .now in
     let s = stateBytes (stateFrom (a .flags) (a .sequence) (a .spend) (a .rotate) (a .recovery) (a .since) f b) in
     (length s ≡ stateTotal f b) × (c .require .result ≡ writeFault (stateRows s) (stateTotal f b) (length (a .out .now)))
-unfolding entryCount stateTotal
+unfolding lentCount stateTotal
 found c =
     let k = c .before .before .before .before in
     let a = k .before .args in
     let x = k .before .fits in
     let g = agreed (a .fields .now) (a .bytes .now) (k .before .pre) in
     let b : Bytes (a .bytes .now) = λ i. c .before .before .before .shared-slice-known2 .given i .fits in
-    let z = state-found (a .flags) (a .sequence) (a .spend) (a .rotate) (a .recovery) (a .since) (a .fields .now) (a .bytes .now) (x .flags .fits) (x .sequence .fits) (x .spend .fits) (x .rotate .fits) (x .recovery .fits) (x .since .fits) (λ i. k .shared-slice-known .given i .fits) b g (length (a .out .now)) in
+    let z = checks-found (a .flags) (a .sequence) (a .spend) (a .rotate) (a .recovery) (a .since) (a .fields .now) (a .bytes .now) (x .flags .fits) (x .sequence .fits) (x .spend .fits) (x .rotate .fits) (x .recovery .fits) (x .since .fits) (λ i. k .shared-slice-known .given i .fits) b g (length (a .out .now)) in
     (length-state (a .flags) (a .sequence) (a .spend) (a .rotate) (a .recovery) (a .since) (a .fields .now) (a .bytes .now) b (g .needed), c .require .ensures ∙ rw (c .before .check-state .ensures) z)
 
 store-state-requires : tie.Need-store-state-requires
-unfolding entryCount stateTotal
+unfolding lentCount stateTotal
 store-state-requires c κs =
     let k = c .before .before .before in
     let s = k .before .before .before .before .before in
@@ -52,7 +53,7 @@ returns c =
     rw (z .0) (write-refused _ _ _ _ (z .1) _ _ (c .before .check .given .1))
 
 returns-2 : tie.Need-returns-2
-unfolding validWritten validStored entryCount stateTotal
+unfolding validWritten validStored lentCount stateTotal
 returns-2 c =
     let told = c .before .before .before .before in
     let k = told .before .before in

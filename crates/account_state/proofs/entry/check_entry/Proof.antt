@@ -13,8 +13,8 @@ returns c = rw (lt-leb 48 _ (c .if1 .taken))
 
 returns-2 : tie.Need-returns-2
 unfolding entryRows
-returns-2 c = rw (c .check-fields .ensures, c .before .check-layout .ensures, decide-append)
+returns-2 c = rw (c .check-entry-fields .ensures, c .before .entry-fields-of .ensures, c .before .before .check-layout .ensures, decide-append)
 
 pub check-entry-spec : {M : Type 1} → statement M
 check-entry-spec =
-    tie.close (tie.spec returns (λ c κs. search needs) (λ c κs. search needs) returns-2)
+    tie.close (tie.spec returns (λ c κs. search needs) (λ c κs. search needs) (λ c κs. search needs) returns-2)

@@ -10,7 +10,7 @@ returns : tie.Need-returns
 unfolding entryLayoutRows decide _▷_
 returns c =
     let c4 = c .before .before .before .before in
-    rw (c .require3 .ensures, c .before .u16-at4 .ensures, c .before .before .require2 .ensures, c .before .before .before .require .ensures, c4 .u16-at3 .ensures, c4 .before .u16-at2 .ensures, c4 .before .before .u16-at .ensures, le-leb 48 _ (c4 .before .before .before .before .pre))
+    rw (c .require3 .ensures, c .before .entry-slot-of .ensures, c .before .before .require2 .ensures, c .before .before .before .require .ensures, c4 .aux-length-of .ensures, c4 .before .key-length-of .ensures, c4 .before .before .entry-length-of .ensures, le-leb 48 _ (c4 .before .before .before .before .pre))
 
 pub check-layout-spec : {M : Type 1} → statement M
 check-layout-spec =

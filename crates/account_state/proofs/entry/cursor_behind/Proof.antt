@@ -13,7 +13,7 @@ unfolding entryCursorBehind
 returns c =
     let a = c .before .before .before .before .args in
     let s = a .state .now in
-    rw (c .u16-at2 .ensures, c .before .u16-at .ensures, part-clip s (a .at) (length s - a .at) (omega arith))
+    rw (c .entry-slot-of .ensures, c .before .entry-length-of .ensures, part-clip s (a .at) (length s - a .at) (omega arith))
 
 pub cursor-behind-spec : {M : Type 1} → statement M
 cursor-behind-spec =

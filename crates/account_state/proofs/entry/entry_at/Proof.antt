@@ -14,7 +14,7 @@ returns c =
     let c4 = c .before .before .before .before in
     let a = c4 .before .before .before .before .before .before .args in
     let s = a .state .now in
-    rw (c .u16-at6 .ensures, c .before .u8-at2 .ensures, c .before .before .u8-at .ensures, c .before .before .before .u16-at5 .ensures, c4 .u16-at4 .ensures, c4 .before .u16-at3 .ensures, c4 .before .before .u16-at2 .ensures, c4 .before .before .before .u16-at .ensures, part-clip s (a .at) (length s - a .at) (omega arith))
+    rw (c .aux-length-of .ensures, c .before .abi-of .ensures, c .before .before .hash-type-of .ensures, c .before .before .before .weight-of .ensures, c4 .capabilities-of .ensures, c4 .before .algorithm-of .ensures, c4 .before .before .entry-slot-of .ensures, c4 .before .before .before .key-length-of .ensures, part-clip s (a .at) (length s - a .at) (omega arith))
 
 pub entry-at-spec : {M : Type 1} → statement M
 entry-at-spec =

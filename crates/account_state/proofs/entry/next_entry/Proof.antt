@@ -4,7 +4,7 @@ use lib.ListN.{drop}
 use Rattle.protocol.specs.Rows.{decide}
 use Rattle.protocol.specs.declared.check.Check.the-variants.{Passed}
 use Rattle.account_state.specs.State.{entryRows, entryStepAnswer, entryStep}
-use Rattle.account_state.proofs.WalkLaws.{entry-room}
+use Rattle.account_state.proofs.EntriesWalkLaws.{entry-room}
 use borrow.Author.Needs.{needs}
 use Rattle.account_state.proofs.entry.next_entry.Statement.{statement}
 use Rattle.account_state.proofs.entry.next_entry.Tie as tie

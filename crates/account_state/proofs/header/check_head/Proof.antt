@@ -16,7 +16,7 @@ returns-2 c =
     let c4 = c .before .before .before .before in
     let c8 = c4 .before .before .before .before in
     let c12 = c8 .before .before .before .before in
-    rw (c .require8 .ensures, c .before .require7 .ensures, c .before .before .require6 .ensures, c .before .before .before .u8-at4 .ensures, c4 .require5 .ensures, c4 .before .u16-at .ensures, c4 .before .before .require4 .ensures, c4 .before .before .before .u8-at3 .ensures, c8 .require3 .ensures, c8 .before .u8-at2 .ensures, c8 .before .before .require2 .ensures, c8 .before .before .before .u32-at .ensures, c12 .require .ensures, c12 .before .u8-at .ensures, le-leb 32 _ (c12 .before .before .if1 .left))
+    rw (c .require8 .ensures, c .before .require7 .ensures, c .before .before .require6 .ensures, c .before .before .before .state-reserved-of .ensures, c4 .require5 .ensures, c4 .before .state-header-length-of .ensures, c4 .before .before .require4 .ensures, c4 .before .before .before .flags-of .ensures, c8 .require3 .ensures, c8 .before .state-version-of .ensures, c8 .before .before .require2 .ensures, c8 .before .before .before .state-magic-of .ensures, c12 .require .ensures, c12 .before .entry-count-of .ensures, le-leb 32 _ (c12 .before .before .if1 .left))
 
 pub check-head-spec : {M : Type 1} → statement M
 check-head-spec =

@@ -13,13 +13,13 @@ returns c =
     let c4 = c .before .before .before .before in
     let s = c4 .before .before .before .before .before .args .state .now in
     rw (
-      c .u64-at2 .ensures ∙ front-number s 32 24 8 (omega arith),
-      c .before .u8-at2 .ensures ∙ front-number s 32 22 1 (omega arith),
-      c .before .before .u16-at3 .ensures ∙ front-number s 32 20 2 (omega arith),
-      c .before .before .before .u16-at2 .ensures ∙ front-number s 32 18 2 (omega arith),
-      c4 .u16-at .ensures ∙ front-number s 32 16 2 (omega arith),
-      c4 .before .u64-at .ensures ∙ front-number s 32 8 8 (omega arith),
-      c4 .before .before .u8-at .ensures ∙ front-number s 32 5 1 (omega arith),
+      c .recovery-since-of .ensures ∙ front-number s 32 24 8 (omega arith),
+      c .before .entry-count-of .ensures ∙ front-number s 32 22 1 (omega arith),
+      c .before .before .recovery-threshold-of .ensures ∙ front-number s 32 20 2 (omega arith),
+      c .before .before .before .rotate-threshold-of .ensures ∙ front-number s 32 18 2 (omega arith),
+      c4 .spend-threshold-of .ensures ∙ front-number s 32 16 2 (omega arith),
+      c4 .before .sequence-of .ensures ∙ front-number s 32 8 8 (omega arith),
+      c4 .before .before .flags-of .ensures ∙ front-number s 32 5 1 (omega arith),
     )
 
 pub header-at-spec : {M : Type 1} → statement M

@@ -9,8 +9,8 @@ use Rattle.octets.proofs.Parts.{part-clip}
 use Rattle.protocol.specs.Rows.{decide}
 use Rattle.protocol.specs.declared.check.Check.the-variants.{Passed}
 use Rattle.account_state.specs.State.{entryRows}
-use Rattle.account_state.specs.Walk.{Light, walkAnswer, walkOf, walkEntries}
-use Rattle.account_state.proofs.WalkLaws.{Walking, entry-room, walking-first, walking-next, walking-failed, walking-done}
+use Rattle.account_state.specs.EntriesWalk.{Light, entriesWalkAnswer, entriesWalkOf, walkEntries}
+use Rattle.account_state.proofs.EntriesWalkLaws.{Walking, entry-room, walking-first, walking-next, walking-failed, walking-done}
 use Rattle.account_state.proofs.walk.walk_entries.Statement.{statement}
 use Rattle.account_state.proofs.walk.walk_entries.Tie as tie
 
@@ -45,7 +45,7 @@ passed c =
     rw (rest c3) at (sym (c .before .before .check-entry .ensures) ∙ c .enum-told .given .1)
 
 returns : tie.Need-returns Inv-loop μ-loop
-unfolding walkEntries walkAnswer
+unfolding walkEntries entriesWalkAnswer
 returns c =
     let c4 = c .before .before .before .before in
     let h = rw (rest c4) at (sym (c .before .before .before .check-entry .ensures) ∙ c .before .error .given .1) in
@@ -64,13 +64,13 @@ loop-again c =
     let c4 = c .before .before .before .before in
     let c7 = c4 .before .before .before in
     let w = walking-next _ _ _ _ _ (c7 .before .loop-test .taken) (c7 .before .before .loop .inv .1) (λ i. c7 .before .before .before .before .shared-slice-known .given i .fits) (passed c4) in
-    (omega arith, rw (c .cursor-behind .ensures, c .before .with-entry .ensures, c .before .before .u16-at2 .ensures, c .before .before .before .u16-at .ensures, rest c7) w)
+    (omega arith, rw (c .cursor-behind .ensures, c .before .with-entry .ensures, c .before .before .weight-of .ensures, c .before .before .before .capabilities-of .ensures, rest c7) w)
 
 inside : tie.Need-sub-t17 Inv-loop μ-loop
 inside c = c .before .before .loop .inv .1 .inside
 
 returns-2 : tie.Need-returns-2 Inv-loop μ-loop
-unfolding walkEntries walkAnswer walkOf
+unfolding walkEntries entriesWalkAnswer entriesWalkOf
 returns-2 c =
     let l = c .before .before .loop in
     let z = walking-done _ _ _ _ _ (omega arith) (l .inv .1) in

@@ -1,5 +1,5 @@
 -- `account_state::walk::with_entry` meets its contract: each weight by its share. Assumes nothing.
-use Rattle.account_state.specs.Walk.{withEntry}
+use Rattle.account_state.specs.EntriesWalk.{withEntry}
 use borrow.Author.Needs.{needs}
 use Rattle.account_state.proofs.walk.with_entry.Statement.{statement}
 use Rattle.account_state.proofs.walk.with_entry.Tie as tie

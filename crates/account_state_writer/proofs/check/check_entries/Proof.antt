@@ -4,23 +4,24 @@ use mathlib.Core.Path.{_≡_, sym, _∙_}
 use Prim.Native.Nat.{_+_, _-_, _*_, _≤_}
 use native.Mathlib.Nat.{sub-zero}
 use native.Mathlib.Omega.{arith}
-use lib.ListN.{length, take, drop, getD, length-drop}
+use lib.ListN.{length, take, drop, length-drop}
 use lib.Seq.{getD-drop}
 use borrow.Author.Needs.{needs}
 use Rattle.octets.proofs.Parts.{part-clip}
 use Rattle.protocol.specs.Rows.{decide}
 use Rattle.protocol.specs.declared.check.Check.the-variants.{Passed}
-use Rattle.account_state_writer.specs.Writer.{lentAuxLength, entriesFrom, neededBytes}
+use Rattle.account_state_writer.specs.Slices.{lentAuxLength, lentWidth}
+use Rattle.account_state_writer.specs.Writer.{entriesFrom, neededBytes}
 use Rattle.account_state_writer.specs.Checks.{entriesChecks}
-use Rattle.account_state_writer.proofs.Lent.{needed-turn, checks-failed, checks-next, checks-none}
+use Rattle.account_state_writer.proofs.Lent.{needed-turn, checks-failed, checks-next, checks-none, lentAuxLengthAt}
 use Rattle.account_state_writer.proofs.check.check_entries.Statement.{statement}
 use Rattle.account_state_writer.proofs.check.check_entries.Tie as tie
 
 abbrev Inv-loop : tie.InvT-loop
 Inv-loop fields bytes count i₀ from₀ least₀ i from least =
     (i ≤ count)
-    × (from + neededBytes (count - i) (drop (5 * i) fields) ≡ length bytes)
-    × (decide Passed (entriesChecks (entriesFrom (count - i) (drop (5 * i) fields) (drop from bytes)) least)
+    × (from + neededBytes (count - i) (drop (lentWidth * i) fields) ≡ length bytes)
+    × (decide Passed (entriesChecks (entriesFrom (count - i) (drop (lentWidth * i) fields) (drop from bytes)) least)
     ≡ decide Passed (entriesChecks (entriesFrom count fields bytes) 0))
 
 abbrev μ-loop : tie.MeasureT-loop
@@ -34,7 +35,7 @@ loop-holds c =
 
 -- this entry's bytes are there
 room : (c : tie.In-loop Inv-loop μ-loop)
-    → c .before .loop .from + (66 + getD (c .before .before .before .before .args .fields .now) (5 * c .before .loop .i + 4) 0)
+    → c .before .loop .from + (66 + lentAuxLengthAt (c .before .before .before .before .args .fields .now) (c .before .loop .i))
     ≤ length (c .before .before .before .before .args .bytes .now)
 room c =
     let l = c .before .loop in
@@ -46,10 +47,10 @@ room c =
 -- the slices from this entry on
 fields-left : (c : tie.In-loop Inv-loop μ-loop)
     → let f = c .before .before .before .before .args .fields .now in
-    take (length f - 5 * c .before .loop .i) (drop (5 * c .before .loop .i) f) ≡ drop (5 * c .before .loop .i) f
+    take (length f - lentWidth * c .before .loop .i) (drop (lentWidth * c .before .loop .i) f) ≡ drop (lentWidth * c .before .loop .i) f
 fields-left c =
     let f = c .before .before .before .before .args .fields .now in
-    part-clip f (5 * c .before .loop .i) (length f - 5 * c .before .loop .i) (omega arith)
+    part-clip f (lentWidth * c .before .loop .i) (length f - lentWidth * c .before .loop .i) (omega arith)
 
 bytes-left : (c : tie.In-loop Inv-loop μ-loop)
     → let b = c .before .before .before .before .args .bytes .now in
@@ -65,8 +66,8 @@ check-entry-requires c κs =
     let a = k .before .before .before .before .args in
     let f = a .fields .now in
     let b = a .bytes .now in
-    let x : lentAuxLength (drop (5 * l .i) f) ≡ getD f (5 * l .i + 4) 0 = getD-drop (5 * l .i) f 4 0 in
-    let n : length (drop (5 * l .i) f) ≡ length f - 5 * l .i = length-drop (5 * l .i) f in
+    let x : lentAuxLength (drop (lentWidth * l .i) f) ≡ lentAuxLengthAt f (l .i) = getD-drop (lentWidth * l .i) f 4 0 in
+    let n : length (drop (lentWidth * l .i) f) ≡ length f - lentWidth * l .i = length-drop (lentWidth * l .i) f in
     let m : length (drop (l .from) b) ≡ length b - l .from = length-drop (l .from) b in
     let p = k .before .before .before .before .pre .0 in
     let r = room k in
@@ -97,7 +98,7 @@ returns-2 : tie.Need-returns-2 Inv-loop μ-loop
 returns-2 c =
     let l = c .before .loop in
     let a = c .before .before .before .before .args in
-    sym (checks-none (a .count - l .i) (drop (5 * l .i) (a .fields .now)) (drop (l .from) (a .bytes .now)) (l .least) (omega arith)) ∙ l .inv .2
+    sym (checks-none (a .count - l .i) (drop (lentWidth * l .i) (a .fields .now)) (drop (l .from) (a .bytes .now)) (l .least) (omega arith)) ∙ l .inv .2
 
 pub check-entries-spec : {M : Type 1} → statement M
 check-entries-spec =
@@ -120,8 +121,9 @@ check-entries-spec =
     (λ c. search needs)
     (λ c. omega arith)
     (λ c. omega arith)
-    (λ c. omega (arith, c .shared-slice-known3 .given (5 * c .before .before .before .before .before .before .before .loop .i) .fits))
-    (λ c. omega (arith, c .shared-slice-known3 .given (5 * c .before .before .before .before .before .before .before .loop .i) .fits))
+    (λ c. omega arith)
+    (λ c. omega (arith, c .shared-slice-known3 .given (lentWidth * c .before .before .before .before .before .before .before .loop .i + 0) .fits))
+    (λ c. omega (arith, c .shared-slice-known3 .given (lentWidth * c .before .before .before .before .before .before .before .loop .i + 0) .fits))
     (λ c. omega arith)
     (λ c. omega arith)
     (λ c. omega arith)

@@ -3,14 +3,14 @@ use mathlib.Core.Path.{sym, _∙_}
 use Prim.Native.Nat.{_/_}
 use native.Mathlib.Omega.{arith}
 use lib.ListN.{length}
-use Rattle.account_state_writer.specs.Writer.{entryCount}
+use Rattle.account_state_writer.specs.Slices.{lentCount, lentWidth}
 use Rattle.account_state_writer.proofs.Checked.{head-limit, head-failed, head-passed}
 use borrow.Author.Needs.{needs}
 use Rattle.account_state_writer.proofs.check.check_state.Statement.{statement}
 use Rattle.account_state_writer.proofs.check.check_state.Tie as tie
 
 check-entries-requires : tie.Need-check-entries-requires
-unfolding entryCount
+unfolding lentCount
 check-entries-requires c κs =
     let s = c .before .before .before .before .before in
     (omega arith, s .pre)
@@ -22,20 +22,20 @@ check-end-requires c κs =
     (omega arith, head-limit _ _ h)
 
 returns : tie.Need-returns
-unfolding entryCount
+unfolding lentCount
 returns c =
     let a = c .before .before .before .before .before .before .args in
     let h = sym (c .before .before .before .check-head .ensures) ∙ c .before .error .given .1 in
-    sym (head-failed (a .flags) (a .spend) (a .rotate) (a .recovery) (a .since) (length (a .fields .now) / 5) (a .fields .now) (a .bytes .now) _ h)
+    sym (head-failed (a .flags) (a .spend) (a .rotate) (a .recovery) (a .since) (length (a .fields .now) / lentWidth) (a .fields .now) (a .bytes .now) _ h)
 
 returns-2 : tie.Need-returns-2
-unfolding entryCount
+unfolding lentCount
 returns-2 c =
     let c3 = c .before .before .before in
     let a = c3 .before .before .before .before .before .args in
     let h = sym (c3 .before .before .check-head .ensures) ∙ c3 .enum-told .given .1 in
     rw (c .and .ensures, c .before .check-end .ensures, c .before .before .check-entries .ensures)
-    (sym (head-passed (a .flags) (a .spend) (a .rotate) (a .recovery) (a .since) (length (a .fields .now) / 5) (a .fields .now) (a .bytes .now) h))
+    (sym (head-passed (a .flags) (a .spend) (a .rotate) (a .recovery) (a .since) (length (a .fields .now) / lentWidth) (a .fields .now) (a .bytes .now) h))
 
 pub check-state-spec : {M : Type 1} → statement M
 check-state-spec =

@@ -1,19 +1,20 @@
 -- `account_state_writer::slices::bytes_agree` meets its contract: what is left decides.
 -- Assumes nothing.
-use mathlib.Core.Path.{_≡_, refl, sym, ap, _∙_}
-use Prim.Native.Nat.{ℕ, _+_, _-_, _*_, _/_, _≤_, _<_}
+use mathlib.Core.Path.{_≡_, refl, _∙_}
+use Prim.Native.Nat.{_-_, _*_, _/_, _≤_, _<_}
 use native.Mathlib.Nat.{sub-zero}
 use native.Mathlib.Omega.{arith}
 use lib.Dec.{eqb}
-use lib.ListN.{length, drop, getD}
-use Rattle.account_state_writer.specs.Writer.{neededBytes, entryCount}
-use Rattle.account_state_writer.proofs.Lent.{eqb-turn, left-turn, left-short, needed-none}
+use lib.ListN.{length, drop}
+use Rattle.account_state_writer.specs.Slices.{lentCount, lentWidth}
+use Rattle.account_state_writer.specs.Writer.{neededBytes}
+use Rattle.account_state_writer.proofs.Lent.{eqb-turn, left-turn, left-short, needed-none, lentAuxLengthAt}
 use Rattle.account_state_writer.proofs.slices.bytes_agree.Statement.{statement}
 use Rattle.account_state_writer.proofs.slices.bytes_agree.Tie as tie
 
 abbrev Inv-loop : tie.InvT-loop
 Inv-loop fields len count i₀ left₀ i left =
-    (i ≤ count) × (count ≡ length fields / 5) × (eqb (neededBytes (count - i) (drop (5 * i) fields)) left ≡ eqb (neededBytes count fields) len)
+    (i ≤ count) × (count ≡ length fields / lentWidth) × (eqb (neededBytes (count - i) (drop (lentWidth * i) fields)) left ≡ eqb (neededBytes count fields) len)
 
 abbrev μ-loop : tie.MeasureT-loop
 μ-loop fields len count i₀ left₀ i left = count - i
@@ -22,28 +23,28 @@ loop-holds : tie.Need-loop-holds Inv-loop μ-loop
 loop-holds c = (omega arith, refl, rw sub-zero)
 
 -- the length of this entry's aux
-small : (c : tie.After-shared-slice-known Inv-loop μ-loop) → getD (c .before .before .before .args .fields .now) (5 * c .before .before .loop .i + 4) 0 < 65536
+small : (c : tie.After-shared-slice-known Inv-loop μ-loop) → lentAuxLengthAt (c .before .before .before .args .fields .now) (c .before .before .loop .i) < 65536
 small c = c .shared-slice-known .given _ .fits
 
 returns : tie.Need-returns Inv-loop μ-loop
-unfolding entryCount
+unfolding lentCount
 returns c =
     let l = c .before .before .before .loop in
     let f = c .before .before .before .before .args .fields .now in
-    left-short f (length f / 5) (l .i) (omega arith) (l .left) (c .if1 .taken) ∙ l .inv .2
+    left-short f (length f / lentWidth) (l .i) (omega arith) (l .left) (c .if1 .taken) ∙ l .inv .2
 
 loop-again : tie.Need-loop-again Inv-loop μ-loop
 loop-again c =
     let l = c .before .before .before .loop in
     let f = c .before .before .before .before .args .fields .now in
-    (omega arith, refl, left-turn f (length f / 5) (l .i) (omega arith) (l .left) (c .if1 .left) ∙ l .inv .2)
+    (omega arith, refl, left-turn f (length f / lentWidth) (l .i) (omega arith) (l .left) (c .if1 .left) ∙ l .inv .2)
 
 returns-2 : tie.Need-returns-2 Inv-loop μ-loop
-unfolding entryCount
+unfolding lentCount
 returns-2 c =
     let l = c .before .loop in
     let f = c .before .before .args .fields .now in
-    let n : neededBytes (length f / 5 - l .i) (drop (5 * l .i) f) ≡ 0 = needed-none (length f / 5 - l .i) (drop (5 * l .i) f) (omega arith) in
+    let n : neededBytes (length f / lentWidth - l .i) (drop (lentWidth * l .i) f) ≡ 0 = needed-none (length f / lentWidth - l .i) (drop (lentWidth * l .i) f) (omega arith) in
     eqb-turn (l .left) 0 ∙ (rw n at (l .inv .2))
 
 pub bytes-agree-spec : {M : Type 1} → statement M

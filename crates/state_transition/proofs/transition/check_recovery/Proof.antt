@@ -1,4 +1,5 @@
 -- `state_transition::transition::check_recovery` meets its contract. Assumes nothing.
+use native.Mathlib.Nat.{div-one}
 use Rattle.protocol.specs.Rows.{decide, _▷_, _then_}
 use Rattle.state_transition.specs.Transition.{recoveryRows}
 use borrow.Author.Needs.{needs}
@@ -7,7 +8,7 @@ use Rattle.state_transition.proofs.transition.check_recovery.Tie as tie
 
 returns : tie.Need-returns
 unfolding recoveryRows decide
-returns c = rw (c .require2 .ensures, c .before .u64-at .ensures, c .before .before .require .ensures, c .before .before .before .u8-at .ensures)
+returns c = rw (c .require2 .ensures, c .before .u64-at .ensures, c .before .before .require .ensures, c .before .before .before .u8-at .ensures, div-one)
 
 pub check-recovery-spec : {M : Type 1} → statement M
 check-recovery-spec =

@@ -2,7 +2,7 @@
 use mathlib.Core.Path.{_≡_, refl, sym, ap, _∙_}
 use denote.Ref.{now}
 use Rattle.account_state.specs.State.{stateFault, stateRows}
-use Rattle.account_state.proofs.Theorem.{valid-fault, refused-fault}
+use Rattle.account_state.proofs.Accepted.{valid-fault, refused-fault}
 use borrow.Author.Needs.{needs}
 use Rattle.state_transition.proofs.transition.check_state.Statement.{statement}
 use Rattle.state_transition.proofs.transition.check_state.Tie as tie

@@ -2,11 +2,10 @@
 -- Assumes nothing.
 use mathlib.Core.Path.{_≡_, refl, sym, ap, _∙_}
 use mathlib.Core.Bool.{Bool, true, false, cond}
-use mathlib.Core.List.{List, _++_}
+use mathlib.Core.List.{List}
 use Prim.Native.Nat.{ℕ, suc, _+_, _-_, _*_, _≤_, _<_}
 use native.Mathlib.Nat.{add-assoc, zero-add, add-zero}
 use native.Mathlib.Omega.{arith}
-use borrow.Author.Tests.{leb-true}
 use lib.ListN.{length, drop, length-drop}
 use lib.Seq.{drop-drop}
 use Rattle.octets.specs.Le.{Bytes}
@@ -15,28 +14,19 @@ use Rattle.protocol.specs.Policy.{hasCapability}
 use Rattle.protocol.specs.Rows.{decide}
 use Rattle.protocol.specs.declared.error.ProtocolError.{ProtocolError}
 use Rattle.protocol.specs.declared.check.Check.the-variants.{Passed, Failed}
-use Rattle.protocol.proofs.AllPass.{passed-all-pass, decide-append, decide-failed, all-pass-split}
-use Rattle.account_state.specs.Fields.{entryLengthOf, entrySlotOf, capabilitiesOf, weightOf}
+use Rattle.protocol.proofs.AllPass.{passed-all-pass, decide-append, decide-failed}
+use Rattle.account_state.proofs.Passed.{entry-passed}
+use Rattle.account_state.specs.Fields.{entryLengthOf, entrySlotOf, capabilitiesOf, weightOf, entryBytesOf}
 use Rattle.account_state.specs.Reading.{entryOf, entriesOf, capableShare, capableWeight}
-use Rattle.account_state.specs.State.{entryLayoutRows, entryRows, entriesRows, behindEntries, firstEntry, entryCursorBehind, summaryOf}
-use Rattle.account_state.specs.Walk.{withEntry, Light}
+use Rattle.account_state.specs.State.{entryRows, entriesRows, behindEntries, firstEntry, entryCursorBehind, summaryOf}
+use Rattle.account_state.specs.EntriesWalk.{withEntry, Light}
 use Rattle.account_state.specs.declared.entry.EntryCursor.{EntryCursor}
 use Rattle.account_state.specs.declared.walk.StateSummary.{StateSummary}
 
--- an entry that passes is present, and its length stays inside
-pub record Present (e : List ℕ) : Type 0 where
-  pub head : 48 ≤ length e
-  pub whole : entryLengthOf e ≤ length e
-
-pub entry-present : (e : List ℕ) (least : ℕ) → decide Passed (entryRows e least) ≡ Passed → Present e
-unfolding entryRows entryLayoutRows
-entry-present e least h =
-    let z = passed-all-pass _ h in
-    record { head = leb-true _ _ (z .0); whole = leb-true _ _ (z .1 .1 .0) }
-
+-- an entry that passes has its 48 bytes
 pub entry-room : (s : List ℕ) (at least : ℕ) → decide Passed (entryRows (drop at s) least) ≡ Passed → at + 48 ≤ length s
 entry-room s at least h =
-    let p = entry-present (drop at s) least h in
+    let p = entry-passed (drop at s) least (passed-all-pass _ h) .present in
     let l : length (drop at s) ≡ length s - at = length-drop at s in
     omega arith
 
@@ -53,11 +43,11 @@ rows-failed n e least x h = decide-append Passed (entryRows e least) _ ∙ rw h 
 
 -- what is left to walk gives the whole
 pub record Walking (s : List ℕ) (count left : ℕ) (c : EntryCursor) (t : StateSummary) : Type 0 where
-  pub rows : decide Passed (entriesRows left (drop (c .offset) s) (c .least)) ≡ decide Passed (entriesRows count (drop 32 s) 0)
-  pub tail : behindEntries left (drop (c .offset) s) ≡ behindEntries count (drop 32 s)
-  pub spend : t .«spend_weight» + capableWeight 1 (entriesOf left (drop (c .offset) s)) ≡ capableWeight 1 (entriesOf count (drop 32 s))
-  pub rotate : t .«rotate_weight» + capableWeight 2 (entriesOf left (drop (c .offset) s)) ≡ capableWeight 2 (entriesOf count (drop 32 s))
-  pub recovery : t .«recovery_weight» + capableWeight 4 (entriesOf left (drop (c .offset) s)) ≡ capableWeight 4 (entriesOf count (drop 32 s))
+  pub rows : decide Passed (entriesRows left (drop (c .offset) s) (c .least)) ≡ decide Passed (entriesRows count (entryBytesOf s) 0)
+  pub tail : behindEntries left (drop (c .offset) s) ≡ behindEntries count (entryBytesOf s)
+  pub spend : t .«spend_weight» + capableWeight 1 (entriesOf left (drop (c .offset) s)) ≡ capableWeight 1 (entriesOf count (entryBytesOf s))
+  pub rotate : t .«rotate_weight» + capableWeight 2 (entriesOf left (drop (c .offset) s)) ≡ capableWeight 2 (entriesOf count (entryBytesOf s))
+  pub recovery : t .«recovery_weight» + capableWeight 4 (entriesOf left (drop (c .offset) s)) ≡ capableWeight 4 (entriesOf count (entryBytesOf s))
   pub inside : c .offset ≤ length s
   pub light : Light left t
 
@@ -76,14 +66,14 @@ walking-first s count h k =
 
 -- every entry is walked
 pub walking-done : (s : List ℕ) (count left : ℕ) (c : EntryCursor) (t : StateSummary) → left ≡ 0 → Walking s count left c t
-    → (Passed ≡ decide Passed (entriesRows count (drop 32 s) 0)) × (length s - c .offset ≡ length (behindEntries count (drop 32 s))) × (t ≡ summaryOf (entriesOf count (drop 32 s)))
+    → (Passed ≡ decide Passed (entriesRows count (entryBytesOf s) 0)) × (length s - c .offset ≡ length (behindEntries count (entryBytesOf s))) × (t ≡ summaryOf (entriesOf count (entryBytesOf s)))
 unfolding entriesRows behindEntries entriesOf capableWeight summaryOf decide
 walking-done s count left c t e w =
-    let r : Passed ≡ decide Passed (entriesRows count (drop 32 s) 0) = rw e at (w .rows) in
-    let b : drop (c .offset) s ≡ behindEntries count (drop 32 s) = rw e at (w .tail) in
-    let x : t .«spend_weight» ≡ capableWeight 1 (entriesOf count (drop 32 s)) = sym (add-zero _) ∙ (rw e at (w .spend)) in
-    let y : t .«rotate_weight» ≡ capableWeight 2 (entriesOf count (drop 32 s)) = sym (add-zero _) ∙ (rw e at (w .rotate)) in
-    let z : t .«recovery_weight» ≡ capableWeight 4 (entriesOf count (drop 32 s)) = sym (add-zero _) ∙ (rw e at (w .recovery)) in
+    let r : Passed ≡ decide Passed (entriesRows count (entryBytesOf s) 0) = rw e at (w .rows) in
+    let b : drop (c .offset) s ≡ behindEntries count (entryBytesOf s) = rw e at (w .tail) in
+    let x : t .«spend_weight» ≡ capableWeight 1 (entriesOf count (entryBytesOf s)) = sym (add-zero _) ∙ (rw e at (w .spend)) in
+    let y : t .«rotate_weight» ≡ capableWeight 2 (entriesOf count (entryBytesOf s)) = sym (add-zero _) ∙ (rw e at (w .rotate)) in
+    let z : t .«recovery_weight» ≡ capableWeight 4 (entriesOf count (entryBytesOf s)) = sym (add-zero _) ∙ (rw e at (w .recovery)) in
     (r, sym (length-drop (c .offset) s) ∙ ap length b, rw (← x, ← y, ← z))
 
 share-le : (b c w : ℕ) → capableShare b c w ≤ w
@@ -100,14 +90,14 @@ module _ (s : List ℕ) (count left : ℕ) (c : EntryCursor) (t : StateSummary) 
 
   -- a refused entry refuses the whole
   pub walking-failed : (x : ProtocolError) → decide Passed (entryRows (drop (c .offset) s) (c .least)) ≡ Failed x
-      → decide Passed (entriesRows count (drop 32 s) 0) ≡ Failed x
+      → decide Passed (entriesRows count (entryBytesOf s) 0) ≡ Failed x
   walking-failed x h =
       sym (w .rows) ∙ (ap (λ (n : ℕ). decide Passed (entriesRows n (drop (c .offset) s) (c .least))) one ∙ rows-failed (left - 1) (drop (c .offset) s) (c .least) x h)
 
   -- the weights with an entry's added
-  share-next : (bit sum : ℕ) → sum + capableWeight bit (entriesOf left (drop (c .offset) s)) ≡ capableWeight bit (entriesOf count (drop 32 s))
+  share-next : (bit sum : ℕ) → sum + capableWeight bit (entriesOf left (drop (c .offset) s)) ≡ capableWeight bit (entriesOf count (entryBytesOf s))
       → sum + capableShare bit (capabilitiesOf (drop (c .offset) s)) (weightOf (drop (c .offset) s))
-      + capableWeight bit (entriesOf (left - 1) (drop (entryLengthOf (drop (c .offset) s)) (drop (c .offset) s))) ≡ capableWeight bit (entriesOf count (drop 32 s))
+      + capableWeight bit (entriesOf (left - 1) (drop (entryLengthOf (drop (c .offset) s)) (drop (c .offset) s))) ≡ capableWeight bit (entriesOf count (entryBytesOf s))
   unfolding capableWeight entriesOf entryOf
   share-next bit sum h =
       add-assoc sum _ _ ∙ (sym (ap (λ (n : ℕ). sum + capableWeight bit (entriesOf n (drop (c .offset) s))) one) ∙ h)
@@ -128,7 +118,7 @@ module _ (s : List ℕ) (count left : ℕ) (c : EntryCursor) (t : StateSummary) 
       → Walking s count (left - 1) (entryCursorBehind s (c .offset)) (withEntry t (capabilitiesOf (drop (c .offset) s)) (weightOf (drop (c .offset) s)))
   unfolding entryCursorBehind withEntry behindEntries
   walking-next b h =
-      let p = entry-present (drop (c .offset) s) (c .least) h in
+      let p = entry-passed (drop (c .offset) s) (c .least) (passed-all-pass _ h) .inside in
       let n : length (drop (c .offset) s) ≡ length s - c .offset = length-drop (c .offset) s in
       record {
         rows = rw (← drop-drop (entryLengthOf (drop (c .offset) s)) (c .offset) s)

@@ -1,19 +1,20 @@
--- `account_state_writer::check::weight_of` meets its contract: what is left to add gives the whole. Assumes nothing.
+-- `account_state_writer::check::lent_capable_weight` meets its contract: what is left to add gives the whole. Assumes nothing.
 use mathlib.Core.Path.{_≡_}
 use Prim.Native.Nat.{_+_, _-_, _*_, _≤_}
 use native.Mathlib.Nat.{sub-zero, zero-add}
 use native.Mathlib.Omega.{arith}
 use lib.ListN.{drop}
 use borrow.Author.Needs.{needs}
-use Rattle.account_state_writer.specs.Checks.{lentWeight}
+use Rattle.account_state_writer.specs.Slices.{lentWidth}
+use Rattle.account_state_writer.specs.Checks.{lentCapableWeight}
 use Rattle.account_state_writer.proofs.Lent.{weight-turn, weight-none}
-use Rattle.account_state_writer.proofs.check.weight_of.Statement.{statement}
-use Rattle.account_state_writer.proofs.check.weight_of.Tie as tie
+use Rattle.account_state_writer.proofs.check.lent_capable_weight.Statement.{statement}
+use Rattle.account_state_writer.proofs.check.lent_capable_weight.Tie as tie
 
 abbrev Inv-loop : tie.InvT-loop
 Inv-loop bit fields count i₀ sum₀ i sum =
     (i ≤ count)
-    × (sum + lentWeight bit (count - i) (drop (5 * i) fields) ≡ lentWeight bit count fields)
+    × (sum + lentCapableWeight bit (count - i) (drop (lentWidth * i) fields) ≡ lentCapableWeight bit count fields)
     × (sum + 65535 * (count - i) ≤ 1048560)
 
 abbrev μ-loop : tie.MeasureT-loop
@@ -39,11 +40,11 @@ returns : tie.Need-returns Inv-loop μ-loop
 returns c =
     let l = c .before .loop in
     let a = c .before .before .before .args in
-    let w = weight-none (a .bit) (a .count - l .i) (drop (5 * l .i) (a .fields .now)) (omega arith) in
+    let w = weight-none (a .bit) (a .count - l .i) (drop (lentWidth * l .i) (a .fields .now)) (omega arith) in
     omega (arith, w, l .inv .1)
 
-pub weight-of-spec : {M : Type 1} → statement M
-weight-of-spec =
+pub lent-capable-weight-spec : {M : Type 1} → statement M
+lent-capable-weight-spec =
     tie.close
     (tie.spec
     Inv-loop

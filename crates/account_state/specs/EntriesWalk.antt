@@ -2,31 +2,30 @@
 -- What the walk over the entries gives: their weights and the count of bytes behind them, or the first refusal.
 use Prim.Native.Nat.{ℕ, _+_, _*_, _≤_}
 use mathlib.Core.List.{List}
-use lib.ListN.{length, drop}
+use lib.ListN.{length}
 use Rattle.protocol.specs.Rows.{decide}
 use Rattle.protocol.specs.declared.check.Check.{Check}
 use Rattle.protocol.specs.declared.check.Check.the-variants.{Passed, Failed}
 use Rattle.account_state.specs.Reading.{entriesOf, capableShare}
 use Rattle.account_state.specs.State.{entriesRows, behindEntries, stateEndRows, summaryOf}
 use Rattle.account_state.specs.declared.walk.StateSummary.{StateSummary}
-use Rattle.account_state.specs.declared.walk.Walk.{Walk}
-use Rattle.account_state.specs.declared.walk.WalkAnswer.{WalkAnswer}
-use Rattle.account_state.specs.declared.walk.WalkAnswer.the-variants.{Walked, Refused}
+use Rattle.account_state.specs.declared.walk.EntriesWalk.{EntriesWalk}
+use Rattle.account_state.specs.declared.walk.EntriesWalkAnswer.{EntriesWalkAnswer}
+use Rattle.account_state.specs.declared.walk.EntriesWalkAnswer.the-variants.{Walked, Refused}
 
-unfoldable pub walkAnswer : Check → Walk → WalkAnswer
-walkAnswer Passed w = Walked w
-walkAnswer (Failed e) w = Refused e
+unfoldable pub entriesWalkAnswer : Check → EntriesWalk → EntriesWalkAnswer
+entriesWalkAnswer Passed w = Walked w
+entriesWalkAnswer (Failed e) w = Refused e
 
-unfoldable pub walkOf : ℕ → List ℕ → Walk
-walkOf n e = record { tail = length (behindEntries n e); summary = summaryOf (entriesOf n e) }
+unfoldable pub entriesWalkOf : ℕ → List ℕ → EntriesWalk
+entriesWalkOf n e = record { tail = length (behindEntries n e); summary = summaryOf (entriesOf n e) }
 
-unfoldable pub walkEntries : ℕ → List ℕ → WalkAnswer
-walkEntries n e = walkAnswer (decide Passed (entriesRows n e 0)) (walkOf n e)
+unfoldable pub walkEntries : ℕ → List ℕ → EntriesWalkAnswer
+walkEntries n e = entriesWalkAnswer (decide Passed (entriesRows n e 0)) (entriesWalkOf n e)
 
 -- what the checks after the last entry find
-unfoldable pub endFault : List ℕ → Walk → Check
-endFault s w =
-    decide Passed (stateEndRows s (w .tail) (w .summary .«spend_weight») (w .summary .«rotate_weight») (w .summary .«recovery_weight»))
+unfoldable pub endFault : List ℕ → EntriesWalk → Check
+endFault s w = decide Passed (stateEndRows s (w .tail) (w .summary))
 
 -- the weights with one entry's added
 unfoldable pub withEntry : StateSummary → ℕ → ℕ → StateSummary

@@ -1,17 +1,15 @@
 -- The writer can be lent an accepted state's reading, and then writes the state back or refuses a buffer that is too short with 5.
 -- Assumes nothing.
 use mathlib.Core.Path.{_≡_, refl, sym, ap, _∙_}
-use mathlib.Core.Bool.{true}
 use mathlib.Core.List.{List, [], _∷_, _++_, append-assoc}
-use Prim.Native.Nat.{ℕ, zero, suc, _+_, _*_, _/_, _%_, _^_, _≤_, _<_}
+use Prim.Native.Nat.{ℕ, zero, suc, _+_, _*_, _%_, _^_, _<_}
 use native.Mathlib.Omega.{arith}
 use borrow.Author.Tests.{eq-eqb, le-leb}
-use lib.Dec.{leb, eqb, lit<}
+use lib.Dec.{lit<}
 use lib.ListN.{length, take, drop, getD, length-append}
-use lib.Seq.{drop-at, take-at}
+use lib.Seq.{drop-at}
 use Rattle.octets.specs.Le.{Bytes}
 use Rattle.octets.specs.Layout.{layoutBytes}
-use Rattle.octets.proofs.LayoutLaws.{length-numbers}
 use Rattle.octets.proofs.LeLaws.{number-one, number-lt, bytes-take, bytes-drop, bytes-append}
 use Rattle.octets.proofs.Parts.{part-back}
 use Rattle.protocol.specs.Rows.{AllPass}
@@ -19,10 +17,12 @@ use Rattle.protocol.specs.Reading.{WritesBack}
 use Rattle.protocol.proofs.AllPass.{all-pass-append}
 use Rattle.protocol.proofs.Back.{writes-back}
 use Rattle.account_state.specs.Fields.{auxLengthOf, entryLengthOf, keyLengthOf, entryCountOf}
-use Rattle.account_state.specs.Reading.{EntryReading, StateReading, EntryTyped, EntriesTyped, entryHeadFields, entryLengthFields, entryBytes, entriesBytes, stateHead, stateBytes, entryOf, entriesOf, stateReading}
+use Rattle.account_state.specs.Reading.{EntryReading, StateReading, EntryTyped, EntriesTyped, entriesBytes, stateHead, stateBytes, entryOf, entriesOf, stateReading}
 use Rattle.account_state.specs.State.{stateRows}
+use Rattle.account_state.proofs.Unique.{length-entry-bytes}
 use Rattle.account_state.proofs.Inverse.{Keys, state-back, state-typed, state-keys, state-limits}
-use Rattle.account_state_writer.specs.Writer.{lentAuxLength, entryFrom, entriesFrom, neededBytes, entryCount, stateTotal, sliceRows, stateWriterRows, stateFrom, stateWritten, stateStored, entriesFields, entriesPayload, StateFits}
+use Rattle.account_state_writer.specs.Slices.{lentCount, lentWidth}
+use Rattle.account_state_writer.specs.Writer.{entryFrom, entriesFrom, neededBytes, stateTotal, sliceRows, stateWriterRows, stateFrom, stateWritten, stateStored, entriesFields, entriesPayload, StateFits}
 use Rattle.account_state_writer.proofs.Lent.{length-head}
 
 -- the first entry's part of the bytes
@@ -71,20 +71,19 @@ unfolding neededBytes entriesFields entriesPayload
 needed-lent [] y k = refl
 needed-lent (e ∷ es) y k = rw (needed-lent es (y .1) (k .1)) (sym (length-lent e es (y .0) (k .0)))
 
-length-fields : (es : List EntryReading) → length (entriesFields es) ≡ 5 * length es
+length-fields : (es : List EntryReading) → length (entriesFields es) ≡ lentWidth * length es
 unfolding entriesFields
 length-fields [] = refl
 length-fields (e ∷ es) = let r = length-fields es in omega arith
 
 -- an entry's numbers take 14 bytes more in the state than in the slices
 length-written : (es : List EntryReading) → EntriesTyped es → Keys es → length (entriesBytes es) ≡ 14 * length es + length (entriesPayload es)
-unfolding entriesBytes entryBytes entryHeadFields entryLengthFields entriesPayload
+unfolding entriesBytes entriesPayload
 length-written [] y k = refl
 length-written (e ∷ es) y k =
     let r = length-written es (y .1) (k .1) in
-    let n : length (layoutBytes (entryHeadFields e)) ≡ 12 = length-numbers (entryHeadFields e) in
-    let m : length (layoutBytes (entryLengthFields e)) ≡ 4 = length-numbers (entryLengthFields e) in
-    simp length-append (omega (arith, r, n, m, y .0 .codeHash, k .0))
+    let n = length-entry-bytes e (y .0 .codeHash) in
+    simp length-append (omega (arith, r, n, y .0 .codeHash, k .0))
 
 -- the fields of entries whose numbers fit are u16
 fields-fit : (es : List EntryReading) → EntriesTyped es → (i : ℕ) → getD (entriesFields es) i 0 < 2 ^ 16
@@ -126,8 +125,8 @@ module _ (s : List ℕ) (b : Bytes s) (h : AllPass (stateRows s)) where
   abbrev bytes : List ℕ
   bytes = entriesPayload (r .entries)
 
-  count : entryCount fields ≡ length (r .entries)
-  unfolding entryCount
+  count : lentCount fields ≡ length (r .entries)
+  unfolding lentCount
   count = let l = length-fields (r .entries) in omega arith
 
   -- the slices say the reading
@@ -150,10 +149,10 @@ module _ (s : List ℕ) (b : Bytes s) (h : AllPass (stateRows s)) where
       let t = total in
       let m = state-limits s b h in
       let n = needed-lent (r .entries) (state-typed s b h .entries) (state-keys s b h) in (
-        eq-eqb (length fields % 5) 0 (omega arith),
+        eq-eqb (length fields % lentWidth) 0 (omega arith),
         (
-          eq-eqb (neededBytes (entryCount fields) fields) (length bytes) (rw count n),
-          (le-leb (entryCount fields) 255 (rw count (omega arith)), (le-leb (stateTotal fields bytes) 16384 (omega arith), tt)),
+          eq-eqb (neededBytes (lentCount fields) fields) (length bytes) (rw count n),
+          (le-leb (lentCount fields) 255 (rw count (omega arith)), (le-leb (stateTotal fields bytes) 16384 (omega arith), tt)),
         ),
       )
 
@@ -170,12 +169,7 @@ module _ (s : List ℕ) (b : Bytes s) (h : AllPass (stateRows s)) where
       let l = length-fields (r .entries) in
       let t = total in
       record {
-        flags = y .flags;
-        sequence = y .sequence;
-        spend = y .spend;
-        rotate = y .rotate;
-        recovery = y .recovery;
-        since = y .since;
+        numbers = y .numbers;
         fields = fields-fit (r .entries) (y .entries);
         bytes = entries-bytes (entryCountOf s) (drop 32 s) (bytes-drop 32 s b);
         lengths = (omega arith, omega arith);
