@@ -125,28 +125,28 @@ uint32_t fowlcredenza_parse_public_key_proof(const uint8_t *proof, size_t proof_
 /* Writers. `len` takes the length written. */
 
 uint32_t fowlcredenza_account_lock_args(const uint8_t *account, size_t account_len, uint8_t *out,
-                                        size_t out_len, uint64_t *len);
+                                        size_t out_len, size_t *len);
 
 uint32_t fowlcredenza_encode_state(uint8_t flags, uint64_t sequence, uint16_t spend,
                                    uint16_t rotate, uint16_t recovery, uint64_t since,
                                    const uint16_t *fields, size_t fields_len, const uint8_t *bytes,
-                                   size_t bytes_len, uint8_t *out, size_t out_len, uint64_t *len);
+                                   size_t bytes_len, uint8_t *out, size_t out_len, size_t *len);
 
 uint32_t fowlcredenza_encode_witness(uint8_t operation, uint64_t sequence, const uint16_t *slots,
                                      size_t slots_len, const uint32_t *lengths, size_t lengths_len,
                                      const uint8_t *bytes, size_t bytes_len, uint8_t *out,
-                                     size_t out_len, uint64_t *len);
+                                     size_t out_len, size_t *len);
 
 uint32_t fowlcredenza_encode_verifier_request(uint16_t algorithm, uint16_t slot, uint8_t operation,
                                               uint8_t profile, const uint8_t *digest,
                                               size_t digest_len, const uint8_t *key,
                                               size_t key_len, const uint8_t *aux, size_t aux_len,
                                               const uint8_t *proof, size_t proof_len, uint8_t *out,
-                                              size_t out_len, uint64_t *len);
+                                              size_t out_len, size_t *len);
 
 uint32_t fowlcredenza_encode_public_key_proof(const uint8_t *key, size_t key_len,
                                               const uint8_t *signature, size_t signature_len,
-                                              uint8_t *out, size_t out_len, uint64_t *len);
+                                              uint8_t *out, size_t out_len, size_t *len);
 
 /* The witnesses, the script and the hashes of a transaction. */
 
@@ -159,7 +159,7 @@ uint32_t fowlcredenza_script_args(const uint8_t *script, size_t script_len, uint
                                   size_t out_len);
 
 uint32_t fowlcredenza_canonical_witness(const uint8_t *witness, size_t witness_len, uint8_t *out,
-                                        size_t out_len, uint64_t *len);
+                                        size_t out_len, size_t *len);
 
 /* The digest, 32 bytes. */
 uint32_t fowlcredenza_authorization_digest(uint8_t operation, const uint8_t *account,
@@ -181,7 +181,7 @@ uint32_t fowlcredenza_read_scene(const uint8_t *scene, size_t scene_len, uint8_t
                                  size_t store_len, uint32_t *table, size_t table_len);
 
 /* 1 where some scene, its length aside, leaves this table with a store of that length, else 0. */
-uint32_t fowlcredenza_table_valid(const uint32_t *table, size_t table_len, uint64_t store_len);
+uint32_t fowlcredenza_table_valid(const uint32_t *table, size_t table_len, size_t store_len);
 
 /* The lock. */
 
@@ -209,16 +209,16 @@ uint32_t fowlcredenza_request_numbers(const uint8_t *request, size_t request_len
 /* The bytes of a part, to the front of `out`; `len` takes their number. Digest and key have 32, an aux at most 4,096, a proof
  * at most 65,536. */
 uint32_t fowlcredenza_request_authorization_digest(const uint8_t *request, size_t request_len,
-                                                   uint8_t *out, size_t out_len, uint64_t *len);
+                                                   uint8_t *out, size_t out_len, size_t *len);
 
 uint32_t fowlcredenza_request_key_id(const uint8_t *request, size_t request_len, uint8_t *out,
-                                     size_t out_len, uint64_t *len);
+                                     size_t out_len, size_t *len);
 
 uint32_t fowlcredenza_request_aux(const uint8_t *request, size_t request_len, uint8_t *out,
-                                  size_t out_len, uint64_t *len);
+                                  size_t out_len, size_t *len);
 
 uint32_t fowlcredenza_request_proof(const uint8_t *request, size_t request_len, uint8_t *out,
-                                    size_t out_len, uint64_t *len);
+                                    size_t out_len, size_t *len);
 
 #ifdef __cplusplus
 }

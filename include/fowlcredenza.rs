@@ -130,7 +130,7 @@ unsafe extern "C" {
         account_len: usize,
         out: *mut u8,
         out_len: usize,
-        len: *mut u64,
+        len: *mut usize,
     ) -> u32;
     pub fn fowlcredenza_encode_state(
         flags: u8,
@@ -145,7 +145,7 @@ unsafe extern "C" {
         bytes_len: usize,
         out: *mut u8,
         out_len: usize,
-        len: *mut u64,
+        len: *mut usize,
     ) -> u32;
     pub fn fowlcredenza_encode_witness(
         operation: u8,
@@ -158,7 +158,7 @@ unsafe extern "C" {
         bytes_len: usize,
         out: *mut u8,
         out_len: usize,
-        len: *mut u64,
+        len: *mut usize,
     ) -> u32;
     pub fn fowlcredenza_encode_verifier_request(
         algorithm: u16,
@@ -175,7 +175,7 @@ unsafe extern "C" {
         proof_len: usize,
         out: *mut u8,
         out_len: usize,
-        len: *mut u64,
+        len: *mut usize,
     ) -> u32;
     pub fn fowlcredenza_encode_public_key_proof(
         key: *const u8,
@@ -184,7 +184,7 @@ unsafe extern "C" {
         signature_len: usize,
         out: *mut u8,
         out_len: usize,
-        len: *mut u64,
+        len: *mut usize,
     ) -> u32;
     pub fn fowlcredenza_witness_lock(
         witness: *const u8,
@@ -203,7 +203,7 @@ unsafe extern "C" {
         witness_len: usize,
         out: *mut u8,
         out_len: usize,
-        len: *mut u64,
+        len: *mut usize,
     ) -> u32;
     pub fn fowlcredenza_authorization_digest(
         operation: u8,
@@ -233,7 +233,7 @@ unsafe extern "C" {
         table: *mut u32,
         table_len: usize,
     ) -> u32;
-    pub fn fowlcredenza_table_valid(table: *const u32, table_len: usize, store_len: u64) -> u32;
+    pub fn fowlcredenza_table_valid(table: *const u32, table_len: usize, store_len: usize) -> u32;
     pub fn fowlcredenza_lock(
         table: *const u32,
         table_len: usize,
@@ -267,27 +267,27 @@ unsafe extern "C" {
         request_len: usize,
         out: *mut u8,
         out_len: usize,
-        len: *mut u64,
+        len: *mut usize,
     ) -> u32;
     pub fn fowlcredenza_request_key_id(
         request: *const u8,
         request_len: usize,
         out: *mut u8,
         out_len: usize,
-        len: *mut u64,
+        len: *mut usize,
     ) -> u32;
     pub fn fowlcredenza_request_aux(
         request: *const u8,
         request_len: usize,
         out: *mut u8,
         out_len: usize,
-        len: *mut u64,
+        len: *mut usize,
     ) -> u32;
     pub fn fowlcredenza_request_proof(
         request: *const u8,
         request_len: usize,
         out: *mut u8,
         out_len: usize,
-        len: *mut u64,
+        len: *mut usize,
     ) -> u32;
 }

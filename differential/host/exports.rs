@@ -112,7 +112,7 @@ pub fn parse_public_key_proof(proof: &[u8], out: &mut [u8]) -> u32 {
 }
 
 /// The args of an account.
-pub fn account_lock_args(account: &[u8], out: &mut [u8], len: &mut u64) -> u32 {
+pub fn account_lock_args(account: &[u8], out: &mut [u8], len: &mut usize) -> u32 {
     unsafe {
         library::fowlcredenza_account_lock_args(
             account.as_ptr(),
@@ -136,7 +136,7 @@ pub struct LentState<'a> {
     pub bytes: &'a [u8],
 }
 
-pub fn encode_state(state: &LentState, out: &mut [u8], len: &mut u64) -> u32 {
+pub fn encode_state(state: &LentState, out: &mut [u8], len: &mut usize) -> u32 {
     unsafe {
         library::fowlcredenza_encode_state(
             state.flags,
@@ -165,7 +165,7 @@ pub struct LentWitness<'a> {
     pub bytes: &'a [u8],
 }
 
-pub fn encode_witness(witness: &LentWitness, out: &mut [u8], len: &mut u64) -> u32 {
+pub fn encode_witness(witness: &LentWitness, out: &mut [u8], len: &mut usize) -> u32 {
     unsafe {
         library::fowlcredenza_encode_witness(
             witness.operation,
@@ -195,7 +195,7 @@ pub struct LentRequest<'a> {
     pub proof: &'a [u8],
 }
 
-pub fn encode_verifier_request(request: &LentRequest, out: &mut [u8], len: &mut u64) -> u32 {
+pub fn encode_verifier_request(request: &LentRequest, out: &mut [u8], len: &mut usize) -> u32 {
     unsafe {
         library::fowlcredenza_encode_verifier_request(
             request.algorithm_id,
@@ -217,7 +217,12 @@ pub fn encode_verifier_request(request: &LentRequest, out: &mut [u8], len: &mut 
     }
 }
 
-pub fn encode_public_key_proof(key: &[u8], signature: &[u8], out: &mut [u8], len: &mut u64) -> u32 {
+pub fn encode_public_key_proof(
+    key: &[u8],
+    signature: &[u8],
+    out: &mut [u8],
+    len: &mut usize,
+) -> u32 {
     unsafe {
         library::fowlcredenza_encode_public_key_proof(
             key.as_ptr(),

@@ -94,7 +94,7 @@ fn write_args(account: &[u8], out: &mut [u8]) -> WriteAnswer
 pub extern "C" fn fowlcredenza_account_lock_args(
     account: &[u8],
     out: &mut [u8],
-    len: &mut u64,
+    len: &mut usize,
 ) -> u32
     ensures { λ r. ⌜ r ≡ writeNumber (argsWritten (now (account .entry)) (now (out .entry))) ⌝ }
     ensures { λ _. ⌜ now (out .exit) ≡ argsStored (now (account .entry)) (now (out .entry)) ⌝ }

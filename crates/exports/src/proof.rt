@@ -40,7 +40,7 @@ pub extern "C" fn fowlcredenza_encode_public_key_proof(
     key: &[u8],
     signature: &[u8],
     out: &mut [u8],
-    len: &mut u64,
+    len: &mut usize,
 ) -> u32
     ensures { λ r. ⌜ r ≡ writeNumber (publicKeyProofWritten (publicKeyProofWith (now (key .entry)) (now (signature .entry))) (now (out .entry))) ⌝ }
     ensures { λ _. ⌜ now (out .exit) ≡ publicKeyProofStored (publicKeyProofWith (now (key .entry)) (now (signature .entry))) (now (out .entry)) ⌝ }

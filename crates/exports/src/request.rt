@@ -87,7 +87,7 @@ pub extern "C" fn fowlcredenza_encode_verifier_request(
     aux: &[u8],
     proof: &[u8],
     out: &mut [u8],
-    len: &mut u64,
+    len: &mut usize,
 ) -> u32
     ensures { λ r. ⌜ r ≡ writeNumber (lentWritten (requestWith algorithm slot operation profile (now (digest .entry)) (now (key .entry)) (now (aux .entry)) (now (proof .entry))) (now (out .entry))) ⌝ }
     ensures { λ _. ⌜ now (out .exit) ≡ lentStored (requestWith algorithm slot operation profile (now (digest .entry)) (now (key .entry)) (now (aux .entry)) (now (proof .entry))) (now (out .entry)) ⌝ }

@@ -115,7 +115,7 @@ pub extern "C" fn fowlcredenza_encode_state(
     fields: &[u16],
     bytes: &[u8],
     out: &mut [u8],
-    len: &mut u64,
+    len: &mut usize,
 ) -> u32
     ensures { λ r. ⌜ r ≡ writeNumber (stateWritten (stateFrom flags sequence spend rotate recovery since (now (fields .entry)) (now (bytes .entry))) (now (fields .entry)) (now (bytes .entry)) (now (out .entry))) ⌝ }
     ensures { λ _. ⌜ now (out .exit) ≡ stateStored (stateFrom flags sequence spend rotate recovery since (now (fields .entry)) (now (bytes .entry))) (now (fields .entry)) (now (bytes .entry)) (now (out .entry)) ⌝ }

@@ -93,7 +93,7 @@ pub extern "C" fn fowlcredenza_encode_witness(
     lengths: &[u32],
     bytes: &[u8],
     out: &mut [u8],
-    len: &mut u64,
+    len: &mut usize,
 ) -> u32
     ensures { λ r. ⌜ r ≡ writeNumber (witnessWritten operation (now (slots .entry)) (now (lengths .entry)) (now (bytes .entry)) (now (out .entry))) ⌝ }
     ensures { λ _. ⌜ now (out .exit) ≡ witnessStored operation sequence (now (slots .entry)) (now (lengths .entry)) (now (bytes .entry)) (now (out .entry)) ⌝ }

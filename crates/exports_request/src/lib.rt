@@ -22,7 +22,7 @@ ghost use Rattle.export_answers.specs.Words.{lengthAfter};
 ghost use Rattle.exports_request.specs.Parts.{partWritten, partStored, numberWords};
 
 // Stores a part of the request at the front of `out`, and its length in `len`.
-fn hand_out(request: &[u8], part: &[u8], out: &mut [u8], len: &mut u64) -> u32
+fn hand_out(request: &[u8], part: &[u8], out: &mut [u8], len: &mut usize) -> u32
     ensures { λ r. ⌜ r ≡ writeNumber (partWritten (now (request .entry)) (now (part .entry)) (now (out .entry))) ⌝ }
     ensures { λ _. ⌜ now (out .exit) ≡ partStored (now (request .entry)) (now (part .entry)) (now (out .entry)) ⌝ }
     ensures { λ _. ⌜ now (len .exit) ≡ lengthAfter (partWritten (now (request .entry)) (now (part .entry)) (now (out .entry))) (now (len .entry)) ⌝ }
@@ -34,7 +34,7 @@ fn hand_out(request: &[u8], part: &[u8], out: &mut [u8], len: &mut u64) -> u32
         error_number(ProtocolError::BufferTooShort) as u32
     } else {
         store_bytes(out, 0, part);
-        *len = part.len() as u64;
+        *len = part.len();
         0
     }
 }
@@ -60,7 +60,7 @@ pub extern "C" fn fowlcredenza_request_numbers(request: &[u8], out: &mut [u8]) -
     ensures { λ r. ⌜ r ≡ writeNumber (partWritten (now (request .entry)) (numberWords (requestReading (now (request .entry)))) (now (out .entry))) ⌝ }
     ensures { λ _. ⌜ now (out .exit) ≡ partStored (now (request .entry)) (numberWords (requestReading (now (request .entry)))) (now (out .entry)) ⌝ }
 {
-    let mut len: u64 = 0;
+    let mut len: usize = 0;
     hand_out(request, &number_words(request), out, &mut len)
 }
 
@@ -69,7 +69,7 @@ pub extern "C" fn fowlcredenza_request_numbers(request: &[u8], out: &mut [u8]) -
 pub extern "C" fn fowlcredenza_request_authorization_digest(
     request: &[u8],
     out: &mut [u8],
-    len: &mut u64,
+    len: &mut usize,
 ) -> u32
     ensures { λ r. ⌜ r ≡ writeNumber (partWritten (now (request .entry)) (requestReading (now (request .entry)) .digest) (now (out .entry))) ⌝ }
     ensures { λ _. ⌜ now (out .exit) ≡ partStored (now (request .entry)) (requestReading (now (request .entry)) .digest) (now (out .entry)) ⌝ }
@@ -80,7 +80,11 @@ pub extern "C" fn fowlcredenza_request_authorization_digest(
 
 // Stores the key.
 #[no_mangle]
-pub extern "C" fn fowlcredenza_request_key_id(request: &[u8], out: &mut [u8], len: &mut u64) -> u32
+pub extern "C" fn fowlcredenza_request_key_id(
+    request: &[u8],
+    out: &mut [u8],
+    len: &mut usize,
+) -> u32
     ensures { λ r. ⌜ r ≡ writeNumber (partWritten (now (request .entry)) (requestReading (now (request .entry)) .key) (now (out .entry))) ⌝ }
     ensures { λ _. ⌜ now (out .exit) ≡ partStored (now (request .entry)) (requestReading (now (request .entry)) .key) (now (out .entry)) ⌝ }
     ensures { λ _. ⌜ now (len .exit) ≡ lengthAfter (partWritten (now (request .entry)) (requestReading (now (request .entry)) .key) (now (out .entry))) (now (len .entry)) ⌝ }
@@ -90,7 +94,7 @@ pub extern "C" fn fowlcredenza_request_key_id(request: &[u8], out: &mut [u8], le
 
 // Stores the aux.
 #[no_mangle]
-pub extern "C" fn fowlcredenza_request_aux(request: &[u8], out: &mut [u8], len: &mut u64) -> u32
+pub extern "C" fn fowlcredenza_request_aux(request: &[u8], out: &mut [u8], len: &mut usize) -> u32
     ensures { λ r. ⌜ r ≡ writeNumber (partWritten (now (request .entry)) (requestReading (now (request .entry)) .aux) (now (out .entry))) ⌝ }
     ensures { λ _. ⌜ now (out .exit) ≡ partStored (now (request .entry)) (requestReading (now (request .entry)) .aux) (now (out .entry)) ⌝ }
     ensures { λ _. ⌜ now (len .exit) ≡ lengthAfter (partWritten (now (request .entry)) (requestReading (now (request .entry)) .aux) (now (out .entry))) (now (len .entry)) ⌝ }
@@ -100,7 +104,7 @@ pub extern "C" fn fowlcredenza_request_aux(request: &[u8], out: &mut [u8], len: 
 
 // Stores the proof.
 #[no_mangle]
-pub extern "C" fn fowlcredenza_request_proof(request: &[u8], out: &mut [u8], len: &mut u64) -> u32
+pub extern "C" fn fowlcredenza_request_proof(request: &[u8], out: &mut [u8], len: &mut usize) -> u32
     ensures { λ r. ⌜ r ≡ writeNumber (partWritten (now (request .entry)) (requestReading (now (request .entry)) .proof) (now (out .entry))) ⌝ }
     ensures { λ _. ⌜ now (out .exit) ≡ partStored (now (request .entry)) (requestReading (now (request .entry)) .proof) (now (out .entry)) ⌝ }
     ensures { λ _. ⌜ now (len .exit) ≡ lengthAfter (partWritten (now (request .entry)) (requestReading (now (request .entry)) .proof) (now (out .entry))) (now (len .entry)) ⌝ }

@@ -51,7 +51,7 @@ pub extern "C" fn fowlcredenza_script_args(script: &[u8], out: &mut [u8]) -> u32
 pub extern "C" fn fowlcredenza_canonical_witness(
     witness: &[u8],
     out: &mut [u8],
-    len: &mut u64,
+    len: &mut usize,
 ) -> u32
     ensures { λ r. ⌜ r ≡ writeNumber (canonicalWritten (now (witness .entry)) (now (out .entry))) ⌝ }
     ensures { λ _. ⌜ now (out .exit) ≡ canonicalStored (now (witness .entry)) (now (out .entry)) ⌝ }
