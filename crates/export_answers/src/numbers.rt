@@ -3,7 +3,7 @@ use protocol::WriteAnswer;
 use protocol::error_number;
 ghost use mathlib.Core.Path.{_≡_};
 ghost use Rattle.protocol.specs.Write.{writeNumber};
-ghost use Rattle.export_answers.specs.Words.{lengthAfter};
+ghost use Rattle.export_answers.specs.Stored.{lengthAfter};
 
 // A writer's number; the length that it wrote goes to `len`.
 pub fn written(answer: WriteAnswer, len: &mut usize) -> u32

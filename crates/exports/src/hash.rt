@@ -11,14 +11,13 @@ ghost use lib.ListN.{length};
 ghost use Rattle.blake2b.specs.Rfc7693.{hashOf};
 ghost use Rattle.blake2b.specs.State.{ckbParameters};
 ghost use Rattle.protocol.specs.Rows.{checkNumber};
-ghost use Rattle.export_answers.specs.Words.{storedNumber, storedAfter, hashBytes};
+ghost use Rattle.export_answers.specs.Stored.{StoresBytes};
 ghost use Rattle.exports.specs.Hash.{partsFault};
 
 // Stores CKB's hash of the data at the front of `out`.
 #[no_mangle]
 pub extern "C" fn fowlcredenza_ckb_hash(data: &[u8], out: &mut [u8]) -> u32
-    ensures { λ r. ⌜ r ≡ storedNumber 0 (hashOf ckbParameters (now («data» .entry)) 32) (length (now (out .entry))) ⌝ }
-    ensures { λ _. ⌜ now (out .exit) ≡ storedAfter (hashOf ckbParameters (now («data» .entry)) 32) (now (out .entry)) ⌝ }
+    ensures { λ r. ⌜ StoresBytes 0 (hashOf ckbParameters (now («data» .entry)) 32) (now (out .entry)) r (now (out .exit)) ⌝ }
 {
     store_hash(Check::Passed, ckb_hash(data), out)
 }
@@ -58,8 +57,9 @@ pub extern "C" fn fowlcredenza_ckb_hash_parts(
     step: usize,
     out: &mut [u8],
 ) -> u32
-    ensures { λ r. ⌜ r ≡ storedNumber (checkNumber (partsFault (now («data» .entry)) first)) (hashBytes (partsFault (now («data» .entry)) first) (hashOf ckbParameters (now («data» .entry)) 32)) (length (now (out .entry))) ⌝ }
-    ensures { λ _. ⌜ now (out .exit) ≡ storedAfter (hashBytes (partsFault (now («data» .entry)) first) (hashOf ckbParameters (now («data» .entry)) 32)) (now (out .entry)) ⌝ }
+    ensures { λ r.
+        ⌜ StoresBytes (checkNumber (partsFault (now («data» .entry)) first)) (hashOf ckbParameters (now («data» .entry)) 32)
+        (now (out .entry)) r (now (out .exit)) ⌝ }
 {
     if first <= data.len() {
         store_hash(Check::Passed, parts_hash(data, first, step), out)

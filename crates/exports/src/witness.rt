@@ -10,21 +10,16 @@ use account_witness_writer::encode_witness;
 use export_answers::store_words;
 use export_answers::written;
 use protocol::error_number;
-ghost use mathlib.Core.Path.{_≡_};
-ghost use lib.ListN.{length};
-ghost use Rattle.protocol.specs.Write.{writeNumber};
-ghost use Rattle.account_witness.specs.Header.{witnessHeaderNumber, readWitnessHeader};
-ghost use Rattle.account_witness.specs.Walk.{proofStepNumber, proofStep};
-ghost use Rattle.account_witness.specs.Witness.{witnessNumber, readWitness};
-ghost use Rattle.account_witness_writer.specs.Encode.{witnessWritten, witnessStored};
-ghost use Rattle.export_answers.specs.Words.{wordsNumber, wordsAfter, lengthAfter};
-ghost use Rattle.exports.specs.Readers.{witnessHeaderWords, proofStepWords, witnessWords};
+ghost use Rattle.account_witness.specs.Header.{readWitnessHeader};
+ghost use Rattle.account_witness.specs.Walk.{proofStep};
+ghost use Rattle.account_witness.specs.Witness.{readWitness};
+ghost use Rattle.exports.specs.Readers.{StoresWitnessHeader, StoresProof, StoresWitness};
+ghost use Rattle.exports.specs.Writers.{WritesWitness};
 
 // Stores operation, proof count and sequence.
 #[no_mangle]
 pub extern "C" fn fowlcredenza_parse_witness_header(witness: &[u8], out: &mut [u8]) -> u32
-    ensures { λ r. ⌜ r ≡ wordsNumber (witnessHeaderNumber (readWitnessHeader (now (witness .entry)))) (witnessHeaderWords (readWitnessHeader (now (witness .entry)))) (length (now (out .entry))) ⌝ }
-    ensures { λ _. ⌜ now (out .exit) ≡ wordsAfter (witnessHeaderWords (readWitnessHeader (now (witness .entry)))) (now (out .entry)) ⌝ }
+    ensures { λ r. ⌜ StoresWitnessHeader (readWitnessHeader (now (witness .entry))) (now (out .entry)) r (now (out .exit)) ⌝ }
 {
     match parse_witness_header(witness) {
         WitnessHeaderAnswer::Refused(error) => error_number(error) as u32,
@@ -47,8 +42,7 @@ pub extern "C" fn fowlcredenza_next_proof(
     least: u32,
     out: &mut [u8],
 ) -> u32
-    ensures { λ r. ⌜ r ≡ wordsNumber (proofStepNumber (proofStep (now (witness .entry)) (record { offset = offset; least = least }))) (proofStepWords (proofStep (now (witness .entry)) (record { offset = offset; least = least }))) (length (now (out .entry))) ⌝ }
-    ensures { λ _. ⌜ now (out .exit) ≡ wordsAfter (proofStepWords (proofStep (now (witness .entry)) (record { offset = offset; least = least }))) (now (out .entry)) ⌝ }
+    ensures { λ r. ⌜ StoresProof (proofStep (now (witness .entry)) (record { offset = offset; least = least })) (now (out .entry)) r (now (out .exit)) ⌝ }
 {
     match next_proof(witness, ProofCursor { offset, least }) {
         ProofStep::Refused(error) => error_number(error) as u32,
@@ -68,8 +62,7 @@ pub extern "C" fn fowlcredenza_next_proof(
 // Stores operation, proof count and sequence of a witness lock whose every proof passes.
 #[no_mangle]
 pub extern "C" fn fowlcredenza_validate_witness(witness: &[u8], out: &mut [u8]) -> u32
-    ensures { λ r. ⌜ r ≡ wordsNumber (witnessNumber (readWitness (now (witness .entry)))) (witnessWords (readWitness (now (witness .entry)))) (length (now (out .entry))) ⌝ }
-    ensures { λ _. ⌜ now (out .exit) ≡ wordsAfter (witnessWords (readWitness (now (witness .entry)))) (now (out .entry)) ⌝ }
+    ensures { λ r. ⌜ StoresWitness (readWitness (now (witness .entry))) (now (out .entry)) r (now (out .exit)) ⌝ }
 {
     match validate_witness(witness) {
         WitnessAnswer::Refused(error) => error_number(error) as u32,
@@ -95,9 +88,9 @@ pub extern "C" fn fowlcredenza_encode_witness(
     out: &mut [u8],
     len: &mut usize,
 ) -> u32
-    ensures { λ r. ⌜ r ≡ writeNumber (witnessWritten operation (now (slots .entry)) (now (lengths .entry)) (now (bytes .entry)) (now (out .entry))) ⌝ }
-    ensures { λ _. ⌜ now (out .exit) ≡ witnessStored operation sequence (now (slots .entry)) (now (lengths .entry)) (now (bytes .entry)) (now (out .entry)) ⌝ }
-    ensures { λ _. ⌜ now (len .exit) ≡ lengthAfter (witnessWritten operation (now (slots .entry)) (now (lengths .entry)) (now (bytes .entry)) (now (out .entry))) (now (len .entry)) ⌝ }
+    ensures { λ r.
+        ⌜ WritesWitness operation sequence (now (slots .entry)) (now (lengths .entry)) (now (bytes .entry))
+        (now (out .entry)) (now (len .entry)) r (now (out .exit)) (now (len .exit)) ⌝ }
 {
     written(
         encode_witness(operation, sequence, slots, lengths, bytes, out),

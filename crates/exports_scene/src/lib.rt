@@ -11,8 +11,12 @@ ghost use Rattle.scene_table.specs.Valid.{validTable};
 #[no_mangle]
 pub extern "C" fn fowlcredenza_read_scene(scene: &[u8], store: &mut [u8], table: &mut [u32]) -> u32
     ensures { λ r. ⌜ r ≡ checkNumber (readerCheck (readOf (now (scene .entry)) (length (now (store .entry))) (length (now (table .entry))))) ⌝ }
-    ensures { λ _. ⌜ now (store .exit) ≡ readerStore (length (now (store .entry))) (readOf (now (scene .entry)) (length (now (store .entry))) (length (now (table .entry)))) ⌝ }
-    ensures { λ _. ⌜ now (table .exit) ≡ readerTable (length (now (table .entry))) (readOf (now (scene .entry)) (length (now (store .entry))) (length (now (table .entry)))) ⌝ }
+    ensures { λ _.
+        ⌜ now (store .exit) ≡ readerStore (length (now (store .entry)))
+        (readOf (now (scene .entry)) (length (now (store .entry))) (length (now (table .entry)))) ⌝ }
+    ensures { λ _.
+        ⌜ now (table .exit) ≡ readerTable (length (now (table .entry)))
+        (readOf (now (scene .entry)) (length (now (store .entry))) (length (now (table .entry)))) ⌝ }
 {
     check_number(scene_reader::read_scene(scene, store, table)) as u32
 }

@@ -8,8 +8,7 @@ use borrow.Author.Tests.{le-leb, lt-leb}
 use Rattle.protocol.specs.Rows.{decide, _▷_}
 use Rattle.protocol.specs.declared.error.ProtocolError.the-variants.{SlicesDisagree}
 use Rattle.protocol.specs.declared.check.Check.the-variants.{Passed, Failed}
-use Rattle.export_answers.specs.Words.{hashBytes}
-use Rattle.export_answers.proofs.Fits.{none-number, none-after}
+use Rattle.export_answers.proofs.Fits.{bytes-refused}
 use Rattle.exports.specs.Hash.{partsFault}
 use borrow.Author.Needs.{needs}
 use Rattle.exports.proofs.hash.fowlcredenza_ckb_hash_parts.Statement.{statement}
@@ -24,7 +23,6 @@ unfolding partsFault decide _▷_
 parts-disagree bytes first h = rw (lt-leb first (length bytes) h)
 
 returns : tie.Need-returns
-unfolding hashBytes
 returns c =
     let store = c .before .before in
     let test = store .before .before .before in
@@ -33,12 +31,11 @@ returns c =
     rw (parts-agree (a .«data» .now) (a .first) there) (rw (store .before .before .parts-hash .ensures) at (store .store-hash .ensures))
 
 returns-2 : tie.Need-returns-2
-unfolding hashBytes
 returns-2 c =
     let a = c .before .before .before .before .args in
     let past : length (a .«data» .now) < a .first = omega (arith, c .before .if1 .left) in
     let e = parts-disagree (a .«data» .now) (a .first) past in
-    (rw e (c .error-number .ensures ∙ none-number _ _), rw e (none-after _))
+    rw (e, c .error-number .ensures) (bytes-refused SlicesDisagree _ _)
 
 pub fowlcredenza-ckb-hash-parts-spec : {M : Type 1} → statement M
 fowlcredenza-ckb-hash-parts-spec =
