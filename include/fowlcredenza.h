@@ -10,8 +10,8 @@
  * A function returns the number of docs/NUMBERS.md, 0 accepted, unless its comment says otherwise. docs/LAYOUTS.md has the
  * layouts of slices. A function with an `out` and no `len` stores its numbers as 64-bit little-endian words, or a hash as 32
  * bytes, at the front of `out`; the bytes behind stay. Places are offsets into the input. An `out` that is too short for all
- * of it is 5, after every other refusal. A refusal leaves `out` and `len` as they were. Where the two functions of the lock differ,
- * their comment says it. */
+ * of it is 5, after every other refusal. A refusal leaves `out` and `len` as they were. Where the two functions of the lock
+ * differ, their comment says it. */
 #ifndef FOWLCREDENZA_H
 #define FOWLCREDENZA_H
 
@@ -54,25 +54,48 @@ enum fowlcredenza_number {
     FOWLCREDENZA_LENGTH_OVERFLOW = 39
 };
 
-/* Sizes of buffers: the longest scene that the reader takes, and the program; the entries of a table; an answer buffer that is
- * enough for any scene; a hash; what fowlcredenza_lock and fowlcredenza_decide_scene store in `out`. */
+/* Sizes of buffers, in bytes; of a table, in entries. */
 enum fowlcredenza_size {
+    /* The longest scene that the reader takes, and the program; a store for each, as long as the scene; a table; an answer
+     * buffer that is enough for any scene. */
     FOWLCREDENZA_SCENE_MAX_LEN = 1048576,
     FOWLCREDENZA_PROGRAM_SCENE_MAX_LEN = 65536,
+    FOWLCREDENZA_STORE_LEN = 1048576,
+    FOWLCREDENZA_PROGRAM_STORE_LEN = 65536,
     FOWLCREDENZA_TABLE_LEN = 2048,
     FOWLCREDENZA_ANSWER_LEN = 148992,
+    /* At their longest: args, a state, a witness lock, a request, its aux and its proof, a public-key proof; a witness that the
+     * lock takes, and its canonical form, which has at most four bytes more than it; a hash. */
+    FOWLCREDENZA_ACCOUNT_LOCK_ARGS_LEN = 33,
+    FOWLCREDENZA_ACCOUNT_STATE_MAX_LEN = 16384,
+    FOWLCREDENZA_ACCOUNT_WITNESS_MAX_LOCK_LEN = 131072,
+    FOWLCREDENZA_VERIFIER_MAX_REQUEST_LEN = 69728,
+    FOWLCREDENZA_VERIFIER_MAX_AUX_LEN = 4096,
+    FOWLCREDENZA_VERIFIER_MAX_PROOF_LEN = 65536,
+    FOWLCREDENZA_PUBLIC_KEY_PROOF_MAX_LEN = 131075,
+    FOWLCREDENZA_WITNESS_MAX_LEN = 132096,
+    FOWLCREDENZA_CANONICAL_WITNESS_MAX_LEN = 132100,
     FOWLCREDENZA_HASH_LEN = 32,
+    /* What the function of that name stores in `out`; fowlcredenza_decide_scene as fowlcredenza_lock. */
+    FOWLCREDENZA_CAPABILITY_FOR_OPERATION_OUT_LEN = 8,
+    FOWLCREDENZA_PARSE_ARGS_OUT_LEN = 16,
+    FOWLCREDENZA_PARSE_STATE_HEADER_OUT_LEN = 56,
+    FOWLCREDENZA_VALIDATE_STATE_OUT_LEN = 80,
+    FOWLCREDENZA_NEXT_ENTRY_OUT_LEN = 104,
+    FOWLCREDENZA_PARSE_WITNESS_HEADER_OUT_LEN = 24,
+    FOWLCREDENZA_VALIDATE_WITNESS_OUT_LEN = 24,
+    FOWLCREDENZA_NEXT_PROOF_OUT_LEN = 40,
+    FOWLCREDENZA_PARSE_VERIFIER_REQUEST_OUT_LEN = 80,
+    FOWLCREDENZA_PARSE_PUBLIC_KEY_PROOF_OUT_LEN = 32,
+    FOWLCREDENZA_WITNESS_LOCK_OUT_LEN = 16,
+    FOWLCREDENZA_SCRIPT_ARGS_OUT_LEN = 16,
+    FOWLCREDENZA_REQUEST_NUMBERS_OUT_LEN = 32,
     FOWLCREDENZA_LOCK_OUT_LEN = 56
 };
 
 /* The hash, 32 bytes. */
 
 uint32_t fowlcredenza_ckb_hash(const uint8_t *data, size_t data_len, uint8_t *out, size_t out_len);
-
-/* The same of bytes that are fed as the first `first` of them, then `step` at a time, or the rest at once where `step`
- * is 0. A `first` above `data_len` is 7. */
-uint32_t fowlcredenza_ckb_hash_parts(const uint8_t *data, size_t data_len, size_t first,
-                                     size_t step, uint8_t *out, size_t out_len);
 
 /* Numbers of algorithms and operations. */
 

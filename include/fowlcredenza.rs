@@ -39,9 +39,33 @@ pub mod number {
 pub mod size {
     pub const SCENE_MAX_LEN: usize = 1_048_576;
     pub const PROGRAM_SCENE_MAX_LEN: usize = 65_536;
+    pub const STORE_LEN: usize = 1_048_576;
+    pub const PROGRAM_STORE_LEN: usize = 65_536;
     pub const TABLE_LEN: usize = 2_048;
     pub const ANSWER_LEN: usize = 148_992;
+    pub const ACCOUNT_LOCK_ARGS_LEN: usize = 33;
+    pub const ACCOUNT_STATE_MAX_LEN: usize = 16_384;
+    pub const ACCOUNT_WITNESS_MAX_LOCK_LEN: usize = 131_072;
+    pub const VERIFIER_MAX_REQUEST_LEN: usize = 69_728;
+    pub const VERIFIER_MAX_AUX_LEN: usize = 4_096;
+    pub const VERIFIER_MAX_PROOF_LEN: usize = 65_536;
+    pub const PUBLIC_KEY_PROOF_MAX_LEN: usize = 131_075;
+    pub const WITNESS_MAX_LEN: usize = 132_096;
+    pub const CANONICAL_WITNESS_MAX_LEN: usize = 132_100;
     pub const HASH_LEN: usize = 32;
+    pub const CAPABILITY_FOR_OPERATION_OUT_LEN: usize = 8;
+    pub const PARSE_ARGS_OUT_LEN: usize = 16;
+    pub const PARSE_STATE_HEADER_OUT_LEN: usize = 56;
+    pub const VALIDATE_STATE_OUT_LEN: usize = 80;
+    pub const NEXT_ENTRY_OUT_LEN: usize = 104;
+    pub const PARSE_WITNESS_HEADER_OUT_LEN: usize = 24;
+    pub const VALIDATE_WITNESS_OUT_LEN: usize = 24;
+    pub const NEXT_PROOF_OUT_LEN: usize = 40;
+    pub const PARSE_VERIFIER_REQUEST_OUT_LEN: usize = 80;
+    pub const PARSE_PUBLIC_KEY_PROOF_OUT_LEN: usize = 32;
+    pub const WITNESS_LOCK_OUT_LEN: usize = 16;
+    pub const SCRIPT_ARGS_OUT_LEN: usize = 16;
+    pub const REQUEST_NUMBERS_OUT_LEN: usize = 32;
     pub const LOCK_OUT_LEN: usize = 56;
 }
 
@@ -50,14 +74,6 @@ unsafe extern "C" {
     pub fn fowlcredenza_ckb_hash(
         data: *const u8,
         data_len: usize,
-        out: *mut u8,
-        out_len: usize,
-    ) -> u32;
-    pub fn fowlcredenza_ckb_hash_parts(
-        data: *const u8,
-        data_len: usize,
-        first: usize,
-        step: usize,
         out: *mut u8,
         out_len: usize,
     ) -> u32;

@@ -15,21 +15,6 @@ pub fn ckb_hash(data: &[u8], out: &mut [u8]) -> u32 {
     }
 }
 
-/// The same of data that is fed as its first `first` bytes, then `step` bytes at a time, or the rest
-/// at once where `step` is 0.
-pub fn ckb_hash_parts(data: &[u8], first: usize, step: usize, out: &mut [u8]) -> u32 {
-    unsafe {
-        library::fowlcredenza_ckb_hash_parts(
-            data.as_ptr(),
-            data.len(),
-            first,
-            step,
-            out.as_mut_ptr(),
-            out.len(),
-        )
-    }
-}
-
 /// 1 or 0.
 pub fn is_supported_algorithm(algorithm: u16) -> u32 {
     unsafe { library::fowlcredenza_is_supported_algorithm(algorithm) }

@@ -1,4 +1,4 @@
--- `exports::hash::fowlcredenza_ckb_hash_parts` meets its contract, by whether there is a first part. Assumes nothing.
+-- `exports_test::fowlcredenza_ckb_hash_parts` meets its contract, by whether there is a first part. Assumes nothing.
 use mathlib.Core.Path.{_≡_, _∙_}
 use mathlib.Core.List.{List}
 use Prim.Native.Nat.{ℕ, _≤_, _<_}
@@ -9,10 +9,10 @@ use Rattle.protocol.specs.Rows.{decide, _▷_}
 use Rattle.protocol.specs.declared.error.ProtocolError.the-variants.{SlicesDisagree}
 use Rattle.protocol.specs.declared.check.Check.the-variants.{Passed, Failed}
 use Rattle.export_answers.proofs.Fits.{bytes-refused}
-use Rattle.exports.specs.Hash.{partsFault}
+use Rattle.exports_test.specs.Parts.{partsFault}
 use borrow.Author.Needs.{needs}
-use Rattle.exports.proofs.hash.fowlcredenza_ckb_hash_parts.Statement.{statement}
-use Rattle.exports.proofs.hash.fowlcredenza_ckb_hash_parts.Tie as tie
+use Rattle.exports_test.proofs.fowlcredenza_ckb_hash_parts.Statement.{statement}
+use Rattle.exports_test.proofs.fowlcredenza_ckb_hash_parts.Tie as tie
 
 parts-agree : (bytes : List ℕ) (first : ℕ) → first ≤ length bytes → partsFault bytes first ≡ Passed
 unfolding partsFault decide _▷_
