@@ -1,4 +1,5 @@
 // The witness lock.
+use account_witness::AccountWitnessHeader;
 use account_witness::ProofCursor;
 use account_witness::ProofStep;
 use account_witness::WitnessAnswer;
@@ -13,8 +14,22 @@ use protocol::error_number;
 ghost use Rattle.account_witness.specs.Header.{readWitnessHeader};
 ghost use Rattle.account_witness.specs.Walk.{proofStep};
 ghost use Rattle.account_witness.specs.Witness.{readWitness};
-ghost use Rattle.exports.specs.Readers.{StoresWitnessHeader, StoresProof, StoresWitness};
+ghost use Rattle.export_answers.specs.Words.{wordBytes};
+ghost use Rattle.export_answers.specs.Stored.{StoresBytes};
+ghost use Rattle.exports.specs.Readers.{witnessFields, StoresWitnessHeader, StoresProof, StoresWitness};
 ghost use Rattle.exports.specs.Writers.{WritesWitness};
+
+// The words of a header.
+fn store_witness_header(header: AccountWitnessHeader, out: &mut [u8]) -> u32
+    ensures { λ r. ⌜ StoresBytes 0 (wordBytes (witnessFields header)) (now (out .entry)) r (now (out .exit)) ⌝ }
+{
+    let words = [
+        header.operation as u64,
+        header.proof_count as u64,
+        header.state_sequence,
+    ];
+    store_words(&words, out)
+}
 
 // Stores operation, proof count and sequence.
 #[no_mangle]
@@ -23,14 +38,7 @@ pub extern "C" fn fowlcredenza_parse_witness_header(witness: &[u8], out: &mut [u
 {
     match parse_witness_header(witness) {
         WitnessHeaderAnswer::Refused(error) => error_number(error) as u32,
-        WitnessHeaderAnswer::Header(header) => {
-            let words = [
-                header.operation as u64,
-                header.proof_count as u64,
-                header.state_sequence,
-            ];
-            store_words(&words, out)
-        }
+        WitnessHeaderAnswer::Header(header) => store_witness_header(header, out),
     }
 }
 
@@ -66,14 +74,7 @@ pub extern "C" fn fowlcredenza_validate_witness(witness: &[u8], out: &mut [u8]) 
 {
     match validate_witness(witness) {
         WitnessAnswer::Refused(error) => error_number(error) as u32,
-        WitnessAnswer::Witness(header) => {
-            let words = [
-                header.operation as u64,
-                header.proof_count as u64,
-                header.state_sequence,
-            ];
-            store_words(&words, out)
-        }
+        WitnessAnswer::Witness(header) => store_witness_header(header, out),
     }
 }
 
