@@ -10,8 +10,8 @@
  * A function returns the number of docs/NUMBERS.md, 0 accepted, unless its comment says otherwise. docs/LAYOUTS.md has the
  * layouts of slices. A function with an `out` and no `len` stores its numbers as 64-bit little-endian words, or a hash as 32
  * bytes, at the front of `out`; the bytes behind stay. Places are offsets into the input. An `out` that is too short for all
- * of it is 5, after every other refusal. A refusal leaves `out` and `len` as they were. Where the two functions of the lock differ,
- * their comment says it. */
+ * of it is 5, after every other refusal. A refusal leaves `out` and `len` as they were. Where the two functions of the lock
+ * differ, their comment says it. */
 #ifndef FOWLCREDENZA_H
 #define FOWLCREDENZA_H
 
@@ -54,25 +54,48 @@ enum fowlcredenza_number {
     FOWLCREDENZA_LENGTH_OVERFLOW = 39
 };
 
-/* Sizes of buffers: the longest scene that the reader takes, and the program; the entries of a table; an answer buffer that is
- * enough for any scene; a hash; what fowlcredenza_lock and fowlcredenza_decide_scene store in `out`. */
+/* Sizes of buffers, in bytes; of a table, in entries. */
 enum fowlcredenza_size {
+    /* The longest scene that the reader takes, and the program; a store for each, as long as the scene; a table; an answer
+     * buffer that is enough for any scene. */
     FOWLCREDENZA_SCENE_MAX_LEN = 1048576,
     FOWLCREDENZA_PROGRAM_SCENE_MAX_LEN = 65536,
+    FOWLCREDENZA_STORE_LEN = 1048576,
+    FOWLCREDENZA_PROGRAM_STORE_LEN = 65536,
     FOWLCREDENZA_TABLE_LEN = 2048,
     FOWLCREDENZA_ANSWER_LEN = 148992,
+    /* At their longest: args, a state, a witness lock, a request, its aux and its proof, a public-key proof; a witness that the
+     * lock takes, and its canonical form, which has at most four bytes more than it; a hash. */
+    FOWLCREDENZA_ACCOUNT_LOCK_ARGS_LEN = 33,
+    FOWLCREDENZA_ACCOUNT_STATE_MAX_LEN = 16384,
+    FOWLCREDENZA_ACCOUNT_WITNESS_MAX_LOCK_LEN = 131072,
+    FOWLCREDENZA_VERIFIER_MAX_REQUEST_LEN = 69728,
+    FOWLCREDENZA_VERIFIER_MAX_AUX_LEN = 4096,
+    FOWLCREDENZA_VERIFIER_MAX_PROOF_LEN = 65536,
+    FOWLCREDENZA_PUBLIC_KEY_PROOF_MAX_LEN = 131075,
+    FOWLCREDENZA_WITNESS_MAX_LEN = 132096,
+    FOWLCREDENZA_CANONICAL_WITNESS_MAX_LEN = 132100,
     FOWLCREDENZA_HASH_LEN = 32,
+    /* What the function of that name stores in `out`; fowlcredenza_decide_scene as fowlcredenza_lock. */
+    FOWLCREDENZA_CAPABILITY_FOR_OPERATION_OUT_LEN = 8,
+    FOWLCREDENZA_PARSE_ARGS_OUT_LEN = 16,
+    FOWLCREDENZA_PARSE_STATE_HEADER_OUT_LEN = 56,
+    FOWLCREDENZA_VALIDATE_STATE_OUT_LEN = 80,
+    FOWLCREDENZA_NEXT_ENTRY_OUT_LEN = 104,
+    FOWLCREDENZA_PARSE_WITNESS_HEADER_OUT_LEN = 24,
+    FOWLCREDENZA_VALIDATE_WITNESS_OUT_LEN = 24,
+    FOWLCREDENZA_NEXT_PROOF_OUT_LEN = 40,
+    FOWLCREDENZA_PARSE_VERIFIER_REQUEST_OUT_LEN = 80,
+    FOWLCREDENZA_PARSE_PUBLIC_KEY_PROOF_OUT_LEN = 32,
+    FOWLCREDENZA_WITNESS_LOCK_OUT_LEN = 16,
+    FOWLCREDENZA_SCRIPT_ARGS_OUT_LEN = 16,
+    FOWLCREDENZA_REQUEST_NUMBERS_OUT_LEN = 32,
     FOWLCREDENZA_LOCK_OUT_LEN = 56
 };
 
 /* The hash, 32 bytes. */
 
 uint32_t fowlcredenza_ckb_hash(const uint8_t *data, size_t data_len, uint8_t *out, size_t out_len);
-
-/* The same of bytes that are fed as the first `first` of them, then `step` at a time, or the rest at once where `step`
- * is 0. A `first` above `data_len` is 7. */
-uint32_t fowlcredenza_ckb_hash_parts(const uint8_t *data, size_t data_len, size_t first,
-                                     size_t step, uint8_t *out, size_t out_len);
 
 /* Numbers of algorithms and operations. */
 
@@ -125,28 +148,28 @@ uint32_t fowlcredenza_parse_public_key_proof(const uint8_t *proof, size_t proof_
 /* Writers. `len` takes the length written. */
 
 uint32_t fowlcredenza_account_lock_args(const uint8_t *account, size_t account_len, uint8_t *out,
-                                        size_t out_len, uint64_t *len);
+                                        size_t out_len, size_t *len);
 
 uint32_t fowlcredenza_encode_state(uint8_t flags, uint64_t sequence, uint16_t spend,
                                    uint16_t rotate, uint16_t recovery, uint64_t since,
                                    const uint16_t *fields, size_t fields_len, const uint8_t *bytes,
-                                   size_t bytes_len, uint8_t *out, size_t out_len, uint64_t *len);
+                                   size_t bytes_len, uint8_t *out, size_t out_len, size_t *len);
 
 uint32_t fowlcredenza_encode_witness(uint8_t operation, uint64_t sequence, const uint16_t *slots,
                                      size_t slots_len, const uint32_t *lengths, size_t lengths_len,
                                      const uint8_t *bytes, size_t bytes_len, uint8_t *out,
-                                     size_t out_len, uint64_t *len);
+                                     size_t out_len, size_t *len);
 
 uint32_t fowlcredenza_encode_verifier_request(uint16_t algorithm, uint16_t slot, uint8_t operation,
                                               uint8_t profile, const uint8_t *digest,
                                               size_t digest_len, const uint8_t *key,
                                               size_t key_len, const uint8_t *aux, size_t aux_len,
                                               const uint8_t *proof, size_t proof_len, uint8_t *out,
-                                              size_t out_len, uint64_t *len);
+                                              size_t out_len, size_t *len);
 
 uint32_t fowlcredenza_encode_public_key_proof(const uint8_t *key, size_t key_len,
                                               const uint8_t *signature, size_t signature_len,
-                                              uint8_t *out, size_t out_len, uint64_t *len);
+                                              uint8_t *out, size_t out_len, size_t *len);
 
 /* The witnesses, the script and the hashes of a transaction. */
 
@@ -159,7 +182,7 @@ uint32_t fowlcredenza_script_args(const uint8_t *script, size_t script_len, uint
                                   size_t out_len);
 
 uint32_t fowlcredenza_canonical_witness(const uint8_t *witness, size_t witness_len, uint8_t *out,
-                                        size_t out_len, uint64_t *len);
+                                        size_t out_len, size_t *len);
 
 /* The digest, 32 bytes. */
 uint32_t fowlcredenza_authorization_digest(uint8_t operation, const uint8_t *account,
@@ -181,7 +204,7 @@ uint32_t fowlcredenza_read_scene(const uint8_t *scene, size_t scene_len, uint8_t
                                  size_t store_len, uint32_t *table, size_t table_len);
 
 /* 1 where some scene, its length aside, leaves this table with a store of that length, else 0. */
-uint32_t fowlcredenza_table_valid(const uint32_t *table, size_t table_len, uint64_t store_len);
+uint32_t fowlcredenza_table_valid(const uint32_t *table, size_t table_len, size_t store_len);
 
 /* The lock. */
 
@@ -209,16 +232,16 @@ uint32_t fowlcredenza_request_numbers(const uint8_t *request, size_t request_len
 /* The bytes of a part, to the front of `out`; `len` takes their number. Digest and key have 32, an aux at most 4,096, a proof
  * at most 65,536. */
 uint32_t fowlcredenza_request_authorization_digest(const uint8_t *request, size_t request_len,
-                                                   uint8_t *out, size_t out_len, uint64_t *len);
+                                                   uint8_t *out, size_t out_len, size_t *len);
 
 uint32_t fowlcredenza_request_key_id(const uint8_t *request, size_t request_len, uint8_t *out,
-                                     size_t out_len, uint64_t *len);
+                                     size_t out_len, size_t *len);
 
 uint32_t fowlcredenza_request_aux(const uint8_t *request, size_t request_len, uint8_t *out,
-                                  size_t out_len, uint64_t *len);
+                                  size_t out_len, size_t *len);
 
 uint32_t fowlcredenza_request_proof(const uint8_t *request, size_t request_len, uint8_t *out,
-                                    size_t out_len, uint64_t *len);
+                                    size_t out_len, size_t *len);
 
 #ifdef __cplusplus
 }

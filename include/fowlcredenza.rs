@@ -39,9 +39,33 @@ pub mod number {
 pub mod size {
     pub const SCENE_MAX_LEN: usize = 1_048_576;
     pub const PROGRAM_SCENE_MAX_LEN: usize = 65_536;
+    pub const STORE_LEN: usize = 1_048_576;
+    pub const PROGRAM_STORE_LEN: usize = 65_536;
     pub const TABLE_LEN: usize = 2_048;
     pub const ANSWER_LEN: usize = 148_992;
+    pub const ACCOUNT_LOCK_ARGS_LEN: usize = 33;
+    pub const ACCOUNT_STATE_MAX_LEN: usize = 16_384;
+    pub const ACCOUNT_WITNESS_MAX_LOCK_LEN: usize = 131_072;
+    pub const VERIFIER_MAX_REQUEST_LEN: usize = 69_728;
+    pub const VERIFIER_MAX_AUX_LEN: usize = 4_096;
+    pub const VERIFIER_MAX_PROOF_LEN: usize = 65_536;
+    pub const PUBLIC_KEY_PROOF_MAX_LEN: usize = 131_075;
+    pub const WITNESS_MAX_LEN: usize = 132_096;
+    pub const CANONICAL_WITNESS_MAX_LEN: usize = 132_100;
     pub const HASH_LEN: usize = 32;
+    pub const CAPABILITY_FOR_OPERATION_OUT_LEN: usize = 8;
+    pub const PARSE_ARGS_OUT_LEN: usize = 16;
+    pub const PARSE_STATE_HEADER_OUT_LEN: usize = 56;
+    pub const VALIDATE_STATE_OUT_LEN: usize = 80;
+    pub const NEXT_ENTRY_OUT_LEN: usize = 104;
+    pub const PARSE_WITNESS_HEADER_OUT_LEN: usize = 24;
+    pub const VALIDATE_WITNESS_OUT_LEN: usize = 24;
+    pub const NEXT_PROOF_OUT_LEN: usize = 40;
+    pub const PARSE_VERIFIER_REQUEST_OUT_LEN: usize = 80;
+    pub const PARSE_PUBLIC_KEY_PROOF_OUT_LEN: usize = 32;
+    pub const WITNESS_LOCK_OUT_LEN: usize = 16;
+    pub const SCRIPT_ARGS_OUT_LEN: usize = 16;
+    pub const REQUEST_NUMBERS_OUT_LEN: usize = 32;
     pub const LOCK_OUT_LEN: usize = 56;
 }
 
@@ -50,14 +74,6 @@ unsafe extern "C" {
     pub fn fowlcredenza_ckb_hash(
         data: *const u8,
         data_len: usize,
-        out: *mut u8,
-        out_len: usize,
-    ) -> u32;
-    pub fn fowlcredenza_ckb_hash_parts(
-        data: *const u8,
-        data_len: usize,
-        first: usize,
-        step: usize,
         out: *mut u8,
         out_len: usize,
     ) -> u32;
@@ -130,7 +146,7 @@ unsafe extern "C" {
         account_len: usize,
         out: *mut u8,
         out_len: usize,
-        len: *mut u64,
+        len: *mut usize,
     ) -> u32;
     pub fn fowlcredenza_encode_state(
         flags: u8,
@@ -145,7 +161,7 @@ unsafe extern "C" {
         bytes_len: usize,
         out: *mut u8,
         out_len: usize,
-        len: *mut u64,
+        len: *mut usize,
     ) -> u32;
     pub fn fowlcredenza_encode_witness(
         operation: u8,
@@ -158,7 +174,7 @@ unsafe extern "C" {
         bytes_len: usize,
         out: *mut u8,
         out_len: usize,
-        len: *mut u64,
+        len: *mut usize,
     ) -> u32;
     pub fn fowlcredenza_encode_verifier_request(
         algorithm: u16,
@@ -175,7 +191,7 @@ unsafe extern "C" {
         proof_len: usize,
         out: *mut u8,
         out_len: usize,
-        len: *mut u64,
+        len: *mut usize,
     ) -> u32;
     pub fn fowlcredenza_encode_public_key_proof(
         key: *const u8,
@@ -184,7 +200,7 @@ unsafe extern "C" {
         signature_len: usize,
         out: *mut u8,
         out_len: usize,
-        len: *mut u64,
+        len: *mut usize,
     ) -> u32;
     pub fn fowlcredenza_witness_lock(
         witness: *const u8,
@@ -203,7 +219,7 @@ unsafe extern "C" {
         witness_len: usize,
         out: *mut u8,
         out_len: usize,
-        len: *mut u64,
+        len: *mut usize,
     ) -> u32;
     pub fn fowlcredenza_authorization_digest(
         operation: u8,
@@ -233,7 +249,7 @@ unsafe extern "C" {
         table: *mut u32,
         table_len: usize,
     ) -> u32;
-    pub fn fowlcredenza_table_valid(table: *const u32, table_len: usize, store_len: u64) -> u32;
+    pub fn fowlcredenza_table_valid(table: *const u32, table_len: usize, store_len: usize) -> u32;
     pub fn fowlcredenza_lock(
         table: *const u32,
         table_len: usize,
@@ -267,27 +283,27 @@ unsafe extern "C" {
         request_len: usize,
         out: *mut u8,
         out_len: usize,
-        len: *mut u64,
+        len: *mut usize,
     ) -> u32;
     pub fn fowlcredenza_request_key_id(
         request: *const u8,
         request_len: usize,
         out: *mut u8,
         out_len: usize,
-        len: *mut u64,
+        len: *mut usize,
     ) -> u32;
     pub fn fowlcredenza_request_aux(
         request: *const u8,
         request_len: usize,
         out: *mut u8,
         out_len: usize,
-        len: *mut u64,
+        len: *mut usize,
     ) -> u32;
     pub fn fowlcredenza_request_proof(
         request: *const u8,
         request_len: usize,
         out: *mut u8,
         out_len: usize,
-        len: *mut u64,
+        len: *mut usize,
     ) -> u32;
 }

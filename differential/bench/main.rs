@@ -33,6 +33,8 @@ mod scene_speed;
 #[cfg(originals)]
 #[path = "../host/scene_text.rs"]
 mod scene_text;
+#[path = "../host/test_exports.rs"]
+mod test_exports;
 
 fn main() {
     hash::run();

@@ -9,7 +9,7 @@ enum { LONGEST = FOWLCREDENZA_PROGRAM_SCENE_MAX_LEN, WORD = 8 };
 
 /* One byte more than the longest scene, to see that there is more. */
 static uint8_t scene[LONGEST + 1];
-static uint8_t store[LONGEST / 2];
+static uint8_t store[FOWLCREDENZA_PROGRAM_STORE_LEN];
 static uint32_t table[FOWLCREDENZA_TABLE_LEN];
 static uint8_t answer[FOWLCREDENZA_ANSWER_LEN];
 /* Count and length of the requests and 1 where there is a digest, as words, then the digest. */

@@ -15,21 +15,6 @@ pub fn ckb_hash(data: &[u8], out: &mut [u8]) -> u32 {
     }
 }
 
-/// The same of data that is fed as its first `first` bytes, then `step` bytes at a time, or the rest
-/// at once where `step` is 0.
-pub fn ckb_hash_parts(data: &[u8], first: usize, step: usize, out: &mut [u8]) -> u32 {
-    unsafe {
-        library::fowlcredenza_ckb_hash_parts(
-            data.as_ptr(),
-            data.len(),
-            first,
-            step,
-            out.as_mut_ptr(),
-            out.len(),
-        )
-    }
-}
-
 /// 1 or 0.
 pub fn is_supported_algorithm(algorithm: u16) -> u32 {
     unsafe { library::fowlcredenza_is_supported_algorithm(algorithm) }
@@ -112,7 +97,7 @@ pub fn parse_public_key_proof(proof: &[u8], out: &mut [u8]) -> u32 {
 }
 
 /// The args of an account.
-pub fn account_lock_args(account: &[u8], out: &mut [u8], len: &mut u64) -> u32 {
+pub fn account_lock_args(account: &[u8], out: &mut [u8], len: &mut usize) -> u32 {
     unsafe {
         library::fowlcredenza_account_lock_args(
             account.as_ptr(),
@@ -136,7 +121,7 @@ pub struct LentState<'a> {
     pub bytes: &'a [u8],
 }
 
-pub fn encode_state(state: &LentState, out: &mut [u8], len: &mut u64) -> u32 {
+pub fn encode_state(state: &LentState, out: &mut [u8], len: &mut usize) -> u32 {
     unsafe {
         library::fowlcredenza_encode_state(
             state.flags,
@@ -165,7 +150,7 @@ pub struct LentWitness<'a> {
     pub bytes: &'a [u8],
 }
 
-pub fn encode_witness(witness: &LentWitness, out: &mut [u8], len: &mut u64) -> u32 {
+pub fn encode_witness(witness: &LentWitness, out: &mut [u8], len: &mut usize) -> u32 {
     unsafe {
         library::fowlcredenza_encode_witness(
             witness.operation,
@@ -195,7 +180,7 @@ pub struct LentRequest<'a> {
     pub proof: &'a [u8],
 }
 
-pub fn encode_verifier_request(request: &LentRequest, out: &mut [u8], len: &mut u64) -> u32 {
+pub fn encode_verifier_request(request: &LentRequest, out: &mut [u8], len: &mut usize) -> u32 {
     unsafe {
         library::fowlcredenza_encode_verifier_request(
             request.algorithm_id,
@@ -217,7 +202,12 @@ pub fn encode_verifier_request(request: &LentRequest, out: &mut [u8], len: &mut 
     }
 }
 
-pub fn encode_public_key_proof(key: &[u8], signature: &[u8], out: &mut [u8], len: &mut u64) -> u32 {
+pub fn encode_public_key_proof(
+    key: &[u8],
+    signature: &[u8],
+    out: &mut [u8],
+    len: &mut usize,
+) -> u32 {
     unsafe {
         library::fowlcredenza_encode_public_key_proof(
             key.as_ptr(),

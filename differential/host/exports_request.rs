@@ -3,9 +3,9 @@
 use crate::fowlcredenza as library;
 
 /// A request, the buffer for a part of it, and the part's length.
-type Part = unsafe extern "C" fn(*const u8, usize, *mut u8, usize, *mut u64) -> u32;
+type Part = unsafe extern "C" fn(*const u8, usize, *mut u8, usize, *mut usize) -> u32;
 
-fn part(function: Part, request: &[u8], out: &mut [u8], len: &mut u64) -> u32 {
+fn part(function: Part, request: &[u8], out: &mut [u8], len: &mut usize) -> u32 {
     unsafe {
         function(
             request.as_ptr(),
@@ -18,7 +18,7 @@ fn part(function: Part, request: &[u8], out: &mut [u8], len: &mut u64) -> u32 {
 }
 
 /// Algorithm, slot, operation and profile as words; their length is stored here, as the function stores none.
-pub fn numbers(request: &[u8], out: &mut [u8], len: &mut u64) -> u32 {
+pub fn numbers(request: &[u8], out: &mut [u8], len: &mut usize) -> u32 {
     let number = unsafe {
         library::fowlcredenza_request_numbers(
             request.as_ptr(),
@@ -33,19 +33,19 @@ pub fn numbers(request: &[u8], out: &mut [u8], len: &mut u64) -> u32 {
     number
 }
 
-pub fn authorization_digest(request: &[u8], out: &mut [u8], len: &mut u64) -> u32 {
+pub fn authorization_digest(request: &[u8], out: &mut [u8], len: &mut usize) -> u32 {
     let function = library::fowlcredenza_request_authorization_digest;
     part(function, request, out, len)
 }
 
-pub fn key_id(request: &[u8], out: &mut [u8], len: &mut u64) -> u32 {
+pub fn key_id(request: &[u8], out: &mut [u8], len: &mut usize) -> u32 {
     part(library::fowlcredenza_request_key_id, request, out, len)
 }
 
-pub fn aux(request: &[u8], out: &mut [u8], len: &mut u64) -> u32 {
+pub fn aux(request: &[u8], out: &mut [u8], len: &mut usize) -> u32 {
     part(library::fowlcredenza_request_aux, request, out, len)
 }
 
-pub fn proof(request: &[u8], out: &mut [u8], len: &mut u64) -> u32 {
+pub fn proof(request: &[u8], out: &mut [u8], len: &mut usize) -> u32 {
     part(library::fowlcredenza_request_proof, request, out, len)
 }

@@ -26,7 +26,7 @@ pub fn script_args(script: &[u8], out: &mut [u8]) -> u32 {
     }
 }
 
-pub fn canonical_witness(witness: &[u8], out: &mut [u8], len: &mut u64) -> u32 {
+pub fn canonical_witness(witness: &[u8], out: &mut [u8], len: &mut usize) -> u32 {
     unsafe {
         library::fowlcredenza_canonical_witness(
             witness.as_ptr(),

@@ -40,6 +40,7 @@ mod scenes;
 #[cfg(originals)]
 mod smoke;
 mod table;
+mod test_exports;
 #[cfg(originals)]
 mod transaction;
 mod vectors;

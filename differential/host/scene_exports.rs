@@ -18,7 +18,7 @@ pub fn read_scene(scene: &[u8], store: &mut [u8], table: &mut [u32]) -> u32 {
 
 /// 1 where some scene leaves this table with a store of that length, else 0.
 pub fn table_valid(table: &[u32], store_len: usize) -> u32 {
-    unsafe { library::fowlcredenza_table_valid(table.as_ptr(), table.len(), store_len as u64) }
+    unsafe { library::fowlcredenza_table_valid(table.as_ptr(), table.len(), store_len) }
 }
 
 /// Runs the lock. `out` takes count, length and 1 where there is a digest, as 64-bit words, then the digest.

@@ -13,8 +13,9 @@ use Rattle.octets.specs.Le.{toLe}
 use Rattle.octets.specs.Layout.{layoutBytes}
 use Rattle.octets.proofs.LeLaws.{length-to}
 use Rattle.octets.proofs.Stores.{sets-append, sets-lent}
-use Rattle.export_answers.specs.Words.{words, wordBytes, wordsNumber, wordsAfter}
-use Rattle.export_answers.proofs.Fits.{fit-number, fit-after, short-number, short-after}
+use Rattle.export_answers.specs.Words.{words, wordBytes}
+use Rattle.export_answers.specs.Stored.{StoresBytes}
+use Rattle.export_answers.proofs.Fits.{bytes-fit, bytes-short}
 
 -- word i, and then the words behind it
 pub word-stored : (vs out : List ℕ) (i : ℕ) → i < length vs → sets (sets out (8 * i) (toLe 8 (getD vs i 0))) (8 * (i + 1)) (wordBytes (drop (i + 1) vs)) ≡ sets out (8 * i) (wordBytes (drop i vs))
@@ -43,16 +44,12 @@ pub words-front : (vs out ys : List ℕ) → 8 * length vs ≤ length out → ys
 words-front vs out ys h e = rw sub-zero (sets-lent out (wordBytes vs) ys 0 (8 * length vs) (length-words vs) (omega arith) (rw sub-zero at e))
 
 -- words for which there is room, and words for which there is none
-pub words-fit : (vs out : List ℕ) → 8 * length vs ≤ length out → (0 ≡ wordsNumber 0 vs (length out)) × (sets out 0 (wordBytes vs) ≡ wordsAfter vs out)
-unfolding wordsNumber wordsAfter
+pub words-fit : (vs out : List ℕ) → 8 * length vs ≤ length out → StoresBytes 0 (wordBytes vs) out 0 (sets out 0 (wordBytes vs))
 words-fit vs out h =
     let n = length-words vs in
-    let k : length (wordBytes vs) ≤ length out = omega arith in
-    (fit-number (wordBytes vs) out k 0, fit-after (wordBytes vs) out k)
+    bytes-fit (wordBytes vs) out (omega arith)
 
-pub words-short : (vs out : List ℕ) → length out < 8 * length vs → (5 ≡ wordsNumber 0 vs (length out)) × (out ≡ wordsAfter vs out)
-unfolding wordsNumber wordsAfter
+pub words-short : (vs out : List ℕ) → length out < 8 * length vs → StoresBytes 0 (wordBytes vs) out 5 out
 words-short vs out h =
     let n = length-words vs in
-    let k : length out < length (wordBytes vs) = omega arith in
-    (short-number (wordBytes vs) out k 0, short-after (wordBytes vs) out k)
+    bytes-short (wordBytes vs) out (omega arith)

@@ -2,9 +2,9 @@
 use crate::stored::too_short;
 use octets::store_number;
 ghost use mathlib.Core.Path.{_≡_};
-ghost use lib.ListN.{length};
 ghost use lib.Seq.{sets};
-ghost use Rattle.export_answers.specs.Words.{wordBytes, wordsNumber, wordsAfter};
+ghost use Rattle.export_answers.specs.Words.{wordBytes};
+ghost use Rattle.export_answers.specs.Stored.{StoresBytes};
 
 // Stores the words one by one.
 fn store_each(words: &[u64], out: &mut [u8])
@@ -19,8 +19,7 @@ fn store_each(words: &[u64], out: &mut [u8])
 
 // Stores the words at the front of `out`, or 5. They are lent just their part of it, so that no store looks for the end.
 pub fn store_words(words: &[u64], out: &mut [u8]) -> u32
-    ensures { λ r. ⌜ r ≡ wordsNumber 0 (now (words .entry)) (length (now (out .entry))) ⌝ }
-    ensures { λ _. ⌜ now (out .exit) ≡ wordsAfter (now (words .entry)) (now (out .entry)) ⌝ }
+    ensures { λ r. ⌜ StoresBytes 0 (wordBytes (now (words .entry))) (now (out .entry)) r (now (out .exit)) ⌝ }
 {
     let end = 8 * words.len();
     if end <= out.len() {

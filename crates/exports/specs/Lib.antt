@@ -1,3 +1,2 @@
 pub mod Readers
 pub mod Writers
-pub mod Hash

@@ -1,6 +1,17 @@
--- The words that each exported reader stores for an answer. A refusal has none.
+-- The words that each exported reader stores for an answer, of which a refusal has none, and its promise: the answer's number,
+-- and the words in the buffer.
 use Prim.Native.Nat.{ℕ}
 use mathlib.Core.List.{List, [], _∷_, _++_}
+use Rattle.protocol.specs.Args.{argsNumber}
+use Rattle.protocol.specs.Policy.{capabilityNumber}
+use Rattle.account_state.specs.State.{stateHeaderNumber, stateNumber, entryStepNumber}
+use Rattle.account_witness.specs.Header.{witnessHeaderNumber}
+use Rattle.account_witness.specs.Walk.{proofStepNumber}
+use Rattle.account_witness.specs.Witness.{witnessNumber}
+use Rattle.verifier_request.specs.Reader.{requestNumber}
+use Rattle.public_key_proof.specs.Reader.{publicKeyProofNumber}
+use Rattle.export_answers.specs.Words.{wordBytes}
+use Rattle.export_answers.specs.Stored.{StoresBytes}
 use Rattle.protocol.specs.declared.args.ArgsAnswer.{ArgsAnswer}
 use Rattle.protocol.specs.declared.args.ArgsAnswer.the-variants as args
 use Rattle.protocol.specs.declared.policy.OperationCapability.{OperationCapability}
@@ -28,10 +39,16 @@ unfoldable pub argsWords : ArgsAnswer → List ℕ
 argsWords (args.Refused e) = []
 argsWords (args.Args a) = a .version ∷ a .«account_id» ∷ []
 
+abbrev pub StoresArgs : ArgsAnswer → List ℕ → ℕ → List ℕ → Type 0
+StoresArgs a out r after = StoresBytes (argsNumber a) (wordBytes (argsWords a)) out r after
+
 -- the bit that the operation needs
 unfoldable pub capabilityWords : OperationCapability → List ℕ
 capabilityWords (capability.Refused e) = []
 capabilityWords (capability.Capability bit) = bit ∷ []
+
+abbrev pub StoresCapability : OperationCapability → List ℕ → ℕ → List ℕ → Type 0
+StoresCapability a out r after = StoresBytes (capabilityNumber a) (wordBytes (capabilityWords a)) out r after
 
 -- a state header's seven numbers, in the order of its fields
 unfoldable pub headerFields : StateHeader → List ℕ
@@ -49,9 +66,15 @@ unfoldable pub headerWords : StateHeaderAnswer → List ℕ
 headerWords (header.Refused e) = []
 headerWords (header.Header h) = headerFields h
 
+abbrev pub StoresStateHeader : StateHeaderAnswer → List ℕ → ℕ → List ℕ → Type 0
+StoresStateHeader a out r after = StoresBytes (stateHeaderNumber a) (wordBytes (headerWords a)) out r after
+
 unfoldable pub stateWords : StateAnswer → List ℕ
 stateWords (state.Refused e) = []
 stateWords (state.Valid h t) = headerFields h ++ (t .«spend_weight» ∷ t .«rotate_weight» ∷ t .«recovery_weight» ∷ [])
+
+abbrev pub StoresState : StateAnswer → List ℕ → ℕ → List ℕ → Type 0
+StoresState a out r after = StoresBytes (stateNumber a) (wordBytes (stateWords a)) out r after
 
 -- an entry, and the cursor behind it
 unfoldable pub stepWords : EntryStep → List ℕ
@@ -72,6 +95,9 @@ stepWords (entry.Entry e c) =
     ∷ c .least
     ∷ []
 
+abbrev pub StoresEntry : EntryStep → List ℕ → ℕ → List ℕ → Type 0
+StoresEntry a out r after = StoresBytes (entryStepNumber a) (wordBytes (stepWords a)) out r after
+
 unfoldable pub witnessFields : AccountWitnessHeader → List ℕ
 witnessFields h = h .operation ∷ h .«proof_count» ∷ h .«state_sequence» ∷ []
 
@@ -79,14 +105,23 @@ unfoldable pub witnessHeaderWords : WitnessHeaderAnswer → List ℕ
 witnessHeaderWords (witnessHeader.Refused e) = []
 witnessHeaderWords (witnessHeader.Header h) = witnessFields h
 
+abbrev pub StoresWitnessHeader : WitnessHeaderAnswer → List ℕ → ℕ → List ℕ → Type 0
+StoresWitnessHeader a out r after = StoresBytes (witnessHeaderNumber a) (wordBytes (witnessHeaderWords a)) out r after
+
 unfoldable pub witnessWords : WitnessAnswer → List ℕ
 witnessWords (witness.Refused e) = []
 witnessWords (witness.Witness h) = witnessFields h
+
+abbrev pub StoresWitness : WitnessAnswer → List ℕ → ℕ → List ℕ → Type 0
+StoresWitness a out r after = StoresBytes (witnessNumber a) (wordBytes (witnessWords a)) out r after
 
 -- a proof, and the cursor behind it
 unfoldable pub proofStepWords : ProofStep → List ℕ
 proofStepWords (step.Refused e) = []
 proofStepWords (step.Next p c) = p .slot ∷ p .start ∷ p .len ∷ c .offset ∷ c .least ∷ []
+
+abbrev pub StoresProof : ProofStep → List ℕ → ℕ → List ℕ → Type 0
+StoresProof a out r after = StoresBytes (proofStepNumber a) (wordBytes (proofStepWords a)) out r after
 
 unfoldable pub requestWords : RequestAnswer → List ℕ
 requestWords (request.Refused e) = []
@@ -103,6 +138,12 @@ requestWords (request.Request f) =
     ∷ f .«proof_len»
     ∷ []
 
+abbrev pub StoresRequest : RequestAnswer → List ℕ → ℕ → List ℕ → Type 0
+StoresRequest a out r after = StoresBytes (requestNumber a) (wordBytes (requestWords a)) out r after
+
 unfoldable pub proofWords : PublicKeyProofAnswer → List ℕ
 proofWords (proof.Refused e) = []
 proofWords (proof.Proof p) = p .«public_key» ∷ p .«public_key_len» ∷ p .signature ∷ p .«signature_len» ∷ []
+
+abbrev pub StoresPublicKeyProof : PublicKeyProofAnswer → List ℕ → ℕ → List ℕ → Type 0
+StoresPublicKeyProof a out r after = StoresBytes (publicKeyProofNumber a) (wordBytes (proofWords a)) out r after

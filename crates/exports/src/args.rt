@@ -15,20 +15,16 @@ use protocol::capability_for_operation;
 use protocol::error_number;
 use protocol::is_supported_algorithm;
 ghost use mathlib.Core.Path.{_≡_};
-ghost use lib.ListN.{length};
 ghost use mathlib.Core.Bool.{cond};
-ghost use Rattle.protocol.specs.Args.{argsNumber, readArgs};
-ghost use Rattle.protocol.specs.Policy.{isSupportedAlgorithm, capabilityFor, capabilityNumber};
-ghost use Rattle.protocol.specs.Write.{writeNumber};
-ghost use Rattle.export_answers.specs.Words.{wordsNumber, wordsAfter, lengthAfter};
-ghost use Rattle.exports.specs.Readers.{argsWords, capabilityWords};
-ghost use Rattle.exports.specs.Writers.{argsWriterFault, argsWritten, argsStored};
+ghost use Rattle.protocol.specs.Args.{readArgs};
+ghost use Rattle.protocol.specs.Policy.{isSupportedAlgorithm, capabilityFor};
+ghost use Rattle.exports.specs.Readers.{StoresArgs, StoresCapability};
+ghost use Rattle.exports.specs.Writers.{argsWriterFault, argsWritten, argsStored, WritesArgs};
 
 // Stores the version and the place of the account id.
 #[no_mangle]
 pub extern "C" fn fowlcredenza_parse_args(args: &[u8], out: &mut [u8]) -> u32
-    ensures { λ r. ⌜ r ≡ wordsNumber (argsNumber (readArgs (now (args .entry)))) (argsWords (readArgs (now (args .entry)))) (length (now (out .entry))) ⌝ }
-    ensures { λ _. ⌜ now (out .exit) ≡ wordsAfter (argsWords (readArgs (now (args .entry)))) (now (out .entry)) ⌝ }
+    ensures { λ r. ⌜ StoresArgs (readArgs (now (args .entry))) (now (out .entry)) r (now (out .exit)) ⌝ }
 {
     match AccountLockArgs::parse(args) {
         ArgsAnswer::Refused(error) => error_number(error) as u32,
@@ -54,8 +50,7 @@ pub extern "C" fn fowlcredenza_is_supported_algorithm(algorithm: u16) -> u32
 // Stores the capability bit that an operation needs.
 #[no_mangle]
 pub extern "C" fn fowlcredenza_capability_for_operation(operation: u8, out: &mut [u8]) -> u32
-    ensures { λ r. ⌜ r ≡ wordsNumber (capabilityNumber (capabilityFor operation)) (capabilityWords (capabilityFor operation)) (length (now (out .entry))) ⌝ }
-    ensures { λ _. ⌜ now (out .exit) ≡ wordsAfter (capabilityWords (capabilityFor operation)) (now (out .entry)) ⌝ }
+    ensures { λ r. ⌜ StoresCapability (capabilityFor operation) (now (out .entry)) r (now (out .exit)) ⌝ }
 {
     match capability_for_operation(operation) {
         OperationCapability::Refused(error) => error_number(error) as u32,
@@ -94,11 +89,9 @@ fn write_args(account: &[u8], out: &mut [u8]) -> WriteAnswer
 pub extern "C" fn fowlcredenza_account_lock_args(
     account: &[u8],
     out: &mut [u8],
-    len: &mut u64,
+    len: &mut usize,
 ) -> u32
-    ensures { λ r. ⌜ r ≡ writeNumber (argsWritten (now (account .entry)) (now (out .entry))) ⌝ }
-    ensures { λ _. ⌜ now (out .exit) ≡ argsStored (now (account .entry)) (now (out .entry)) ⌝ }
-    ensures { λ _. ⌜ now (len .exit) ≡ lengthAfter (argsWritten (now (account .entry)) (now (out .entry))) (now (len .entry)) ⌝ }
+    ensures { λ r. ⌜ WritesArgs (now (account .entry)) (now (out .entry)) (now (len .entry)) r (now (out .exit)) (now (len .exit)) ⌝ }
 {
     written(write_args(account, out), len)
 }

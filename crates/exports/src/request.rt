@@ -10,19 +10,15 @@ use verifier_request::RequestAnswer;
 use verifier_request::encode_verifier_request;
 use verifier_request::parse_verifier_request;
 ghost use mathlib.Core.Path.{_≡_};
-ghost use lib.ListN.{length};
-ghost use Rattle.protocol.specs.Write.{writeNumber};
-ghost use Rattle.verifier_request.specs.Reader.{requestNumber, readRequest};
+ghost use Rattle.verifier_request.specs.Reader.{readRequest};
 ghost use Rattle.verifier_request.specs.Reading.{requestWith};
-ghost use Rattle.export_answers.specs.Words.{wordsNumber, wordsAfter, lengthAfter};
-ghost use Rattle.exports.specs.Readers.{requestWords};
-ghost use Rattle.exports.specs.Writers.{lentWritten, lentStored};
+ghost use Rattle.exports.specs.Readers.{StoresRequest};
+ghost use Rattle.exports.specs.Writers.{lentWritten, lentStored, WritesRequest};
 
 // Stores algorithm, slot, operation, profile, the places of digest and key, and place and length of the aux and of the proof.
 #[no_mangle]
 pub extern "C" fn fowlcredenza_parse_verifier_request(request: &[u8], out: &mut [u8]) -> u32
-    ensures { λ r. ⌜ r ≡ wordsNumber (requestNumber (readRequest (now (request .entry)))) (requestWords (readRequest (now (request .entry)))) (length (now (out .entry))) ⌝ }
-    ensures { λ _. ⌜ now (out .exit) ≡ wordsAfter (requestWords (readRequest (now (request .entry)))) (now (out .entry)) ⌝ }
+    ensures { λ r. ⌜ StoresRequest (readRequest (now (request .entry))) (now (out .entry)) r (now (out .exit)) ⌝ }
 {
     match parse_verifier_request(request) {
         RequestAnswer::Refused(error) => error_number(error) as u32,
@@ -56,8 +52,14 @@ fn write_request(
     proof: &[u8],
     out: &mut [u8],
 ) -> WriteAnswer
-    ensures { λ r. ⌜ r ≡ lentWritten (requestWith algorithm slot operation profile (now (digest .entry)) (now (key .entry)) (now (aux .entry)) (now (proof .entry))) (now (out .entry)) ⌝ }
-    ensures { λ _. ⌜ now (out .exit) ≡ lentStored (requestWith algorithm slot operation profile (now (digest .entry)) (now (key .entry)) (now (aux .entry)) (now (proof .entry))) (now (out .entry)) ⌝ }
+    ensures { λ r.
+        ⌜ r ≡ lentWritten
+        (requestWith algorithm slot operation profile (now (digest .entry)) (now (key .entry)) (now (aux .entry)) (now (proof .entry)))
+        (now (out .entry)) ⌝ }
+    ensures { λ _.
+        ⌜ now (out .exit) ≡ lentStored
+        (requestWith algorithm slot operation profile (now (digest .entry)) (now (key .entry)) (now (aux .entry)) (now (proof .entry)))
+        (now (out .entry)) ⌝ }
 {
     match check_sizes(digest, key) {
         Check::Failed(error) => WriteAnswer::Refused(error),
@@ -87,11 +89,11 @@ pub extern "C" fn fowlcredenza_encode_verifier_request(
     aux: &[u8],
     proof: &[u8],
     out: &mut [u8],
-    len: &mut u64,
+    len: &mut usize,
 ) -> u32
-    ensures { λ r. ⌜ r ≡ writeNumber (lentWritten (requestWith algorithm slot operation profile (now (digest .entry)) (now (key .entry)) (now (aux .entry)) (now (proof .entry))) (now (out .entry))) ⌝ }
-    ensures { λ _. ⌜ now (out .exit) ≡ lentStored (requestWith algorithm slot operation profile (now (digest .entry)) (now (key .entry)) (now (aux .entry)) (now (proof .entry))) (now (out .entry)) ⌝ }
-    ensures { λ _. ⌜ now (len .exit) ≡ lengthAfter (lentWritten (requestWith algorithm slot operation profile (now (digest .entry)) (now (key .entry)) (now (aux .entry)) (now (proof .entry))) (now (out .entry))) (now (len .entry)) ⌝ }
+    ensures { λ r.
+        ⌜ WritesRequest (requestWith algorithm slot operation profile (now (digest .entry)) (now (key .entry)) (now (aux .entry)) (now (proof .entry)))
+        (now (out .entry)) (now (len .entry)) r (now (out .exit)) (now (len .exit)) ⌝ }
 {
     let answer = write_request(
         algorithm,

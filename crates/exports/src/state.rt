@@ -10,19 +10,14 @@ use account_state_writer::encode_state;
 use export_answers::store_words;
 use export_answers::written;
 use protocol::error_number;
-ghost use mathlib.Core.Path.{_≡_};
-ghost use lib.ListN.{length};
-ghost use Rattle.protocol.specs.Write.{writeNumber};
-ghost use Rattle.account_state.specs.State.{stateHeaderNumber, readStateHeader, stateNumber, readState, entryStepNumber, entryStep};
-ghost use Rattle.account_state_writer.specs.Writer.{stateFrom, stateWritten, stateStored};
-ghost use Rattle.export_answers.specs.Words.{wordsNumber, wordsAfter, lengthAfter};
-ghost use Rattle.exports.specs.Readers.{headerWords, stateWords, stepWords};
+ghost use Rattle.account_state.specs.State.{readStateHeader, readState, entryStep};
+ghost use Rattle.exports.specs.Readers.{StoresStateHeader, StoresState, StoresEntry};
+ghost use Rattle.exports.specs.Writers.{WritesState};
 
 // Stores flags, sequence, spend, rotate and recovery thresholds, count and recovery_since.
 #[no_mangle]
 pub extern "C" fn fowlcredenza_parse_state_header(state: &[u8], out: &mut [u8]) -> u32
-    ensures { λ r. ⌜ r ≡ wordsNumber (stateHeaderNumber (readStateHeader (now (state .entry)))) (headerWords (readStateHeader (now (state .entry)))) (length (now (out .entry))) ⌝ }
-    ensures { λ _. ⌜ now (out .exit) ≡ wordsAfter (headerWords (readStateHeader (now (state .entry)))) (now (out .entry)) ⌝ }
+    ensures { λ r. ⌜ StoresStateHeader (readStateHeader (now (state .entry))) (now (out .entry)) r (now (out .exit)) ⌝ }
 {
     match StateHeader::parse(state) {
         StateHeaderAnswer::Refused(error) => error_number(error) as u32,
@@ -44,8 +39,7 @@ pub extern "C" fn fowlcredenza_parse_state_header(state: &[u8], out: &mut [u8]) 
 // Stores the header's seven numbers, and the weights of the holders of spend, rotate and recovery.
 #[no_mangle]
 pub extern "C" fn fowlcredenza_validate_state(state: &[u8], out: &mut [u8]) -> u32
-    ensures { λ r. ⌜ r ≡ wordsNumber (stateNumber (readState (now (state .entry)))) (stateWords (readState (now (state .entry)))) (length (now (out .entry))) ⌝ }
-    ensures { λ _. ⌜ now (out .exit) ≡ wordsAfter (stateWords (readState (now (state .entry)))) (now (out .entry)) ⌝ }
+    ensures { λ r. ⌜ StoresState (readState (now (state .entry))) (now (out .entry)) r (now (out .exit)) ⌝ }
 {
     match validate_state(state) {
         StateAnswer::Refused(error) => error_number(error) as u32,
@@ -76,8 +70,7 @@ pub extern "C" fn fowlcredenza_next_entry(
     least: u32,
     out: &mut [u8],
 ) -> u32
-    ensures { λ r. ⌜ r ≡ wordsNumber (entryStepNumber (entryStep (now (state .entry)) (record { offset = offset; least = least }))) (stepWords (entryStep (now (state .entry)) (record { offset = offset; least = least }))) (length (now (out .entry))) ⌝ }
-    ensures { λ _. ⌜ now (out .exit) ≡ wordsAfter (stepWords (entryStep (now (state .entry)) (record { offset = offset; least = least }))) (now (out .entry)) ⌝ }
+    ensures { λ r. ⌜ StoresEntry (entryStep (now (state .entry)) (record { offset = offset; least = least })) (now (out .entry)) r (now (out .exit)) ⌝ }
 {
     match next_entry(state, EntryCursor { offset, least }) {
         EntryStep::Refused(error) => error_number(error) as u32,
@@ -115,11 +108,11 @@ pub extern "C" fn fowlcredenza_encode_state(
     fields: &[u16],
     bytes: &[u8],
     out: &mut [u8],
-    len: &mut u64,
+    len: &mut usize,
 ) -> u32
-    ensures { λ r. ⌜ r ≡ writeNumber (stateWritten (stateFrom flags sequence spend rotate recovery since (now (fields .entry)) (now (bytes .entry))) (now (fields .entry)) (now (bytes .entry)) (now (out .entry))) ⌝ }
-    ensures { λ _. ⌜ now (out .exit) ≡ stateStored (stateFrom flags sequence spend rotate recovery since (now (fields .entry)) (now (bytes .entry))) (now (fields .entry)) (now (bytes .entry)) (now (out .entry)) ⌝ }
-    ensures { λ _. ⌜ now (len .exit) ≡ lengthAfter (stateWritten (stateFrom flags sequence spend rotate recovery since (now (fields .entry)) (now (bytes .entry))) (now (fields .entry)) (now (bytes .entry)) (now (out .entry))) (now (len .entry)) ⌝ }
+    ensures { λ r.
+        ⌜ WritesState flags sequence spend rotate recovery since (now (fields .entry)) (now (bytes .entry))
+        (now (out .entry)) (now (len .entry)) r (now (out .exit)) (now (len .exit)) ⌝ }
 {
     let answer = encode_state(
         flags,

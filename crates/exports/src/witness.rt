@@ -1,4 +1,5 @@
 // The witness lock.
+use account_witness::AccountWitnessHeader;
 use account_witness::ProofCursor;
 use account_witness::ProofStep;
 use account_witness::WitnessAnswer;
@@ -10,32 +11,34 @@ use account_witness_writer::encode_witness;
 use export_answers::store_words;
 use export_answers::written;
 use protocol::error_number;
-ghost use mathlib.Core.Path.{_≡_};
-ghost use lib.ListN.{length};
-ghost use Rattle.protocol.specs.Write.{writeNumber};
-ghost use Rattle.account_witness.specs.Header.{witnessHeaderNumber, readWitnessHeader};
-ghost use Rattle.account_witness.specs.Walk.{proofStepNumber, proofStep};
-ghost use Rattle.account_witness.specs.Witness.{witnessNumber, readWitness};
-ghost use Rattle.account_witness_writer.specs.Encode.{witnessWritten, witnessStored};
-ghost use Rattle.export_answers.specs.Words.{wordsNumber, wordsAfter, lengthAfter};
-ghost use Rattle.exports.specs.Readers.{witnessHeaderWords, proofStepWords, witnessWords};
+ghost use Rattle.account_witness.specs.Header.{readWitnessHeader};
+ghost use Rattle.account_witness.specs.Walk.{proofStep};
+ghost use Rattle.account_witness.specs.Witness.{readWitness};
+ghost use Rattle.export_answers.specs.Words.{wordBytes};
+ghost use Rattle.export_answers.specs.Stored.{StoresBytes};
+ghost use Rattle.exports.specs.Readers.{witnessFields, StoresWitnessHeader, StoresProof, StoresWitness};
+ghost use Rattle.exports.specs.Writers.{WritesWitness};
+
+// The words of a header.
+fn store_witness_header(header: AccountWitnessHeader, out: &mut [u8]) -> u32
+    ensures { λ r. ⌜ StoresBytes 0 (wordBytes (witnessFields header)) (now (out .entry)) r (now (out .exit)) ⌝ }
+{
+    let words = [
+        header.operation as u64,
+        header.proof_count as u64,
+        header.state_sequence,
+    ];
+    store_words(&words, out)
+}
 
 // Stores operation, proof count and sequence.
 #[no_mangle]
 pub extern "C" fn fowlcredenza_parse_witness_header(witness: &[u8], out: &mut [u8]) -> u32
-    ensures { λ r. ⌜ r ≡ wordsNumber (witnessHeaderNumber (readWitnessHeader (now (witness .entry)))) (witnessHeaderWords (readWitnessHeader (now (witness .entry)))) (length (now (out .entry))) ⌝ }
-    ensures { λ _. ⌜ now (out .exit) ≡ wordsAfter (witnessHeaderWords (readWitnessHeader (now (witness .entry)))) (now (out .entry)) ⌝ }
+    ensures { λ r. ⌜ StoresWitnessHeader (readWitnessHeader (now (witness .entry))) (now (out .entry)) r (now (out .exit)) ⌝ }
 {
     match parse_witness_header(witness) {
         WitnessHeaderAnswer::Refused(error) => error_number(error) as u32,
-        WitnessHeaderAnswer::Header(header) => {
-            let words = [
-                header.operation as u64,
-                header.proof_count as u64,
-                header.state_sequence,
-            ];
-            store_words(&words, out)
-        }
+        WitnessHeaderAnswer::Header(header) => store_witness_header(header, out),
     }
 }
 
@@ -47,8 +50,7 @@ pub extern "C" fn fowlcredenza_next_proof(
     least: u32,
     out: &mut [u8],
 ) -> u32
-    ensures { λ r. ⌜ r ≡ wordsNumber (proofStepNumber (proofStep (now (witness .entry)) (record { offset = offset; least = least }))) (proofStepWords (proofStep (now (witness .entry)) (record { offset = offset; least = least }))) (length (now (out .entry))) ⌝ }
-    ensures { λ _. ⌜ now (out .exit) ≡ wordsAfter (proofStepWords (proofStep (now (witness .entry)) (record { offset = offset; least = least }))) (now (out .entry)) ⌝ }
+    ensures { λ r. ⌜ StoresProof (proofStep (now (witness .entry)) (record { offset = offset; least = least })) (now (out .entry)) r (now (out .exit)) ⌝ }
 {
     match next_proof(witness, ProofCursor { offset, least }) {
         ProofStep::Refused(error) => error_number(error) as u32,
@@ -68,19 +70,11 @@ pub extern "C" fn fowlcredenza_next_proof(
 // Stores operation, proof count and sequence of a witness lock whose every proof passes.
 #[no_mangle]
 pub extern "C" fn fowlcredenza_validate_witness(witness: &[u8], out: &mut [u8]) -> u32
-    ensures { λ r. ⌜ r ≡ wordsNumber (witnessNumber (readWitness (now (witness .entry)))) (witnessWords (readWitness (now (witness .entry)))) (length (now (out .entry))) ⌝ }
-    ensures { λ _. ⌜ now (out .exit) ≡ wordsAfter (witnessWords (readWitness (now (witness .entry)))) (now (out .entry)) ⌝ }
+    ensures { λ r. ⌜ StoresWitness (readWitness (now (witness .entry))) (now (out .entry)) r (now (out .exit)) ⌝ }
 {
     match validate_witness(witness) {
         WitnessAnswer::Refused(error) => error_number(error) as u32,
-        WitnessAnswer::Witness(header) => {
-            let words = [
-                header.operation as u64,
-                header.proof_count as u64,
-                header.state_sequence,
-            ];
-            store_words(&words, out)
-        }
+        WitnessAnswer::Witness(header) => store_witness_header(header, out),
     }
 }
 
@@ -93,11 +87,11 @@ pub extern "C" fn fowlcredenza_encode_witness(
     lengths: &[u32],
     bytes: &[u8],
     out: &mut [u8],
-    len: &mut u64,
+    len: &mut usize,
 ) -> u32
-    ensures { λ r. ⌜ r ≡ writeNumber (witnessWritten operation (now (slots .entry)) (now (lengths .entry)) (now (bytes .entry)) (now (out .entry))) ⌝ }
-    ensures { λ _. ⌜ now (out .exit) ≡ witnessStored operation sequence (now (slots .entry)) (now (lengths .entry)) (now (bytes .entry)) (now (out .entry)) ⌝ }
-    ensures { λ _. ⌜ now (len .exit) ≡ lengthAfter (witnessWritten operation (now (slots .entry)) (now (lengths .entry)) (now (bytes .entry)) (now (out .entry))) (now (len .entry)) ⌝ }
+    ensures { λ r.
+        ⌜ WritesWitness operation sequence (now (slots .entry)) (now (lengths .entry)) (now (bytes .entry))
+        (now (out .entry)) (now (len .entry)) r (now (out .exit)) (now (len .exit)) ⌝ }
 {
     written(
         encode_witness(operation, sequence, slots, lengths, bytes, out),

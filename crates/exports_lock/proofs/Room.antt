@@ -9,7 +9,8 @@ use lib.ListN.{length}
 use lib.Seq.{sets}
 use borrow.Author.Tests.{le-leb, lt-leb}
 use Rattle.octets.proofs.Stores.{sets-append}
-use Rattle.export_answers.specs.Words.{wordBytes, wordsAfter}
+use Rattle.export_answers.specs.Words.{wordBytes}
+use Rattle.export_answers.specs.Stored.{storedAfter}
 use Rattle.export_answers.proofs.Table64.{length-words, words-fit}
 use Rattle.account_lock.specs.declared.answer.LockAnswer.{LockAnswer}
 use Rattle.exports_lock.specs.Stored.{answerFits, answerWords, answerStored}
@@ -23,7 +24,7 @@ unfolding answerFits
 room-yes out h = le-leb 56 (length out) h
 
 -- the words, and the digest behind them
-pub stored-behind : (a : LockAnswer) (out : List ℕ) → 56 ≤ length out → sets (wordsAfter (answerWords a) out) 24 (a .digest) ≡ answerStored a out
+pub stored-behind : (a : LockAnswer) (out : List ℕ) → 56 ≤ length out → sets (storedAfter 0 (wordBytes (answerWords a)) out) 24 (a .digest) ≡ answerStored a out
 unfolding answerStored answerWords
 stored-behind a out h =
     let ws = answerWords a in

@@ -2,12 +2,17 @@
 use Prim.Native.Nat.{ℕ}
 use mathlib.Core.Bool.{Bool, cond}
 use mathlib.Core.List.{List, [], _∷_, _++_}
+use mathlib.Core.Path.{_≡_}
 use lib.Dec.{leb}
 use lib.ListN.{length}
 use lib.Seq.{sets}
 use Rattle.protocol.specs.Errors.{errorNumber}
 use Rattle.protocol.specs.declared.error.ProtocolError.the-variants.{SlicesDisagree}
+use Rattle.protocol.specs.Rows.{checkNumber}
 use Rattle.export_answers.specs.Words.{wordBytes}
+use Rattle.decision.specs.Walk.{answered}
+use Rattle.account_lock.specs.Lock.{Result, answerOf}
+use Rattle.scene_reader.specs.Reader.{readOf, readerStore, readerTable}
 use Rattle.account_lock.specs.declared.answer.LockAnswer.{LockAnswer}
 
 -- 01: "slices that don't agree with each other are 7, before all else": `out` is lent for the answer's 56 bytes
@@ -29,3 +34,16 @@ answerWords a = a .count ∷ a .length ∷ cond (a .reached) 1 0 ∷ []
 -- the words, and the digest behind them, zeros where it is not reached; what is behind it stays
 unfoldable pub answerStored : LockAnswer → List ℕ → List ℕ
 answerStored a out = sets out 0 (wordBytes (answerWords a) ++ a .digest)
+
+-- The promise of the lock: the number r that it returns, the requests in the answer buffer, and its answer in `out`.
+abbrev pub StoresDecision : Result → List ℕ → List ℕ → ℕ → List ℕ → List ℕ → Type 0
+StoresDecision locked answer out r answerAfter outAfter =
+    (r ≡ roomNumber out (checkNumber (locked .found)))
+    × (answerAfter ≡ roomAfter out (answered answer (locked .made)) answer)
+    × (outAfter ≡ roomAfter out (answerStored (answerOf locked) out) out)
+
+-- of the reader before it: what the scene leaves in the store and the table
+abbrev pub StoresScene : List ℕ → List ℕ → List ℕ → List ℕ → List ℕ → List ℕ → Type 0
+StoresScene scene store table out storeAfter tableAfter =
+    (storeAfter ≡ roomAfter out (readerStore (length store) (readOf scene (length store) (length table))) store)
+    × (tableAfter ≡ roomAfter out (readerTable (length table) (readOf scene (length store) (length table))) table)

@@ -10,12 +10,9 @@ use protocol::error_number;
 ghost use mathlib.Core.Path.{_≡_};
 ghost use Prim.Native.Nat.{_≤_};
 ghost use lib.ListN.{length};
-ghost use Rattle.protocol.specs.Rows.{checkNumber};
-ghost use Rattle.decision.specs.Walk.{answered};
-ghost use Rattle.account_lock.specs.Lock.{lockOf, answerOf};
-ghost use Rattle.scene_reader.specs.Reader.{readOf, readerStore, readerTable};
+ghost use Rattle.account_lock.specs.Lock.{lockOf};
 ghost use Rattle.decide_scene.specs.Decided.{decided};
-ghost use Rattle.exports_lock.specs.Stored.{answerStored, roomNumber, roomAfter};
+ghost use Rattle.exports_lock.specs.Stored.{answerStored, StoresDecision, StoresScene};
 
 // Three words and the digest.
 const ANSWER_LEN: usize = 56;
@@ -44,9 +41,9 @@ pub extern "C" fn fowlcredenza_lock(
     answer: &mut [u8],
     out: &mut [u8],
 ) -> u32
-    ensures { λ r. ⌜ r ≡ roomNumber (now (out .entry)) (checkNumber (lockOf (now (table .entry)) (now (store .entry)) (length (now (answer .entry))) .found)) ⌝ }
-    ensures { λ _. ⌜ now (answer .exit) ≡ roomAfter (now (out .entry)) (answered (now (answer .entry)) (lockOf (now (table .entry)) (now (store .entry)) (length (now (answer .entry))) .made)) (now (answer .entry)) ⌝ }
-    ensures { λ _. ⌜ now (out .exit) ≡ roomAfter (now (out .entry)) (answerStored (answerOf (lockOf (now (table .entry)) (now (store .entry)) (length (now (answer .entry))))) (now (out .entry))) (now (out .entry)) ⌝ }
+    ensures { λ r.
+        ⌜ StoresDecision (lockOf (now (table .entry)) (now (store .entry)) (length (now (answer .entry))))
+        (now (answer .entry)) (now (out .entry)) r (now (answer .exit)) (now (out .exit)) ⌝ }
 {
     if out.len() < ANSWER_LEN {
         return error_number(ProtocolError::SlicesDisagree) as u32;
@@ -66,11 +63,13 @@ pub extern "C" fn fowlcredenza_decide_scene(
     answer: &mut [u8],
     out: &mut [u8],
 ) -> u32
-    ensures { λ r. ⌜ r ≡ roomNumber (now (out .entry)) (checkNumber (decided (now (scene .entry)) (length (now (store .entry))) (length (now (table .entry))) (length (now (answer .entry))) .found)) ⌝ }
-    ensures { λ _. ⌜ now (store .exit) ≡ roomAfter (now (out .entry)) (readerStore (length (now (store .entry))) (readOf (now (scene .entry)) (length (now (store .entry))) (length (now (table .entry))))) (now (store .entry)) ⌝ }
-    ensures { λ _. ⌜ now (table .exit) ≡ roomAfter (now (out .entry)) (readerTable (length (now (table .entry))) (readOf (now (scene .entry)) (length (now (store .entry))) (length (now (table .entry))))) (now (table .entry)) ⌝ }
-    ensures { λ _. ⌜ now (answer .exit) ≡ roomAfter (now (out .entry)) (answered (now (answer .entry)) (decided (now (scene .entry)) (length (now (store .entry))) (length (now (table .entry))) (length (now (answer .entry))) .made)) (now (answer .entry)) ⌝ }
-    ensures { λ _. ⌜ now (out .exit) ≡ roomAfter (now (out .entry)) (answerStored (answerOf (decided (now (scene .entry)) (length (now (store .entry))) (length (now (table .entry))) (length (now (answer .entry))))) (now (out .entry))) (now (out .entry)) ⌝ }
+    ensures { λ r.
+        ⌜ StoresDecision
+        (decided (now (scene .entry)) (length (now (store .entry))) (length (now (table .entry))) (length (now (answer .entry))))
+        (now (answer .entry)) (now (out .entry)) r (now (answer .exit)) (now (out .exit)) ⌝ }
+    ensures { λ _.
+        ⌜ StoresScene (now (scene .entry)) (now (store .entry)) (now (table .entry)) (now (out .entry))
+        (now (store .exit)) (now (table .exit)) ⌝ }
 {
     if out.len() < ANSWER_LEN {
         return error_number(ProtocolError::SlicesDisagree) as u32;

@@ -11,18 +11,22 @@ ghost use Rattle.scene_table.specs.Valid.{validTable};
 #[no_mangle]
 pub extern "C" fn fowlcredenza_read_scene(scene: &[u8], store: &mut [u8], table: &mut [u32]) -> u32
     ensures { λ r. ⌜ r ≡ checkNumber (readerCheck (readOf (now (scene .entry)) (length (now (store .entry))) (length (now (table .entry))))) ⌝ }
-    ensures { λ _. ⌜ now (store .exit) ≡ readerStore (length (now (store .entry))) (readOf (now (scene .entry)) (length (now (store .entry))) (length (now (table .entry)))) ⌝ }
-    ensures { λ _. ⌜ now (table .exit) ≡ readerTable (length (now (table .entry))) (readOf (now (scene .entry)) (length (now (store .entry))) (length (now (table .entry)))) ⌝ }
+    ensures { λ _.
+        ⌜ now (store .exit) ≡ readerStore (length (now (store .entry)))
+        (readOf (now (scene .entry)) (length (now (store .entry))) (length (now (table .entry)))) ⌝ }
+    ensures { λ _.
+        ⌜ now (table .exit) ≡ readerTable (length (now (table .entry)))
+        (readOf (now (scene .entry)) (length (now (store .entry))) (length (now (table .entry)))) ⌝ }
 {
     check_number(scene_reader::read_scene(scene, store, table)) as u32
 }
 
 // 1 where a scene, its length aside, leaves this table with a store of that many bytes, else 0.
 #[no_mangle]
-pub extern "C" fn fowlcredenza_table_valid(table: &[u32], store_len: u64) -> u32
+pub extern "C" fn fowlcredenza_table_valid(table: &[u32], store_len: usize) -> u32
     ensures { λ r. ⌜ r ≡ cond (validTable (now (table .entry)) «store_len») 1 0 ⌝ }
 {
-    if scene_table::table_valid(table, store_len as usize) {
+    if scene_table::table_valid(table, store_len) {
         1
     } else {
         0

@@ -6,18 +6,12 @@ use molecule::canonical_witness;
 use molecule::script_args;
 use molecule::witness_lock;
 use protocol::error_number;
-ghost use mathlib.Core.Path.{_≡_};
-ghost use lib.ListN.{length};
-ghost use Rattle.protocol.specs.Write.{writeNumber};
-ghost use Rattle.export_answers.specs.Words.{wordsNumber, wordsAfter, lengthAfter};
-ghost use Rattle.molecule.specs.Bytes.{placeNumber, readWitnessLock, readScriptArgs};
-ghost use Rattle.molecule.specs.Canonical.{canonicalWritten, canonicalStored};
-ghost use Rattle.exports_transaction.specs.Answers.{placeWords};
+ghost use Rattle.molecule.specs.Bytes.{readWitnessLock, readScriptArgs};
+ghost use Rattle.exports_transaction.specs.Answers.{StoresPlace, WritesCanonical};
 
 // A place's number; its start and length are stored.
 fn place_stored(answer: PlaceAnswer, out: &mut [u8]) -> u32
-    ensures { λ r. ⌜ r ≡ wordsNumber (placeNumber answer) (placeWords answer) (length (now (out .entry))) ⌝ }
-    ensures { λ _. ⌜ now (out .exit) ≡ wordsAfter (placeWords answer) (now (out .entry)) ⌝ }
+    ensures { λ r. ⌜ StoresPlace answer (now (out .entry)) r (now (out .exit)) ⌝ }
 {
     match answer {
         PlaceAnswer::Refused(error) => error_number(error) as u32,
@@ -31,8 +25,7 @@ fn place_stored(answer: PlaceAnswer, out: &mut [u8]) -> u32
 // Stores place and length of the lock's bytes.
 #[no_mangle]
 pub extern "C" fn fowlcredenza_witness_lock(witness: &[u8], out: &mut [u8]) -> u32
-    ensures { λ r. ⌜ r ≡ wordsNumber (placeNumber (readWitnessLock (now (witness .entry)))) (placeWords (readWitnessLock (now (witness .entry)))) (length (now (out .entry))) ⌝ }
-    ensures { λ _. ⌜ now (out .exit) ≡ wordsAfter (placeWords (readWitnessLock (now (witness .entry)))) (now (out .entry)) ⌝ }
+    ensures { λ r. ⌜ StoresPlace (readWitnessLock (now (witness .entry))) (now (out .entry)) r (now (out .exit)) ⌝ }
 {
     place_stored(witness_lock(witness), out)
 }
@@ -40,8 +33,7 @@ pub extern "C" fn fowlcredenza_witness_lock(witness: &[u8], out: &mut [u8]) -> u
 // Stores place and length of the args' bytes.
 #[no_mangle]
 pub extern "C" fn fowlcredenza_script_args(script: &[u8], out: &mut [u8]) -> u32
-    ensures { λ r. ⌜ r ≡ wordsNumber (placeNumber (readScriptArgs (now (script .entry)))) (placeWords (readScriptArgs (now (script .entry)))) (length (now (out .entry))) ⌝ }
-    ensures { λ _. ⌜ now (out .exit) ≡ wordsAfter (placeWords (readScriptArgs (now (script .entry)))) (now (out .entry)) ⌝ }
+    ensures { λ r. ⌜ StoresPlace (readScriptArgs (now (script .entry))) (now (out .entry)) r (now (out .exit)) ⌝ }
 {
     place_stored(script_args(script), out)
 }
@@ -51,11 +43,9 @@ pub extern "C" fn fowlcredenza_script_args(script: &[u8], out: &mut [u8]) -> u32
 pub extern "C" fn fowlcredenza_canonical_witness(
     witness: &[u8],
     out: &mut [u8],
-    len: &mut u64,
+    len: &mut usize,
 ) -> u32
-    ensures { λ r. ⌜ r ≡ writeNumber (canonicalWritten (now (witness .entry)) (now (out .entry))) ⌝ }
-    ensures { λ _. ⌜ now (out .exit) ≡ canonicalStored (now (witness .entry)) (now (out .entry)) ⌝ }
-    ensures { λ _. ⌜ now (len .exit) ≡ lengthAfter (canonicalWritten (now (witness .entry)) (now (out .entry))) (now (len .entry)) ⌝ }
+    ensures { λ r. ⌜ WritesCanonical (now (witness .entry)) (now (out .entry)) (now (len .entry)) r (now (out .exit)) (now (len .exit)) ⌝ }
 {
     written(canonical_witness(witness, out), len)
 }

@@ -23,7 +23,7 @@ pub type Words = Result<Vec<u64>, ProtocolError>;
 #[derive(Debug, Eq, PartialEq)]
 struct Seen {
     number: u32,
-    len: u64,
+    len: usize,
     buffer: Hex,
 }
 
@@ -116,10 +116,10 @@ impl Calls<'_> {
         room: usize,
         expected: &Result<Vec<u8>, u32>,
         input: impl Fn() -> String,
-        writer: impl FnOnce(&mut [u8], &mut u64) -> u32,
+        writer: impl FnOnce(&mut [u8], &mut usize) -> u32,
     ) {
         let before = self.prng.bytes(room + BEHIND);
-        let len = self.prng.next();
+        let len = self.prng.next() as usize;
         let mut seen = Seen {
             number: 0,
             len,
@@ -137,7 +137,7 @@ impl Calls<'_> {
         name: &'static str,
         expected: &Result<Vec<u8>, u32>,
         input: impl Fn() -> String,
-        writer: impl Fn(&mut [u8], &mut u64) -> u32,
+        writer: impl Fn(&mut [u8], &mut usize) -> u32,
     ) {
         let rooms = match expected {
             Ok(bytes) if bytes.len() < SHORT_RESULT && self.prng.up_to(50) == 0 => {
@@ -169,13 +169,18 @@ pub fn word_bytes(words: Vec<u64>) -> Vec<u8> {
 }
 
 /// The bytes at the front of the buffer and their length, or both as they were.
-fn after_write(answer: &Result<Vec<u8>, u32>, mut buffer: Vec<u8>, room: usize, len: u64) -> Seen {
+fn after_write(
+    answer: &Result<Vec<u8>, u32>,
+    mut buffer: Vec<u8>,
+    room: usize,
+    len: usize,
+) -> Seen {
     let (number, len) = match answer {
         Err(number) => (*number, len),
         Ok(bytes) if room < bytes.len() => (TOO_SHORT, len),
         Ok(bytes) => {
             buffer[..bytes.len()].copy_from_slice(bytes);
-            (0, bytes.len() as u64)
+            (0, bytes.len())
         }
     };
     Seen {

@@ -28,7 +28,7 @@ fn compare(
     name: &'static str,
     request: &[u8],
     expected: Field,
-    function: fn(&[u8], &mut [u8], &mut u64) -> u32,
+    function: fn(&[u8], &mut [u8], &mut usize) -> u32,
 ) {
     let input = || format!("{:?}", Hex(request.to_vec()));
     calls.write(name, &expected, input, |out, len| {

@@ -10,7 +10,7 @@ returns : tie.Need-returns
 unfolding roomNumber roomAfter
 returns c =
     let e = room-no (c .before .before .before .before .before .before .before .args .out .now) (c .before .if1 .taken) in
-    (rw e (c .error-number .ensures), (rw e, (rw e, (rw e, rw e))))
+    ((rw e (c .error-number .ensures), rw e, rw e), (rw e, rw e))
 
 returns-2 : tie.Need-returns-2
 unfolding answerOf roomNumber roomAfter
@@ -20,8 +20,8 @@ returns-2 c =
     let test = decided .before .before .before .before in
     let e = room-yes (test .before .before .before .before .before .before .args .out .now) (test .if1 .left) in
     let read = decided .decide-scene .ensures in (
-      rw e (rw (read .0) at (c .check-number .ensures)),
-      (rw e (read .1 .0), (rw e (read .1 .1 .0), (rw e (read .1 .1 .1), rw e (rw (read .0) at (stored .store-answer .ensures))))),
+      (rw e (rw (read .0) at (c .check-number .ensures)), rw e (read .1 .1 .1), rw e (rw (read .0) at (stored .store-answer .ensures))),
+      (rw e (read .1 .0), rw e (read .1 .1 .0)),
     )
 
 pub fowlcredenza-decide-scene-spec : {M : Type 1} → statement M

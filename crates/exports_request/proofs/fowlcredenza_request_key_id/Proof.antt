@@ -11,10 +11,11 @@ unfolding heldReading
 returns c =
     let call = c .before .before in
     let part = call .before .before .before in
-    let a = part .before .before .before .args in
-    let z = handed (a .request .now) (a .out .now) (λ (r : RequestReading). r .key) in
-    rw (part .key-id-of .ensures, z .0, z .1) at (call .hand-out .ensures)
+    let a = part .before .before .before .before .args in
+    handed (a .request .now) (a .out .now) (a .len .now) (λ (q : RequestReading). q .key) _ _ _
+    (rw (part .key-id-of .ensures, part .before .refusal-of .ensures) at (call .store-part .ensures))
 
 pub fowlcredenza-request-key-id-spec : {M : Type 1} → statement M
 fowlcredenza-request-key-id-spec =
-    tie.close (tie.spec (λ c κs. search needs) (λ c κs. search needs) (λ c. search needs) returns)
+    tie.close
+    (tie.spec (λ c κs. search needs) (λ c κs. search needs) (λ c κs. search needs) (λ c. search needs) returns)

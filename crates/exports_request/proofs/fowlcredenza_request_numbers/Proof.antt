@@ -9,12 +9,11 @@ returns : tie.Need-returns
 returns c =
     let call = c .before .before in
     let words = call .before .before .before .before in
-    let a = words .before .before .before .args in
-    let z = handed (a .request .now) (a .out .now) numberWords in
-    let e = rw (words .number-words .ensures, z .0, z .1) at (call .hand-out .ensures) in
-    (e .0, e .1 .0)
+    let a = words .before .before .before .before .args in
+    handed (a .request .now) (a .out .now) 0 numberWords _ _ _
+    (rw (words .number-words .ensures, words .before .refusal-of .ensures) at (call .store-part .ensures)) .0
 
 pub fowlcredenza-request-numbers-spec : {M : Type 1} → statement M
 fowlcredenza-request-numbers-spec =
     tie.close
-    (tie.spec (λ c κs. search needs) (λ c. search needs) (λ c κs. search needs) (λ c. search needs) returns)
+    (tie.spec (λ c κs. search needs) (λ c κs. search needs) (λ c. search needs) (λ c κs. search needs) (λ c. search needs) returns)

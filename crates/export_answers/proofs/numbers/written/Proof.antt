@@ -1,5 +1,5 @@
 -- `export_answers::numbers::written` meets its contract, by cases of the answer. Assumes nothing.
-use Rattle.export_answers.specs.Words.{lengthAfter}
+use Rattle.export_answers.specs.Stored.{lengthAfter}
 use borrow.Author.Needs.{needs}
 use Rattle.export_answers.proofs.numbers.written.Statement.{statement}
 use Rattle.export_answers.proofs.numbers.written.Tie as tie

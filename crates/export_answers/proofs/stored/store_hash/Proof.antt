@@ -1,19 +1,16 @@
 -- `export_answers::stored::store_hash` meets its contract, by what was found. Assumes nothing.
 use mathlib.Core.Path.{_∙_}
-use Rattle.export_answers.specs.Words.{hashBytes}
-use Rattle.export_answers.proofs.Fits.{none-number, none-after}
+use Rattle.export_answers.proofs.Fits.{bytes-refused}
 use borrow.Author.Needs.{needs}
 use Rattle.export_answers.proofs.stored.store_hash.Statement.{statement}
 use Rattle.export_answers.proofs.stored.store_hash.Tie as tie
 
 returns : tie.Need-returns
-unfolding hashBytes
 returns c =
     let e = c .before .before .found .given .1 in
-    (rw e (c .error-number .ensures ∙ none-number _ _), rw e (none-after _))
+    rw (e, c .error-number .ensures) (bytes-refused (c .before .before .found .given .0 .0) _ _)
 
 returns-2 : tie.Need-returns-2
-unfolding hashBytes
 returns-2 c =
     let front = c .before .before in
     rw (front .before .before .before .enum-told .given .1) (front .store-front .ensures)

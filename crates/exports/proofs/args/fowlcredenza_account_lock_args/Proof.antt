@@ -6,7 +6,7 @@ use Rattle.exports.proofs.args.fowlcredenza_account_lock_args.Tie as ti
 returns : tie.Need-returns
 returns c =
     let w = c .before .before .before .before .write-args .ensures in
-    (rw (w .0) at (c .written .ensures .0), (w .1, rw (w .0) at (c .written .ensures .1)))
+    (rw (w .0) at (c .written .ensures .0), w .1, rw (w .0) at (c .written .ensures .1))
 
 pub fowlcredenza-account-lock-args-spec : {M : Type 1} → statement M
 fowlcredenza-account-lock-args-spec =

@@ -1,6 +1,6 @@
 -- `exports::args::fowlcredenza_capability_for_operation` meets its contract, by cases of the answer. Assumes nothing.
 use mathlib.Core.Path.{sym, _∙_}
-use Rattle.export_answers.proofs.Fits.{no-words-number, no-words-after}
+use Rattle.export_answers.proofs.Fits.{bytes-refused}
 use Rattle.exports.specs.Readers.{capabilityWords}
 use borrow.Author.Needs.{needs}
 use Rattle.exports.proofs.args.fowlcredenza_capability_for_operation.Statement.{statement}
@@ -10,7 +10,7 @@ returns : tie.Need-returns
 unfolding capabilityWords
 returns c =
     let e = sym (c .before .before .before .before .capability-for-operation .ensures) ∙ c .before .before .error .given .1 in
-    (rw e (c .error-number .ensures ∙ no-words-number _ _), rw e (no-words-after _))
+    rw (e, c .error-number .ensures) (bytes-refused (c .before .before .error .given .0 .0) _ _)
 
 returns-2 : tie.Need-returns-2
 unfolding capabilityWords

@@ -1,11 +1,9 @@
 -- `exports::hash::fowlcredenza_ckb_hash` meets its contract, as its two calls do. Assumes nothing.
-use Rattle.export_answers.specs.Words.{hashBytes}
 use borrow.Author.Needs.{needs}
 use Rattle.exports.proofs.hash.fowlcredenza_ckb_hash.Statement.{statement}
 use Rattle.exports.proofs.hash.fowlcredenza_ckb_hash.Tie as tie
 
 returns : tie.Need-returns
-unfolding hashBytes
 returns c =
     let store = c .before .before in
     rw (store .before .before .ckb-hash .ensures) at (store .store-hash .ensures)

@@ -6,7 +6,7 @@ use Rattle.exports.proofs.proof.fowlcredenza_encode_public_key_proof.Ti
 returns : tie.Need-returns
 returns c =
     let w = c .before .before .before .before .encode-public-key-proof .ensures in
-    (rw (w .0) at (c .written .ensures .0), (w .1, rw (w .0) at (c .written .ensures .1)))
+    (rw (w .0) at (c .written .ensures .0), w .1, rw (w .0) at (c .written .ensures .1))
 
 pub fowlcredenza-encode-public-key-proof-spec : {M : Type 1} → statement M
 fowlcredenza-encode-public-key-proof-spec =

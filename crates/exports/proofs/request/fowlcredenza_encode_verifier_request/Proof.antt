@@ -6,7 +6,7 @@ use Rattle.exports.proofs.request.fowlcredenza_encode_verifier_request.
 returns : tie.Need-returns
 returns c =
     let w = c .before .before .before .before .write-request .ensures in
-    (rw (w .0) at (c .written .ensures .0), (w .1, rw (w .0) at (c .written .ensures .1)))
+    (rw (w .0) at (c .written .ensures .0), w .1, rw (w .0) at (c .written .ensures .1))
 
 pub fowlcredenza-encode-verifier-request-spec : {M : Type 1} → statement M
 fowlcredenza-encode-verifier-request-spec =

@@ -1,6 +1,6 @@
 -- `exports::state::fowlcredenza_parse_state_header` meets its contract, by cases of the answer. Assumes nothing.
 use mathlib.Core.Path.{sym, _∙_}
-use Rattle.export_answers.proofs.Fits.{no-words-number, no-words-after}
+use Rattle.export_answers.proofs.Fits.{bytes-refused}
 use Rattle.exports.specs.Readers.{headerWords, headerFields}
 use borrow.Author.Needs.{needs}
 use Rattle.exports.proofs.state.fowlcredenza_parse_state_header.Statement.{statement}
@@ -10,7 +10,7 @@ returns : tie.Need-returns
 unfolding headerWords headerFields
 returns c =
     let e = sym (c .before .before .before .before .parse .ensures) ∙ c .before .before .error .given .1 in
-    (rw e (c .error-number .ensures ∙ no-words-number _ _), rw e (no-words-after _))
+    rw (e, c .error-number .ensures) (bytes-refused (c .before .before .error .given .0 .0) _ _)
 
 returns-2 : tie.Need-returns-2
 unfolding headerWords headerFields

@@ -6,7 +6,7 @@ use Rattle.exports.proofs.witness.fowlcredenza_encode_witness.Tie as ti
 returns : tie.Need-returns
 returns c =
     let w = c .before .before .before .before .encode-witness .ensures in
-    (rw (w .0) at (c .written .ensures .0), (w .1, rw (w .0) at (c .written .ensures .1)))
+    (rw (w .0) at (c .written .ensures .0), w .1, rw (w .0) at (c .written .ensures .1))
 
 pub fowlcredenza-encode-witness-spec : {M : Type 1} → statement M
 fowlcredenza-encode-witness-spec =

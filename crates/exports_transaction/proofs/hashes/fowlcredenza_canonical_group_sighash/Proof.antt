@@ -1,11 +1,9 @@
 -- `exports_transaction::hashes::fowlcredenza_canonical_group_sighash` meets its contract, as its two calls do. Assumes nothing.
-use Rattle.exports_transaction.specs.Answers.{sighashBytes}
 use borrow.Author.Needs.{needs}
 use Rattle.exports_transaction.proofs.hashes.fowlcredenza_canonical_group_sighash.Statement.{statement}
 use Rattle.exports_transaction.proofs.hashes.fowlcredenza_canonical_group_sighash.Tie as tie
 
 returns : tie.Need-returns
-unfolding sighashBytes
 returns c =
     let store = c .before .before in
     rw (store .before .before .before .sighash-lent .ensures) at (store .store-hash .ensures)

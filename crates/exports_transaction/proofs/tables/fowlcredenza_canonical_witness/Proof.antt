@@ -6,7 +6,7 @@ use Rattle.exports_transaction.proofs.tables.fowlcredenza_canonical_wit
 returns : tie.Need-returns
 returns c =
     let w = c .before .before .before .before .canonical-witness .ensures in
-    (rw (w .0) at (c .written .ensures .0), (w .1, rw (w .0) at (c .written .ensures .1)))
+    (rw (w .0) at (c .written .ensures .0), w .1, rw (w .0) at (c .written .ensures .1))
 
 pub fowlcredenza-canonical-witness-spec : {M : Type 1} → statement M
 fowlcredenza-canonical-witness-spec =

@@ -1,6 +1,6 @@
 -- `exports_transaction::tables::place_stored` meets its contract, by cases of the answer. Assumes nothing.
 use mathlib.Core.Path.{_∙_}
-use Rattle.export_answers.proofs.Fits.{no-words-number, no-words-after}
+use Rattle.export_answers.proofs.Fits.{bytes-refused}
 use Rattle.exports_transaction.specs.Answers.{placeWords}
 use borrow.Author.Needs.{needs}
 use Rattle.exports_transaction.proofs.tables.place_stored.Statement.{statement}
@@ -10,7 +10,7 @@ returns : tie.Need-returns
 unfolding placeWords
 returns c =
     let e = c .before .before .answer .given .1 in
-    (rw e (c .error-number .ensures ∙ no-words-number _ _), rw e (no-words-after _))
+    rw (e, c .error-number .ensures) (bytes-refused (c .before .before .answer .given .0 .0) _ _)
 
 returns-2 : tie.Need-returns-2
 unfolding placeWords

@@ -1,4 +1,4 @@
--- `exports::hash::parts_hash` meets its contract: the bytes before `at` were fed to the state.
+-- `exports_test::parts_hash` meets its contract: the bytes before `at` were fed to the state.
 -- Assumes nothing.
 use Prim.Native.Nat.{_≤_, _-_, zero-le}
 use native.Mathlib.Omega.{arith}
@@ -7,8 +7,8 @@ use lib.Seq.{take-all}
 use Rattle.blake2b.specs.State.{ckbParameters}
 use Rattle.blake2b.proofs.Chain.{Fed, fed-none, fed-part, fed-hash}
 use borrow.Author.Needs.{needs}
-use Rattle.exports.proofs.hash.parts_hash.Statement.{statement}
-use Rattle.exports.proofs.hash.parts_hash.Tie as tie
+use Rattle.exports_test.proofs.parts_hash.Statement.{statement}
+use Rattle.exports_test.proofs.parts_hash.Tie as tie
 
 abbrev Inv-loop : tie.InvT-loop
 Inv-loop xs first step at₀ state₀ at state = (at ≤ length xs) × Fed ckbParameters (take at xs) state
