@@ -1,7 +1,8 @@
 // The walk over the proofs of a witness lock, a step for each.
+use crate::fields::proof_length_at;
+use crate::fields::proof_reserved_at;
+use crate::fields::proof_slot_at;
 use octets::fits;
-use octets::u16_at;
-use octets::u32_at;
 use protocol::ACCOUNT_WITNESS_HEADER_LEN;
 use protocol::Check;
 use protocol::ProtocolError;
@@ -46,16 +47,16 @@ fn check_proof(witness: &[u8], offset: usize, least: u32) -> Check
     ensures { λ r. ⌜ r ≡ decide Check.Passed (proofLayoutRows (now (witness .entry)) offset least) ⌝ }
 {
     let invalid = ProtocolError::InvalidWitness;
-    let slot = u16_at(witness, offset) as u32;
-    let len = u32_at(witness, offset + 4) as usize;
+    let slot = proof_slot_at(witness, offset) as u32;
+    let len = proof_length_at(witness, offset) as usize;
     Check::Passed
-        .require(u16_at(witness, offset + 2) == 0, invalid)
+        .require(proof_reserved_at(witness, offset) == 0, invalid)
         .require(fits(witness.len(), offset + 8, len), invalid)
         .require(1 <= len, invalid)
         .require(least <= slot, invalid)
 }
 
-// The step at a place where 8 bytes are present.
+// The step at an offset where 8 bytes are present.
 fn step_at(witness: &[u8], offset: usize, least: u32) -> ProofStep
     requires { ⌜ offset + 8 ≤ length (now witness) ⌝ }
     ensures { λ r. ⌜ r ≡ proofStep (now (witness .entry)) (record { offset = offset; least = least }) ⌝ }
@@ -63,9 +64,9 @@ fn step_at(witness: &[u8], offset: usize, least: u32) -> ProofStep
     match check_proof(witness, offset, least) {
         Check::Failed(error) => ProofStep::Refused(error),
         Check::Passed => {
-            let slot = u16_at(witness, offset);
+            let slot = proof_slot_at(witness, offset);
             let start = offset + 8;
-            let len = u32_at(witness, offset + 4) as usize;
+            let len = proof_length_at(witness, offset) as usize;
             let proof = Proof { slot, start, len };
             let next = ProofCursor {
                 offset: start + len,

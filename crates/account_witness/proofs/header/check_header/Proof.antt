@@ -14,14 +14,14 @@ returns c =
     let c2 = c3 .before .before in
     rw (
       c .require6 .ensures,
-      c .before .u8-at3 .ensures,
+      c .before .witness-reserved-of .ensures,
       c5 .require5 .ensures,
       c5 .before .is-operation .ensures,
-      c5 .before .before .u8-at2 .ensures,
+      c5 .before .before .operation-of .ensures,
       c4 .require4 .ensures,
-      c4 .before .u8-at .ensures,
+      c4 .before .witness-version-of .ensures,
       c3 .require3 .ensures,
-      c3 .before .u32-at .ensures,
+      c3 .before .witness-magic-of .ensures,
       c2 .require2 .ensures,
       c2 .before .require .ensures,
     )
