@@ -7,7 +7,7 @@ use Prim.Native.Nat.{ℕ, suc, _≤_}
 use native.Mathlib.Nat.{sub-zero}
 use native.Mathlib.Omega.{arith}
 use lib.Dec.{eqb}
-use lib.ListN.{length, take, drop}
+use lib.ListN.{length}
 use borrow.Author.Tests.{ne-eqb, leb-true}
 use Rattle.octets.proofs.Arrays.{length-array}
 use Rattle.protocol.specs.Rows.{decide}
@@ -16,7 +16,7 @@ use Rattle.protocol.specs.declared.check.Check.the-variants.{Passed}
 use Rattle.protocol.specs.declared.check.WriteAnswer.the-variants.{Written}
 use Rattle.protocol.proofs.Back.{write-room}
 use Rattle.protocol.proofs.AllPass.{passed-all-pass}
-use Rattle.account_state.specs.Fields.{hashTypeOf, weightOf}
+use Rattle.account_state.specs.Fields.{hashTypeOf, codeHashOf, weightOf}
 use Rattle.account_state.specs.Reading.{EntryReading, entryOf, stateEntries}
 use Rattle.account_witness.specs.Reading.{ProofReading}
 use Rattle.verifier_request.specs.Writer.{requestTotal, requestRoom, requestWritten, requestStored}
@@ -48,11 +48,11 @@ one-found (k ∷ j ∷ ks) = sym (ne-eqb (suc (suc (length ks))) 1 (λ e. omega 
 
 -- what the search for an entry's verifier says
 pub resolved : (table store entry : List ℕ) (s : Search)
-    → s ≡ cellSearch (verifierField (hashTypeOf entry)) (take 32 (drop 12 entry)) (cellsOf CellDep (sceneIn table store))
+    → s ≡ cellSearch (verifierField (hashTypeOf entry)) (codeHashOf entry) (cellsOf CellDep (sceneIn table store))
     → isOne s ≡ eqb (length (verifiers (entryOf entry) (sceneDeps table store))) 1
 unfolding entryOf verifiers cellsOf sceneDeps cellSearch
 resolved table store entry s e =
-    ap isOne e ∙ one-found (matches (verifierField (hashTypeOf entry)) (take 32 (drop 12 entry)) (sceneIn table store .deps))
+    ap isOne e ∙ one-found (matches (verifierField (hashTypeOf entry)) (codeHashOf entry) (sceneIn table store .deps))
 
 -- where every row passes the request writer refuses nothing: its answer is the request's length, which fits, and the request
 -- stands at the front

@@ -6,8 +6,8 @@ use account_witness::ProofCursor;
 use account_witness::ProofStep;
 use account_witness::first_proof;
 use account_witness::next_proof;
+use account_witness::proof_count_of;
 use octets::part;
-use octets::u8_at;
 use protocol::Check;
 use protocol::ProtocolError;
 use protocol::is_operation;
@@ -114,7 +114,7 @@ fn walk_lock(
     ensures { λ r. ⌜ r ≡ walkedOf (walkLock (walkContext (now (table .entry)) (now (store .entry)) (now (state .entry)) operation digest (length (now (answer .entry)))) (now (lock .entry))) ⌝ }
     ensures { λ _. ⌜ now (answer .exit) ≡ answered (now (answer .entry)) (walkLock (walkContext (now (table .entry)) (now (store .entry)) (now (state .entry)) operation digest (length (now (answer .entry)))) (now (lock .entry)) .made) ⌝ }
 {
-    let count = u8_at(lock, 6);
+    let count = proof_count_of(lock);
     let mut cursor = first_proof();
     let mut weight: u32 = 0;
     let mut total: usize = 0;

@@ -24,9 +24,9 @@ returns c =
       c3 .before .resolve-verifier .ensures,
       c3 .before .before .require2 .ensures,
       c3 .before .before .before .is-capable .ensures,
-      c3 .before .before .before .before .u16-at .ensures,
+      c3 .before .before .before .before .capabilities-of .ensures,
       c1 .require .ensures,
-      c1 .before .aux .ensures,
+      c1 .before .aux-of .ensures,
     )
 
 pub check-request-spec : {M : Type 1} → statement M

@@ -81,7 +81,7 @@ returns-3 c =
         long = len ∙ rw (e .ensures) (ap length q);
         fits = omega (arith, len, made-fits _ (a .operation) (a .digest) _ (entryOf (e .result .now)) p (a .out .now) n (rows t));
       },
-      (rw (e .ensures) at (c .u16-at .ensures)) ∙ found-weight (a .table .now) (a .store .now) (a .state .now) (a .operation) (a .digest) (length (a .out .now)) (a .slot) (a .proof .now) (f .result) (f .ensures),
+      (rw (e .ensures) at (c .weight-of .ensures)) ∙ found-weight (a .table .now) (a .store .now) (a .state .now) (a .operation) (a .digest) (length (a .out .now)) (a .slot) (a .proof .now) (f .result) (f .ensures),
     )
 
 pub make-request-spec : {M : Type 1} → statement M

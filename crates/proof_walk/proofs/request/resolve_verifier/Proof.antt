@@ -17,7 +17,7 @@ searched : (c : tie.After-search-cells) →
 searched c =
     let a = c .before .before .before .before .before .before .before .args in
     resolved (a .table .now) (a .store .now) (a .entry .now) _
-    (rw (c .before .part .ensures, c .before .before .verifier-field .ensures, c .before .before .before .u8-at .ensures) at (c .search-cells .ensures))
+    (rw (c .before .code-hash-of .ensures, c .before .before .verifier-field .ensures, c .before .before .before .hash-type-of .ensures) at (c .search-cells .ensures))
 
 returns : tie.Need-returns
 returns c = ap isOne (sym (c .enum-told .given .1)) ∙ searched (c .before .before)

@@ -21,7 +21,7 @@ abbrev μ-loop : tie.MeasureT-loop
     count - i
 
 loop-holds : tie.Need-loop-holds Inv-loop μ-loop
-loop-holds c = rw (c .first-proof .ensures) (head-first _ _ _ _ (c .before .u8-at .ensures))
+loop-holds c = rw (c .first-proof .ensures) (head-first _ _ _ _ (c .before .proof-count-of .ensures))
 
 sub-out : tie.Need-sub-out Inv-loop μ-loop
 sub-out c = omega (arith, c .before .loop .inv .fits, c .before .loop .inv .kept)
