@@ -27,9 +27,10 @@ use Rattle.account_witness.specs.Fields.{proofCountOf, proofLengthAt}
 use Rattle.account_witness.specs.Reading.{ProofReading, proofReading}
 use Rattle.account_witness.specs.Walk as witness
 use Rattle.account_witness.proofs.WalkLaws.{proof-holds}
+use Rattle.verifier_request.specs.Fields.{requestSize}
 use Rattle.verifier_request.specs.Writer.{requestTotal}
 use Rattle.verifier_request.proofs.Form.{length-request}
-use Rattle.decision.specs.Proofs.{Context, noEntry, entryFor, requestSize, requestLimitRows, authenticatorRows, proofRows, requestContent, requestOf, requestsOf}
+use Rattle.decision.specs.Proofs.{Context, noEntry, entryFor, requestLimitRows, authenticatorRows, proofRows, requestContent, requestOf, requestsOf}
 use Rattle.decision.specs.Walk.{WalkOutcome, walkOutcome, verdict, approvedWeight, lastRows, orElse, walk, proofsUntilFault, walkList, walkLock}
 use Rattle.decision.specs.Decision.{slots}
 use Rattle.decision.proofs.Listed.{listed-stops, listed-goes, listed-rising, Behind}
@@ -83,7 +84,7 @@ aux-named s (e ∷ es) = go (eqb (e .slot) s) refl (aux-named s es)
 module _ (c : Context) (d : length (c .digest) ≡ 32) where
   -- a request is 96 bytes, then aux and proof
   request-length : (p : ProofReading) → length (requestOf c p) ≡ requestSize (length (entryFor (p .slot) (c .entries) .aux)) (length (p .bytes))
-  unfolding requestOf requestContent requestTotal requestSize
+  unfolding requestOf requestContent requestTotal
   request-length p =
       length-request (requestContent (c .operation) (c .digest) (entryFor (p .slot) (c .entries)) p)
       (record { digest = d; key = length-array 32 (entryFor (p .slot) (c .entries) .key) })
@@ -91,7 +92,7 @@ module _ (c : Context) (d : length (c .digest) ≡ 32) where
   -- the requests of proofs whose slots rise: 96 bytes each, their proofs, and the aux of distinct entries
   pub requests-length : (ps : List ProofReading) (least : ℕ) → Rising least (slots ps)
       → length (requestsOf c ps) ≤ 96 * length ps + auxFrom least (c .entries) + proofsLength ps
-  unfolding requestsOf requestSize
+  unfolding requestsOf
   requests-length [] least r = omega arith
   requests-length (p ∷ ps) least r =
       let n = length-append (requestOf c p) (requestsOf c ps) in

@@ -1,5 +1,5 @@
 -- One proof: the rows that it passes before its request is made, and the request.
-use Prim.Native.Nat.{ℕ, _+_, _-_}
+use Prim.Native.Nat.{ℕ, _-_}
 use mathlib.Core.Bool.{Bool, true, false, cond}
 use mathlib.Core.List.{List, [], _∷_, _++_}
 use lib.ListN.{length, getD}
@@ -13,6 +13,7 @@ use Rattle.protocol.specs.declared.policy.OperationCapability.the-variants.{Cap
 use Rattle.account_state.specs.Fields.{spendThresholdOf, rotateThresholdOf, recoveryThresholdOf}
 use Rattle.account_state.specs.Reading.{EntryReading, stateEntries}
 use Rattle.account_witness.specs.Reading.{ProofReading}
+use Rattle.verifier_request.specs.Fields.{requestSize}
 use Rattle.verifier_request.specs.Reading.{RequestReading, requestWith, requestBytes}
 use Rattle.scene_table.specs.Scene.{Cell}
 use Rattle.cell_search.specs.declared.cells.CellField.{CellField}
@@ -75,10 +76,6 @@ verifierField hashType = cond (eqb hashType 0) DataHash TypeHash
 
 unfoldable pub verifiers : EntryReading → List Cell → List ℕ
 verifiers e deps = matches (verifierField (e .hashType)) (e .codeHash) deps
-
--- 01, Request: "96 bytes then aux and proof"
-unfoldable pub requestSize : ℕ → ℕ → ℕ
-requestSize aux proof = 96 + aux + proof
 
 -- 01, main.rs: "In the lock a request of above 69,728 bytes is 39, tested before aux above 4,096 (35); a proof above 65,536 is 35
 -- before either."; "answer buffer too short for this request", 5, where `left` bytes of it are left

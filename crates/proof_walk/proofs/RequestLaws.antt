@@ -19,6 +19,7 @@ use Rattle.protocol.proofs.AllPass.{passed-all-pass}
 use Rattle.account_state.specs.Fields.{hashTypeOf, codeHashOf, weightOf}
 use Rattle.account_state.specs.Reading.{EntryReading, entryOf, stateEntries}
 use Rattle.account_witness.specs.Reading.{ProofReading}
+use Rattle.verifier_request.specs.Reading.{requestBytes}
 use Rattle.verifier_request.specs.Writer.{requestTotal, requestRoom, requestWritten, requestStored}
 use Rattle.verifier_request.proofs.Form.{length-request}
 use Rattle.scene_table.specs.Scene.{Cell}
@@ -27,11 +28,11 @@ use Rattle.cell_search.specs.declared.cells.Source.the-variants.{CellDep}
 use Rattle.cell_search.specs.declared.search.Search.{Search}
 use Rattle.cell_search.specs.declared.search.Search.the-variants.{Missing, One, Several}
 use Rattle.cell_search.specs.Search.{cellsOf, matches, searchOf, cellSearch}
-use Rattle.decision.specs.Proofs.{contextFor, known, entryFor, verifierField, verifiers, requestSize, requestLimitRows, authenticatorRows, proofRows, requestContent, requestOf}
+use Rattle.decision.specs.Proofs.{contextFor, known, entryFor, verifierField, verifiers, requestLimitRows, authenticatorRows, proofRows, requestContent, requestOf}
 use Rattle.decision.specs.Walk.{answered}
 use Rattle.decision.proofs.RequestsRead.{request-limits}
 use Rattle.proof_walk.specs.Answer.{sceneDeps, walkContext}
-use Rattle.proof_walk.specs.Steps.{isKnown, entryIn, FoundIs, proofOf, foundRows, requestFor}
+use Rattle.proof_walk.specs.Steps.{isKnown, entryIn, FoundIs, proofOf, foundRows}
 use Rattle.proof_walk.specs.declared.authenticator.Found.{Found}
 
 -- just one place
@@ -58,27 +59,27 @@ resolved table store entry s e =
 -- stands at the front
 module _ (known : Bool) (operation : ℕ) (digest : List ℕ) (deps : List Cell) (e : EntryReading) (p : ProofReading) (out : List ℕ)
     (d : length digest ≡ 32) (h : decide Passed (foundRows known operation deps e (length (p .bytes)) (length out)) ≡ Passed) where
-  request-long : length (requestFor operation digest e p) ≡ requestTotal (requestContent operation digest e p)
-  unfolding requestFor requestContent
+  request-long : length (requestBytes (requestContent operation digest e p)) ≡ requestTotal (requestContent operation digest e p)
+  unfolding requestContent
   request-long = length-request (requestContent operation digest e p) (record { digest = d; key = length-array 32 (e .key) })
 
   request-fits : requestTotal (requestContent operation digest e p) ≤ length out
-  unfolding foundRows authenticatorRows requestLimitRows requestSize requestContent requestTotal
+  unfolding foundRows authenticatorRows requestLimitRows requestContent requestTotal
   request-fits = leb-true _ _ (passed-all-pass _ h .1 .1 .1 .1 .1 .1 .0)
 
   request-passes : requestRoom (requestContent operation digest e p) (length out) ≡ Passed
   unfolding foundRows requestRoom
   request-passes = write-room _ _ _ (request-limits operation digest deps e p (length out) (passed-all-pass _ h .1)) request-fits
 
-  pub made-fits : length (requestFor operation digest e p) ≤ length out
+  pub made-fits : length (requestBytes (requestContent operation digest e p)) ≤ length out
   made-fits = rw request-long request-fits
 
-  pub made-written : requestWritten (requestContent operation digest e p) out ≡ Written (length (requestFor operation digest e p))
+  pub made-written : requestWritten (requestContent operation digest e p) out ≡ Written (length (requestBytes (requestContent operation digest e p)))
   unfolding requestWritten writeAnswer
   made-written = rw (request-passes, request-long)
 
-  pub made-stored : requestStored (requestContent operation digest e p) out ≡ answered out (requestFor operation digest e p)
-  unfolding requestStored afterWrite answered requestFor
+  pub made-stored : requestStored (requestContent operation digest e p) out ≡ answered out (requestBytes (requestContent operation digest e p))
+  unfolding requestStored afterWrite answered
   made-stored = rw request-passes
 
 -- rows, request and weight by the entry that was found
@@ -89,9 +90,9 @@ module _ (table store state : List ℕ) (operation : ℕ) (digest : List ℕ) (r
   unfolding proofRows walkContext contextFor foundRows
   found-rows = rw (f .itsKnown, f .itsEntry, sub-zero)
 
-  pub found-request : requestFor operation digest (entryOf (entryIn state found)) (proofOf slot bytes)
+  pub found-request : requestBytes (requestContent operation digest (entryOf (entryIn state found)) (proofOf slot bytes))
       ≡ requestOf (walkContext table store state operation digest room) (proofOf slot bytes)
-  unfolding requestOf requestFor walkContext contextFor
+  unfolding requestOf walkContext contextFor
   found-request = rw (f .itsEntry)
 
   pub found-weight : weightOf (entryIn state found)

@@ -15,9 +15,8 @@ use Rattle.account_state.specs.Reading.{EntryReading, entryOf}
 use Rattle.account_witness.specs.Reading.{ProofReading, proofReading}
 use Rattle.account_witness.specs.Walk as witness
 use Rattle.account_witness.specs.declared.walk.ProofCursor.{ProofCursor}
-use Rattle.verifier_request.specs.Reading.{requestBytes}
 use Rattle.scene_table.specs.Scene.{Cell}
-use Rattle.decision.specs.Proofs.{Context, known, entryFor, authenticatorRows, proofRows, requestContent, requestOf}
+use Rattle.decision.specs.Proofs.{Context, known, entryFor, authenticatorRows, proofRows, requestOf}
 use Rattle.decision.specs.Walk.{verdict, approvedWeight, answered}
 use Rattle.proof_walk.specs.declared.authenticator.Found.{Found}
 use Rattle.proof_walk.specs.declared.authenticator.Found.the-variants.{At, Missing}
@@ -50,9 +49,6 @@ proofOf slot bytes = record { slot = slot; bytes = bytes }
 -- the rows by what was found of the entry
 unfoldable pub foundRows : Bool → ℕ → List Cell → EntryReading → ℕ → ℕ → List Row
 foundRows isKnown operation deps e proof left = row isKnown InvalidWitness ∷ authenticatorRows operation deps e proof left
-
-unfoldable pub requestFor : ℕ → List ℕ → EntryReading → ProofReading → List ℕ
-requestFor operation digest e p = requestBytes (requestContent operation digest e p)
 
 -- the rows pass, and the request stands at the front of what was lent
 pub record Made (c : Context) (p : ProofReading) (out after : List ℕ) (len : ℕ) : Type 0 where

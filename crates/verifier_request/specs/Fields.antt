@@ -1,5 +1,5 @@
 -- The fields of a request by their names, in the layout's order.
-use Prim.Native.Nat.{ℕ}
+use Prim.Native.Nat.{ℕ, _+_}
 use mathlib.Core.List.{List}
 use Rattle.octets.specs.Le.{numberAt}
 
@@ -41,3 +41,7 @@ requestProofLengthOf s = numberAt s 84 4
 
 abbrev pub requestLastZerosOf : List ℕ → ℕ
 requestLastZerosOf s = numberAt s 88 8
+
+-- the length of a request with these lengths of aux and proof
+abbrev pub requestSize : ℕ → ℕ → ℕ
+requestSize aux proof = 96 + aux + proof

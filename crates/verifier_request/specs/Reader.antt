@@ -10,7 +10,7 @@ use Rattle.protocol.specs.Rows.{Row, row, decide}
 use Rattle.protocol.specs.declared.error.ProtocolError.the-variants.{InvalidRequest, InvalidOperation, UnsupportedVersion}
 use Rattle.protocol.specs.declared.check.Check.{Check}
 use Rattle.protocol.specs.declared.check.Check.the-variants.{Passed, Failed}
-use Rattle.verifier_request.specs.Fields.{requestMagicOf, requestAbiOf, requestReservedOf, requestHeaderLengthOf, requestAlgorithmOf, requestSlotOf, requestOperationOf, requestProfileOf, requestZerosOf, requestAuxLengthOf, requestProofLengthOf, requestLastZerosOf}
+use Rattle.verifier_request.specs.Fields.{requestMagicOf, requestAbiOf, requestReservedOf, requestHeaderLengthOf, requestAlgorithmOf, requestSlotOf, requestOperationOf, requestProfileOf, requestZerosOf, requestAuxLengthOf, requestProofLengthOf, requestLastZerosOf, requestSize}
 use Rattle.verifier_request.specs.declared.reader.RequestFields.{RequestFields}
 use Rattle.verifier_request.specs.declared.reader.RequestAnswer.{RequestAnswer}
 use Rattle.verifier_request.specs.declared.reader.RequestAnswer.the-variants.{Request, Refused}
@@ -38,7 +38,7 @@ requestFieldRows s =
     ∷ row (eqb (requestLastZerosOf s) 0) InvalidRequest
     ∷ row (leb (requestAuxLengthOf s) 4096) InvalidRequest
     ∷ row (leb (requestProofLengthOf s) 65536) InvalidRequest
-    ∷ row (eqb (96 + requestAuxLengthOf s + requestProofLengthOf s) (length s)) InvalidRequest
+    ∷ row (eqb (requestSize (requestAuxLengthOf s) (requestProofLengthOf s)) (length s)) InvalidRequest
     ∷ []
 
 unfoldable pub requestRows : List ℕ → List Row

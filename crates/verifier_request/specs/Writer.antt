@@ -1,5 +1,5 @@
 -- What the writer of a request answers and leaves: 01, "Then writers refuse as in the Rust, then with 5 if the buffer is short".
-use Prim.Native.Nat.{ℕ, _+_}
+use Prim.Native.Nat.{ℕ}
 use mathlib.Core.List.{List, [], _∷_}
 use lib.Dec.{leb}
 use lib.ListN.{length}
@@ -9,6 +9,7 @@ use Rattle.protocol.specs.Write.{writeFault, writeAnswer, afterWrite}
 use Rattle.protocol.specs.declared.error.ProtocolError.the-variants.{InvalidRequest, InvalidOperation}
 use Rattle.protocol.specs.declared.check.Check.{Check}
 use Rattle.protocol.specs.declared.check.WriteAnswer.{WriteAnswer}
+use Rattle.verifier_request.specs.Fields.{requestSize}
 use Rattle.verifier_request.specs.Reading.{RequestReading, requestBytes}
 
 -- 01: "Operation outside 1 to 3 is 37 in them."; Request: "aux above 4,096 or proof above 65,536 (35)"
@@ -22,9 +23,9 @@ writerLimitRows operation aux proof =
 unfoldable pub requestWriterRows : RequestReading → List Row
 requestWriterRows r = writerLimitRows (r .operation) (length (r .aux)) (length (r .proof))
 
--- the length of the written form: "96 bytes then aux and proof"
+-- the length of the written form
 unfoldable pub requestTotal : RequestReading → ℕ
-requestTotal r = 96 + length (r .aux) + length (r .proof)
+requestTotal r = requestSize (length (r .aux)) (length (r .proof))
 
 -- what the writer's checks find, for a buffer of `room` bytes
 unfoldable pub requestRoom : RequestReading → ℕ → Check

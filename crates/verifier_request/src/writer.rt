@@ -12,11 +12,11 @@ use protocol::VERIFIER_REQUEST_HEADER_LEN;
 use protocol::WriteAnswer;
 use protocol::is_operation;
 ghost use mathlib.Core.Path.{_≡_};
-ghost use Prim.Native.Nat.{_+_};
 ghost use lib.ListN.{length};
 ghost use lib.Seq.{sets};
 ghost use Rattle.octets.specs.Layout.{layoutBytes};
 ghost use Rattle.protocol.specs.Write.{writeFault};
+ghost use Rattle.verifier_request.specs.Fields.{requestSize};
 ghost use Rattle.verifier_request.specs.Reading.{requestWith, requestHead, requestLengths, requestBytes};
 ghost use Rattle.verifier_request.specs.Writer.{writerLimitRows, requestWritten, requestStored};
 
@@ -68,7 +68,7 @@ fn store_request(
 
 // The writer's refusals, and then that of a buffer of `room` bytes.
 fn check_room(operation: u8, aux: &[u8], proof: &[u8], room: usize) -> Check
-    ensures { λ r. ⌜ r ≡ writeFault (writerLimitRows operation (length (now (aux .entry))) (length (now (proof .entry)))) (96 + length (now (aux .entry)) + length (now (proof .entry))) room ⌝ }
+    ensures { λ r. ⌜ r ≡ writeFault (writerLimitRows operation (length (now (aux .entry))) (length (now (proof .entry)))) (requestSize (length (now (aux .entry))) (length (now (proof .entry)))) room ⌝ }
 {
     let invalid = ProtocolError::InvalidRequest;
     Check::Passed

@@ -8,10 +8,11 @@ use Rattle.protocol.specs.declared.error.ProtocolError.{ProtocolError}
 use Rattle.protocol.specs.declared.check.Check.the-variants.{Passed}
 use Rattle.protocol.specs.declared.check.WriteAnswer.the-variants.{Written, Refused}
 use Rattle.account_state.specs.Reading.{entryOf}
-use Rattle.decision.specs.Proofs.{proofRows}
+use Rattle.verifier_request.specs.Reading.{requestBytes}
+use Rattle.decision.specs.Proofs.{proofRows, requestContent}
 use Rattle.decision.specs.Walk.{answered}
 use Rattle.proof_walk.specs.Answer.{sceneDeps, walkContext}
-use Rattle.proof_walk.specs.Steps.{proofOf, foundRows, requestFor}
+use Rattle.proof_walk.specs.Steps.{proofOf, foundRows}
 use Rattle.proof_walk.proofs.RequestLaws.{made-fits, made-written, made-stored, found-rows, found-request, found-weight}
 use borrow.Author.Needs.{needs}
 use Rattle.proof_walk.proofs.request.make_request.Statement.{statement}
@@ -48,7 +49,7 @@ wrote : (d : tie.After-encode-request) →
     let k = d .before .before .before .before in
     let a = k .before .before .before .before .before .before .before .before .before .args in
     d .encode-request .result
-    ≡ Written (length (requestFor (a .operation) (a .digest) (entryOf (k .before .before .entry-bytes .result .now)) (proofOf (a .slot) (a .proof .now))))
+    ≡ Written (length (requestBytes (requestContent (a .operation) (a .digest) (entryOf (k .before .before .entry-bytes .result .now)) (proofOf (a .slot) (a .proof .now)))))
 wrote d =
     let k = d .before .before .before .before in
     let s = k .before .before .before .before .before .before .before .before .before in
