@@ -11,7 +11,6 @@ use lib.ListN.{length}
 use Rattle.protocol.specs.Rows.{row, _▷_, decide, AllPass}
 use Rattle.protocol.specs.declared.error.ProtocolError.{ProtocolError}
 use Rattle.protocol.specs.declared.error.ProtocolError.the-variants.{InvalidWitness}
-use Rattle.protocol.specs.declared.check.Check.{Check}
 use Rattle.protocol.specs.declared.check.Check.the-variants.{Passed, Failed}
 use Rattle.protocol.proofs.AllPass.{decide-append, decide-failed}
 use Rattle.protocol.proofs.Answers.{answer-found, answer-given}

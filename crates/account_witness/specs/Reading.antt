@@ -48,19 +48,24 @@ unfoldable pub witnessReading : List ℕ → WitnessReading
 witnessReading s =
     record { operation = operationOf s; sequence = witnessSequenceOf s; proofs = proofReadings s (proofCountOf s) 16 }
 
--- numbers, lengths and the count fit their fields
+-- the slots of the proofs
+abbrev pub proofSlots : List ProofReading → List ℕ
+proofSlots [] = []
+proofSlots (p ∷ ps) = p .slot ∷ proofSlots ps
+
+-- readings whose fields, lengths and count are values of their types
 pub record ProofTyped (p : ProofReading) : Type 0 where
-  pub slot : p .slot < 256 ^ 2
-  pub len : length (p .bytes) < 256 ^ 4
+  pub slot : p .slot < 2 ^ 16
+  pub len : length (p .bytes) < 2 ^ 32
 
 abbrev pub ProofsTyped : List ProofReading → Type 0
 ProofsTyped [] = Unit {0}
 ProofsTyped (p ∷ ps) = ProofTyped p × ProofsTyped ps
 
 pub record WitnessTyped (r : WitnessReading) : Type 0 where
-  pub operation : r .operation < 256 ^ 1
-  pub sequence : r .sequence < 256 ^ 8
-  pub count : length (r .proofs) < 256 ^ 1
+  pub operation : r .operation < 2 ^ 8
+  pub sequence : r .sequence < 2 ^ 64
+  pub count : length (r .proofs) < 2 ^ 8
   pub proofs : ProofsTyped (r .proofs)
 
 -- the header that a reader gives has the reading's fields and the count of its proofs

@@ -12,7 +12,7 @@ use lib.Dec.{eqb, leb}
 use lib.ListN.{length, take, drop, getD, length-append, length-drop, drop-of-length-le}
 use lib.Seq.{sets, drop-cons, drop-drop, length-take-le}
 use Rattle.octets.specs.Le.{toLe}
-use Rattle.octets.specs.Lists.{joined}
+use Rattle.octets.specs.Lists.{every, joined}
 use Rattle.octets.specs.Layout.{layoutBytes}
 use Rattle.octets.proofs.Parts.{part-length}
 use Rattle.octets.proofs.Stores.{sets-append, sets-front}
@@ -23,7 +23,7 @@ use Rattle.protocol.proofs.Back.{write-passed}
 use Rattle.account_witness.specs.Header.{witnessHeaderFields}
 use Rattle.account_witness.proofs.Unique.{length-proof}
 use Rattle.account_witness.specs.Reading.{ProofReading, proofFields, proofBytes, proofsBytes, witnessBytes}
-use Rattle.account_witness_writer.specs.Encode.{sum, lentProofs, witnessFrom, filled, rising, encodeTotal, lentRows, witnessWriterRows, encodeFault}
+use Rattle.account_witness_writer.specs.Encode.{sum, lentProofs, witnessFrom, isRising, encodeTotal, lentRows, witnessWriterRows, encodeFault}
 
 -- two tests that tell the same
 eqb-by : (a b c d : ℕ) (t : Bool) → eqb a b ≡ t → (a ≡ b → c ≡ d) → (c ≡ d → a ≡ b) → t ≡ eqb c d
@@ -43,22 +43,22 @@ unfolding sum
 sum-end l i h = rw (drop-of-length-le l h)
 
 -- a turn of the loop that looks for an empty proof, and its end
-pub filled-turn : (l : List ℕ) (i : ℕ) → i < length l → filled (drop i l) ≡ (leb 1 (getD l i 0) && filled (drop (i + 1) l))
-unfolding filled
+pub filled-turn : (l : List ℕ) (i : ℕ) → i < length l → every (leb 1) (drop i l) ≡ (leb 1 (getD l i 0) && every (leb 1) (drop (i + 1) l))
+unfolding every
 filled-turn l i h = rw (add-one, drop-cons l i 0)
 
-pub filled-end : (l : List ℕ) (i : ℕ) → length l ≤ i → filled (drop i l) ≡ true
-unfolding filled
+pub filled-end : (l : List ℕ) (i : ℕ) → length l ≤ i → every (leb 1) (drop i l) ≡ true
+unfolding every
 filled-end l i h = rw (drop-of-length-le l h)
 
 -- a turn of the loop over the slots, and its end
 pub rising-turn : (l : List ℕ) (least i : ℕ) → i < length l
-    → rising least (drop i l) ≡ (leb least (getD l i 0) && rising (getD l i 0 + 1) (drop (i + 1) l))
-unfolding rising
+    → isRising least (drop i l) ≡ (leb least (getD l i 0) && isRising (getD l i 0 + 1) (drop (i + 1) l))
+unfolding isRising
 rising-turn l least i h = rw (add-one i, drop-cons l i 0)
 
-pub rising-end : (l : List ℕ) (least i : ℕ) → length l ≤ i → rising least (drop i l) ≡ true
-unfolding rising
+pub rising-end : (l : List ℕ) (least i : ℕ) → length l ≤ i → isRising least (drop i l) ≡ true
+unfolding isRising
 rising-end l least i h = rw (drop-of-length-le l h)
 
 -- a proof's numbers and bytes, stored one behind another

@@ -6,10 +6,11 @@ use mathlib.Core.List.{List, [], _∷_}
 use Prim.Native.Nat.{ℕ, zero, suc, _+_, _*_, _≤_}
 use native.Mathlib.Omega.{arith}
 use borrow.Author.Tests.{le-leb, eq-eqb}
+use lib.Dec.{leb}
 use lib.ListN.{length, length-append, length-map}
 use lib.Seq.{take-append-seam, drop-append-seam}
 use Rattle.octets.specs.Le.{Bytes}
-use Rattle.octets.specs.Lists.{joined}
+use Rattle.octets.specs.Lists.{every, joined}
 use Rattle.octets.specs.Layout.{layoutBytes}
 use Rattle.octets.proofs.Parts.{part-length}
 use Rattle.octets.proofs.LayoutLaws.{length-numbers}
@@ -18,14 +19,14 @@ use Rattle.account_witness.specs.Fields.{proofCountOf, proofLengthAt, proofSlot
 use Rattle.account_witness.specs.Header.{witnessHeaderFields}
 use Rattle.account_witness.specs.Walk.{proofAt, proofsLayoutRows}
 use Rattle.account_witness.specs.Witness.{witnessRows}
-use Rattle.account_witness.specs.Reading.{ProofReading, WitnessReading, proofsBytes, witnessBytes, proofReading, proofReadings, witnessReading}
-use Rattle.account_witness_writer.specs.Encode.{sum, lentProofs, filled, rising, encodeTotal, lentRows, witnessWriterRows, proofSlots, proofLengths, proofsPayload}
+use Rattle.account_witness.specs.Reading.{ProofReading, WitnessReading, proofsBytes, witnessBytes, proofReading, proofReadings, witnessReading, proofSlots}
+use Rattle.account_witness_writer.specs.Encode.{sum, lentProofs, isRising, encodeTotal, lentRows, witnessWriterRows, proofLengths, proofsPayload}
 use Rattle.account_witness_writer.proofs.EncodeLaws.{length-lent}
 use Rattle.account_witness.proofs.Inverse.{witness-holds, proofs-split, length-readings, witness-back}
 
 pub length-slots : (ps : List ProofReading) → length (proofSlots ps) ≡ length ps
-unfolding proofSlots
-length-slots ps = length-map ps _
+length-slots [] = refl
+length-slots (p ∷ ps) = ap suc (length-slots ps)
 
 pub counts : (ps : List ProofReading) → length (proofSlots ps) ≡ length (proofLengths ps)
 unfolding proofLengths
@@ -38,7 +39,7 @@ sums (p ∷ ps) = rw (sums ps) (sym (length-append (p .bytes) (proofsPayload ps)
 
 -- lent and taken again
 pub lent-back : (ps : List ProofReading) → lentProofs (proofSlots ps) (proofLengths ps) (proofsPayload ps) ≡ ps
-unfolding lentProofs proofSlots proofLengths proofsPayload joined
+unfolding lentProofs proofLengths proofsPayload joined
 lent-back [] = refl
 lent-back (p ∷ ps) = rw (take-append-seam (p .bytes) (proofsPayload ps), drop-append-seam (p .bytes) (proofsPayload ps), lent-back ps)
 
@@ -53,15 +54,15 @@ lent-total r =
     sym (length-append (layoutBytes h) (proofsBytes ps) ∙ omega arith)
 
 -- no proof of the reading is empty, and its slots rise
-readings-filled : (s : List ℕ) (n off least : ℕ) → AllPass (proofsLayoutRows s n off least) → filled (proofLengths (proofReadings s n off)) ≡ true
-unfolding filled proofLengths proofReadings proofReading proofAt
+readings-filled : (s : List ℕ) (n off least : ℕ) → AllPass (proofsLayoutRows s n off least) → every (leb 1) (proofLengths (proofReadings s n off)) ≡ true
+unfolding every proofLengths proofReadings proofReading proofAt
 readings-filled s zero off least h = refl
 readings-filled s (suc n) off least h =
     let z = proofs-split s n off least h in
     rw (part-length s (off + 8) (proofLengthAt s off) (z .0 .inside), le-leb 1 (proofLengthAt s off) (z .0 .some)) (readings-filled s n _ _ (z .1))
 
-readings-rising : (s : List ℕ) (n off least : ℕ) → AllPass (proofsLayoutRows s n off least) → rising least (proofSlots (proofReadings s n off)) ≡ true
-unfolding rising proofSlots proofReadings proofReading proofAt
+readings-rising : (s : List ℕ) (n off least : ℕ) → AllPass (proofsLayoutRows s n off least) → isRising least (proofSlots (proofReadings s n off)) ≡ true
+unfolding isRising proofReadings proofReading proofAt
 readings-rising s zero off least h = refl
 readings-rising s (suc n) off least h =
     let z = proofs-split s n off least h in

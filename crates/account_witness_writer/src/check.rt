@@ -9,8 +9,9 @@ use protocol::is_operation;
 ghost use mathlib.Core.Path.{_≡_};
 ghost use Prim.Native.Nat.{_+_, _*_};
 ghost use lib.Dec.{leb, eqb};
+ghost use Rattle.octets.specs.Lists.{every};
 ghost use Rattle.protocol.specs.Rows.{decide};
-ghost use Rattle.account_witness_writer.specs.Encode.{sum, filled, rising, lentRows, encodeFault};
+ghost use Rattle.account_witness_writer.specs.Encode.{sum, isRising, lentRows, encodeFault};
 
 // Whether the lengths add up to `total`. What is left of it never falls below zero.
 fn adds_up(lengths: &[u32], total: usize) -> bool
@@ -31,7 +32,7 @@ fn adds_up(lengths: &[u32], total: usize) -> bool
 
 // Whether no proof is empty.
 fn all_filled(lengths: &[u32]) -> bool
-    ensures { λ r. ⌜ r ≡ filled (now (lengths .entry)) ⌝ }
+    ensures { λ r. ⌜ r ≡ every (leb 1) (now (lengths .entry)) ⌝ }
 {
     let mut i: usize = 0;
     while i < lengths.len() {
@@ -45,7 +46,7 @@ fn all_filled(lengths: &[u32]) -> bool
 
 // Whether the slots rise strictly.
 fn all_rising(slots: &[u16]) -> bool
-    ensures { λ r. ⌜ r ≡ rising 0 (now (slots .entry)) ⌝ }
+    ensures { λ r. ⌜ r ≡ isRising 0 (now (slots .entry)) ⌝ }
 {
     let mut least: u32 = 0;
     let mut i: usize = 0;

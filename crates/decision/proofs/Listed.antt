@@ -14,10 +14,9 @@ use Rattle.protocol.specs.declared.check.Check.the-variants.{Passed, Failed}
 use Rattle.protocol.proofs.AllPass.{passed-all-pass, all-pass-passed, all-pass-append, all-pass-split}
 use Rattle.account_witness.specs.Fields.{proofLengthAt, proofSlotAt}
 use Rattle.account_witness.specs.Walk.{proofLayoutRows, proofAt, proofsLayoutRows}
-use Rattle.account_witness.specs.Reading.{ProofReading, proofReading, proofReadings}
+use Rattle.account_witness.specs.Reading.{ProofReading, proofReading, proofReadings, proofSlots}
 use Rattle.account_witness.proofs.WalkLaws.{proof-holds}
 use Rattle.decision.specs.Walk.{ProofList, orFault, proofsUntilFault}
-use Rattle.decision.specs.Decision.{slots}
 
 -- The two ways on from a place of the lock where a proof is due.
 module _ (lock : List ℕ) (n at least : ℕ) where
@@ -71,13 +70,13 @@ module _ (lock : List ℕ) where
       ∙ ap (λ (ps : List ProofReading). proofReading lock (proofAt lock at) ∷ ps) (listed-proofs n _ _ (z .1))
 
   -- Its slots rise strictly, whatever the bytes.
-  pub listed-rising : (n at least : ℕ) → Rising least (slots (proofsUntilFault lock n at least .proofs))
+  pub listed-rising : (n at least : ℕ) → Rising least (proofSlots (proofsUntilFault lock n at least .proofs))
   unfolding proofsUntilFault proofReading proofAt
   listed-rising zero at least = tt
   listed-rising (suc n) at least = go (decide Passed (proofLayoutRows lock at least)) refl (listed-rising n _ _)
     where
-      go : (k : Check) → decide Passed (proofLayoutRows lock at least) ≡ k → Rising (proofSlotAt lock at + 1) (slots (Behind lock n at least .proofs))
-          → Rising least (slots (proofsUntilFault lock (suc n) at least .proofs))
+      go : (k : Check) → decide Passed (proofLayoutRows lock at least) ≡ k → Rising (proofSlotAt lock at + 1) (proofSlots (Behind lock n at least .proofs))
+          → Rising least (proofSlots (proofsUntilFault lock (suc n) at least .proofs))
       go Passed h rest =
           rw (listed-goes lock n at least h) (proof-holds lock at least (passed-all-pass (proofLayoutRows lock at least) h) .above, rest)
       go (Failed e) h rest = rw (listed-stops lock n at least e h) tt

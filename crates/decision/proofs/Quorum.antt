@@ -22,10 +22,10 @@ use Rattle.protocol.specs.declared.check.Check.the-variants.{Passed, Failed}
 use Rattle.protocol.proofs.ErrorNumbers.{not-0}
 use Rattle.protocol.proofs.AllPass.{passed-all-pass, all-pass-passed}
 use Rattle.protocol.proofs.Each.{Each, Refuses, each-refuses}
-use Rattle.account_witness.specs.Reading.{ProofReading}
+use Rattle.account_witness.specs.Reading.{ProofReading, proofSlots}
 use Rattle.decision.specs.Proofs.{Context, known, entryFor, capable, requestLimitRows, authenticatorRows, proofRows, requestOf, requestsOf}
 use Rattle.decision.specs.Walk.{WalkOutcome, walkOutcome, verdict, approvedWeight, lastRows, orElse, walk}
-use Rattle.decision.specs.Decision.{slots, EachPasses, Approved, slotsWeight, Quorum}
+use Rattle.decision.specs.Decision.{EachPasses, Approved, slotsWeight, Quorum}
 
 -- The three ways on from a proof.
 module _ (c : Context) (clean : Bool) (i weight : ℕ) (made : List ℕ) (p : ProofReading) (ps : List ProofReading) where
@@ -178,7 +178,7 @@ module _ (c : Context) where
       go true = refl
       go false = omega arith
 
-  approved-rising : (i l : ℕ) (ps : List ProofReading) → Rising l (slots ps) → Rising l (approved i ps)
+  approved-rising : (i l : ℕ) (ps : List ProofReading) → Rising l (proofSlots ps) → Rising l (approved i ps)
   approved-rising i l [] r = tt
   approved-rising i l (p ∷ ps) r = go (eqb (verdict c i) 0) (approved-rising (i + 1) (p .slot + 1) ps (r .1))
     where
@@ -191,7 +191,7 @@ module _ (c : Context) where
   mem-cond false x m = m
 
   approved-has : (i : ℕ) (ps : List ProofReading) (k : ℕ) → k < length ps → verdict c (i + k) ≡ 0
-      → List·Memᴰ (getD (slots ps) k 0) (approved i ps)
+      → List·Memᴰ (getD (proofSlots ps) k 0) (approved i ps)
   approved-has i [] k h v = absurd (omega arith)
   approved-has i (p ∷ ps) zero h v =
       let e : i + zero ≡ i = omega arith in
@@ -203,7 +203,7 @@ module _ (c : Context) where
   abbrev From : ℕ → List ProofReading → ℕ → Type 0
   From i ps s =
       (known s (c .entries) ≡ true) × (capable (c .operation) (entryFor s (c .entries) .capabilities) ≡ true)
-      × (k : ℕ) × (k < length ps) × (getD (slots ps) k 0 ≡ s) × (verdict c (i + k) ≡ 0)
+      × (k : ℕ) × (k < length ps) × (getD (proofSlots ps) k 0 ≡ s) × (verdict c (i + k) ≡ 0)
 
   approved-from : (i used : ℕ) (ps : List ProofReading) → EachPasses c i used ps → (s : ℕ) → List·Memᴰ s (approved i ps) → From i ps s
   unfolding proofRows authenticatorRows
@@ -276,7 +276,7 @@ zero-or-28 c clean ps = (last-each c clean 0 0 [] ps, back)
     back h = rw (each-found c clean ps (h .1), h .0) (end-number (slotsWeight c (approved c 0 ps)) (c .threshold))
 
 -- Passed exactly where nothing follows the proofs, each proof's rows pass, and there is a quorum.
-pub decision : (c : Context) (clean : Bool) (ps : List ProofReading) → Rising 0 (slots ps)
+pub decision : (c : Context) (clean : Bool) (ps : List ProofReading) → Rising 0 (proofSlots ps)
     → (walk c clean 0 0 [] ps .found ≡ Passed) ↔ ((clean ≡ true) × EachPasses c 0 0 ps × Quorum c ps)
 decision c clean ps rises = (there, back)
   where

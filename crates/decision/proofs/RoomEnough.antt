@@ -24,7 +24,7 @@ use Rattle.account_state.specs.Fields.{auxLengthOf, entryCountOf, entryLengthOf
 use Rattle.account_state.specs.Reading.{EntryReading, entryOf, entriesOf}
 use Rattle.account_state.specs.State as state
 use Rattle.account_witness.specs.Fields.{proofCountOf, proofLengthAt}
-use Rattle.account_witness.specs.Reading.{ProofReading, proofReading}
+use Rattle.account_witness.specs.Reading.{ProofReading, proofReading, proofSlots}
 use Rattle.account_witness.specs.Walk as witness
 use Rattle.account_witness.proofs.WalkLaws.{proof-holds}
 use Rattle.verifier_request.specs.Fields.{requestSize}
@@ -32,7 +32,6 @@ use Rattle.verifier_request.specs.Writer.{requestTotal}
 use Rattle.verifier_request.proofs.Form.{length-request}
 use Rattle.decision.specs.Proofs.{Context, noEntry, entryFor, requestLimitRows, authenticatorRows, proofRows, requestContent, requestOf, requestsOf}
 use Rattle.decision.specs.Walk.{WalkOutcome, walkOutcome, verdict, approvedWeight, lastRows, orElse, walk, proofsUntilFault, walkList, walkLock}
-use Rattle.decision.specs.Decision.{slots}
 use Rattle.decision.proofs.Listed.{listed-stops, listed-goes, listed-rising, Behind}
 
 -- ---- what the requests of a list of proofs need
@@ -90,7 +89,7 @@ module _ (c : Context) (d : length (c .digest) ≡ 32) where
       (record { digest = d; key = length-array 32 (entryFor (p .slot) (c .entries) .key) })
 
   -- the requests of proofs whose slots rise: 96 bytes each, their proofs, and the aux of distinct entries
-  pub requests-length : (ps : List ProofReading) (least : ℕ) → Rising least (slots ps)
+  pub requests-length : (ps : List ProofReading) (least : ℕ) → Rising least (proofSlots ps)
       → length (requestsOf c ps) ≤ 96 * length ps + auxFrom least (c .entries) + proofsLength ps
   unfolding requestsOf
   requests-length [] least r = omega arith

@@ -9,14 +9,10 @@ use lib.ListN.{length, getD}
 use Rattle.octets.specs.Lists.{Rising}
 use Rattle.protocol.specs.Rows.{AllPass}
 use Rattle.account_witness.specs.Fields.{proofCountOf}
-use Rattle.account_witness.specs.Reading.{ProofReading, proofReadings}
+use Rattle.account_witness.specs.Reading.{ProofReading, proofReadings, proofSlots}
 use Rattle.account_witness.specs.Walk.{proofsLayoutRows}
 use Rattle.decision.specs.Proofs.{Context, known, entryFor, capable, proofRows, requestOf}
 use Rattle.decision.specs.Walk.{verdict}
-
-abbrev pub slots : List ProofReading → List ℕ
-slots [] = []
-slots (p ∷ ps) = p .slot ∷ slots ps
 
 -- each proof's rows pass, from proof i on with `used` bytes of the answer written, and its verdict is not 2
 abbrev pub EachPasses : Context → ℕ → ℕ → List ProofReading → Type 0
@@ -40,7 +36,7 @@ pub record Approved (c : Context) (ps : List ProofReading) (s : ℕ) : Type 0 wh
   pub hasCapability : capable (c .operation) (entryFor s (c .entries) .capabilities) ≡ true
   pub place : ℕ
   pub isProof : place < length ps
-  pub itsSlot : getD (slots ps) place 0 ≡ s
+  pub itsSlot : getD (proofSlots ps) place 0 ≡ s
   pub isApproved : verdict c place ≡ 0
 
 abbrev pub slotsWeight : Context → List ℕ → ℕ
