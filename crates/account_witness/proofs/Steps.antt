@@ -14,7 +14,7 @@ use Rattle.account_witness.specs.declared.walk.ProofCursor.{ProofCursor}
 use Rattle.account_witness.specs.declared.walk.ProofStep.the-variants.{Next}
 use Rattle.account_witness.specs.Walk.{proofLayoutRows, proofAt, proofCursorBehind, proofStep, proofCursorAt, proofsLayoutRows}
 use Rattle.account_witness.specs.Witness.{witnessRows}
-use Rattle.account_witness.specs.Reading.{ProofReading, proofReading, proofReadings, witnessReading, ProofStepGives}
+use Rattle.account_witness.specs.Reading.{ProofReading, proofGiven, proofsOf, witnessReading, ProofStepGives}
 use Rattle.account_witness.proofs.Accepted.{proof-step-accepts}
 use Rattle.account_witness.proofs.WalkLaws.{step-next}
 use Rattle.account_witness.proofs.Inverse.{witness-holds, proofs-end}
@@ -28,13 +28,13 @@ rows-unrolled s n k = refl
 
 -- and so their readings
 pub readings-unrolled : (s : List ℕ) (n k : ℕ)
-    → proofReadings s (suc n) (proofCursorAt s k .offset) ≡ proofReading s (proofAt s (proofCursorAt s k .offset)) ∷ proofReadings s n (proofCursorAt s (suc k) .offset)
-unfolding proofReadings proofCursorAt proofCursorBehind
+    → proofsOf s (suc n) (proofCursorAt s k .offset) ≡ proofGiven s (proofAt s (proofCursorAt s k .offset)) ∷ proofsOf s n (proofCursorAt s (suc k) .offset)
+unfolding proofsOf proofCursorAt proofCursorBehind
 readings-unrolled s n k = refl
 
 -- the i-th of n readings is that of the proof at the cursor after i proofs, whatever the bytes
 readings-from : (s : List ℕ) (d : ProofReading) (n k i : ℕ) → i < n
-    → getD (proofReadings s n (proofCursorAt s k .offset)) i d ≡ proofReading s (proofAt s (proofCursorAt s (k + i) .offset))
+    → getD (proofsOf s n (proofCursorAt s k .offset)) i d ≡ proofGiven s (proofAt s (proofCursorAt s (k + i) .offset))
 readings-from s d zero k i h = absurd (omega arith)
 readings-from s d (suc n) k zero h = rw (readings-unrolled s n k, add-zero k)
 readings-from s d (suc n) k (suc i) h =
@@ -43,7 +43,7 @@ readings-from s d (suc n) k (suc i) h =
     rw (readings-unrolled s n k, e) (readings-from s d n (suc k) i l)
 
 pub reading-at : (s : List ℕ) (d : ProofReading) (i : ℕ) → i < proofCountOf s
-    → getD (witnessReading s .proofs) i d ≡ proofReading s (proofAt s (proofCursorAt s i .offset))
+    → getD (witnessReading s .proofs) i d ≡ proofGiven s (proofAt s (proofCursorAt s i .offset))
 unfolding witnessReading proofCursorAt
 reading-at s d i h = rw zero-add at (readings-from s d (proofCountOf s) 0 i h)
 
@@ -73,8 +73,8 @@ step-on s i p d h = let z = step-next s (proofCursorAt s i) p d h in (z .1, z .2
 
 -- so that what it hands out reads as the i-th proof, whatever follows
 pub step-given : (s : List ℕ) (i : ℕ) (p : Proof) (d : ProofCursor) → i < proofCountOf s → proofStep s (proofCursorAt s i) ≡ Next p d
-    → (q : ProofReading) → getD (witnessReading s .proofs) i q ≡ proofReading s p
-step-given s i p d l h q = reading-at s q i l ∙ ap (proofReading s) (step-on s i p d h .0)
+    → (q : ProofReading) → getD (witnessReading s .proofs) i q ≡ proofGiven s p
+step-given s i p d l h q = reading-at s q i l ∙ ap (proofGiven s) (step-on s i p d h .0)
 
 -- in an accepted witness lock each step goes on, with its proof of the reading
 pub steps : (s : List ℕ) → AllPass (witnessRows s) → (i : ℕ) → i < proofCountOf s → ProofStepGives s i

@@ -35,18 +35,27 @@ proofsBytes ps = joined (map proofBytes ps)
 unfoldable pub witnessBytes : WitnessReading → List ℕ
 witnessBytes r = layoutBytes (witnessHeaderFields (r .operation) (length (r .proofs)) (r .sequence)) ++ proofsBytes (r .proofs)
 
--- the reading of s: that of a proof whose place the walk hands out, of n proofs from `off` on, and of the whole
-unfoldable pub proofReading : List ℕ → Proof → ProofReading
-proofReading s p = record { slot = p .slot; bytes = take (p .len) (drop (p .start) s) }
+-- the reading of a proof that a step hands out: its slot, and the bytes at its place; 01: "a place in the input counting as the
+-- bytes there"
+unfoldable pub proofGiven : List ℕ → Proof → ProofReading
+proofGiven s p = record { slot = p .slot; bytes = take (p .len) (drop (p .start) s) }
 
-unfoldable pub proofReadings : List ℕ → ℕ → ℕ → List ProofReading
-proofReadings s zero off = []
-proofReadings s (suc n) off =
-    proofReading s (proofAt s off) ∷ proofReadings s n (off + 8 + proofLengthAt s off)
+-- the proof at `off`
+abbrev pub proofOf : List ℕ → ℕ → ProofReading
+proofOf s off = proofGiven s (proofAt s off)
+
+-- n proofs one behind another, from `off` on
+unfoldable pub proofsOf : List ℕ → ℕ → ℕ → List ProofReading
+proofsOf s zero off = []
+proofsOf s (suc n) off = proofOf s off ∷ proofsOf s n (off + 8 + proofLengthAt s off)
+
+-- the proofs of a witness lock
+abbrev pub witnessProofs : List ℕ → List ProofReading
+witnessProofs s = proofsOf s (proofCountOf s) 16
 
 unfoldable pub witnessReading : List ℕ → WitnessReading
 witnessReading s =
-    record { operation = operationOf s; sequence = witnessSequenceOf s; proofs = proofReadings s (proofCountOf s) 16 }
+    record { operation = operationOf s; sequence = witnessSequenceOf s; proofs = witnessProofs s }
 
 -- the slots of the proofs
 abbrev pub proofSlots : List ProofReading → List ℕ
@@ -78,7 +87,7 @@ pub record WitnessHeaderGives (s : List ℕ) (h : AccountWitnessHeader) : Type 0
 -- `parse_proofs`: a step per entry."
 pub record ProofStepGives (s : List ℕ) (i : ℕ) : Type 0 where
   pub step : proofStep s (proofCursorAt s i) ≡ Next (proofAt s (proofCursorAt s i .offset)) (proofCursorAt s (suc i))
-  pub reading : (d : ProofReading) → getD (witnessReading s .proofs) i d ≡ proofReading s (proofAt s (proofCursorAt s i .offset))
+  pub reading : (d : ProofReading) → getD (witnessReading s .proofs) i d ≡ proofGiven s (proofAt s (proofCursorAt s i .offset))
 
 -- what the readers hand out of a witness lock, with the header h of its answer, is its reading: the header's fields, and at each step
 -- the next proof; behind the last no byte follows

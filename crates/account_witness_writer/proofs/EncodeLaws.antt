@@ -23,7 +23,7 @@ use Rattle.protocol.proofs.Back.{write-passed}
 use Rattle.account_witness.specs.Header.{witnessHeaderFields}
 use Rattle.account_witness.proofs.Unique.{length-proof}
 use Rattle.account_witness.specs.Reading.{ProofReading, proofFields, proofBytes, proofsBytes, witnessBytes}
-use Rattle.account_witness_writer.specs.Encode.{sum, lentProofs, witnessFrom, isRising, encodeTotal, lentRows, witnessWriterRows, encodeFault}
+use Rattle.account_witness_writer.specs.Encode.{sum, lentProofs, witnessFrom, isRising, witnessTotal, lentProofRows, witnessWriterRows, witnessWriterFault}
 
 -- two tests that tell the same
 eqb-by : (a b c d : ℕ) (t : Bool) → eqb a b ≡ t → (a ≡ b → c ≡ d) → (c ≡ d → a ≡ b) → t ≡ eqb c d
@@ -125,13 +125,13 @@ length-lent (slot ∷ slots) (len ∷ lengths) bytes e n =
 pub record EncodeHolds (slots lengths bytes : List ℕ) (room : ℕ) : Type 0 where
   pub counts : length slots ≡ length lengths
   pub sums : sum lengths ≡ length bytes
-  pub most : encodeTotal slots bytes ≤ 131072
-  pub fits : encodeTotal slots bytes ≤ room
+  pub most : witnessTotal slots bytes ≤ 131072
+  pub fits : witnessTotal slots bytes ≤ room
 
-pub encode-holds : (operation : ℕ) (slots lengths bytes : List ℕ) (room : ℕ) → encodeFault operation slots lengths bytes room ≡ Passed → EncodeHolds slots lengths bytes room
-unfolding encodeFault witnessWriterRows lentRows
+pub encode-holds : (operation : ℕ) (slots lengths bytes : List ℕ) (room : ℕ) → witnessWriterFault operation slots lengths bytes room ≡ Passed → EncodeHolds slots lengths bytes room
+unfolding witnessWriterFault witnessWriterRows lentProofRows
 encode-holds operation slots lengths bytes room h =
-    let z = write-passed (witnessWriterRows operation slots lengths bytes) (encodeTotal slots bytes) room h in
+    let z = write-passed (witnessWriterRows operation slots lengths bytes) (witnessTotal slots bytes) room h in
     record {
       counts = eqb-true _ _ (z .0 .0);
       sums = eqb-true _ _ (z .0 .1 .0);

@@ -19,8 +19,8 @@ use Rattle.account_witness.specs.Fields.{proofCountOf, proofLengthAt, proofSlot
 use Rattle.account_witness.specs.Header.{witnessHeaderFields}
 use Rattle.account_witness.specs.Walk.{proofAt, proofsLayoutRows}
 use Rattle.account_witness.specs.Witness.{witnessRows}
-use Rattle.account_witness.specs.Reading.{ProofReading, WitnessReading, proofsBytes, witnessBytes, proofReading, proofReadings, witnessReading, proofSlots}
-use Rattle.account_witness_writer.specs.Encode.{sum, lentProofs, isRising, encodeTotal, lentRows, witnessWriterRows, proofLengths, proofsPayload}
+use Rattle.account_witness.specs.Reading.{ProofReading, WitnessReading, proofsBytes, witnessBytes, proofGiven, proofsOf, witnessReading, proofSlots}
+use Rattle.account_witness_writer.specs.Encode.{sum, lentProofs, isRising, witnessTotal, lentProofRows, witnessWriterRows, proofLengths, proofsPayload}
 use Rattle.account_witness_writer.proofs.EncodeLaws.{length-lent}
 use Rattle.account_witness.proofs.Inverse.{witness-holds, proofs-split, length-readings, witness-back}
 
@@ -44,7 +44,7 @@ lent-back [] = refl
 lent-back (p ∷ ps) = rw (take-append-seam (p .bytes) (proofsPayload ps), drop-append-seam (p .bytes) (proofsPayload ps), lent-back ps)
 
 -- their written form is as long as the writer says
-pub lent-total : (r : WitnessReading) → encodeTotal (proofSlots (r .proofs)) (proofsPayload (r .proofs)) ≡ length (witnessBytes r)
+pub lent-total : (r : WitnessReading) → witnessTotal (proofSlots (r .proofs)) (proofsPayload (r .proofs)) ≡ length (witnessBytes r)
 unfolding witnessBytes witnessHeaderFields
 lent-total r =
     let ps = r .proofs in
@@ -54,15 +54,15 @@ lent-total r =
     sym (length-append (layoutBytes h) (proofsBytes ps) ∙ omega arith)
 
 -- no proof of the reading is empty, and its slots rise
-readings-filled : (s : List ℕ) (n off least : ℕ) → AllPass (proofsLayoutRows s n off least) → every (leb 1) (proofLengths (proofReadings s n off)) ≡ true
-unfolding every proofLengths proofReadings proofReading proofAt
+readings-filled : (s : List ℕ) (n off least : ℕ) → AllPass (proofsLayoutRows s n off least) → every (leb 1) (proofLengths (proofsOf s n off)) ≡ true
+unfolding every proofLengths proofsOf proofGiven proofAt
 readings-filled s zero off least h = refl
 readings-filled s (suc n) off least h =
     let z = proofs-split s n off least h in
     rw (part-length s (off + 8) (proofLengthAt s off) (z .0 .inside), le-leb 1 (proofLengthAt s off) (z .0 .some)) (readings-filled s n _ _ (z .1))
 
-readings-rising : (s : List ℕ) (n off least : ℕ) → AllPass (proofsLayoutRows s n off least) → isRising least (proofSlots (proofReadings s n off)) ≡ true
-unfolding isRising proofReadings proofReading proofAt
+readings-rising : (s : List ℕ) (n off least : ℕ) → AllPass (proofsLayoutRows s n off least) → isRising least (proofSlots (proofsOf s n off)) ≡ true
+unfolding isRising proofsOf proofGiven proofAt
 readings-rising s zero off least h = refl
 readings-rising s (suc n) off least h =
     let z = proofs-split s n off least h in
@@ -71,14 +71,14 @@ readings-rising s (suc n) off least h =
 -- so every row of the writer passes
 pub lent-hold : (s : List ℕ) → Bytes s → AllPass (witnessRows s)
     → let r = witnessReading s in AllPass (witnessWriterRows (r .operation) (proofSlots (r .proofs)) (proofLengths (r .proofs)) (proofsPayload (r .proofs)))
-unfolding witnessWriterRows lentRows witnessReading
+unfolding witnessWriterRows lentProofRows witnessReading
 lent-hold s b h =
     let z = witness-holds s h in
-    let ps = proofReadings s (proofCountOf s) 16 in
+    let ps = proofsOf s (proofCountOf s) 16 in
     let n : length (proofSlots ps) ≡ proofCountOf s = length-slots ps ∙ length-readings s (proofCountOf s) 16 in
-    let t : encodeTotal (proofSlots ps) (proofsPayload ps) ≡ length s = lent-total (witnessReading s) ∙ ap length (witness-back s b h) in
+    let t : witnessTotal (proofSlots ps) (proofsPayload ps) ≡ length s = lent-total (witnessReading s) ∙ ap length (witness-back s b h) in
     let few : length (proofSlots ps) ≤ 16 = omega arith in
-    let most : encodeTotal (proofSlots ps) (proofsPayload ps) ≤ 131072 = omega arith in
+    let most : witnessTotal (proofSlots ps) (proofsPayload ps) ≤ 131072 = omega arith in
     let f = readings-filled s (proofCountOf s) 16 0 (z .proofs) in
     let g = readings-rising s (proofCountOf s) 16 0 (z .proofs) in
     (eq-eqb _ _ (counts ps), (eq-eqb _ _ (sums ps), (z .operation, (le-leb _ _ few, (f, (le-leb _ _ most, (g, tt)))))))

@@ -16,9 +16,9 @@ use Rattle.protocol.proofs.Back.{writes-back}
 use Rattle.account_witness.specs.Fields.{proofCountOf, proofLengthAt}
 use Rattle.account_witness.specs.Witness.{witnessRows}
 use Rattle.account_witness.specs.Walk.{proofAt}
-use Rattle.account_witness.specs.Reading.{WitnessReading, witnessBytes, proofReading, proofReadings, witnessReading, proofSlots, WitnessTyped}
+use Rattle.account_witness.specs.Reading.{WitnessReading, witnessBytes, proofGiven, proofsOf, witnessReading, proofSlots, WitnessTyped}
 use Rattle.account_witness.proofs.Inverse.{witness-holds, witness-back, witness-typed}
-use Rattle.account_witness_writer.specs.Encode.{witnessFrom, encodeTotal, witnessWriterRows, encodeFault, witnessWritten, witnessStored, proofLengths, proofsPayload, WitnessFits}
+use Rattle.account_witness_writer.specs.Encode.{witnessFrom, witnessTotal, witnessWriterRows, witnessWriterFault, witnessWritten, witnessStored, proofLengths, proofsPayload, WitnessFits}
 use Rattle.account_witness_writer.proofs.Lent.{lent-back, lent-total, lent-hold}
 use Rattle.account_witness_writer.proofs.Written.{written-accepted}
 
@@ -28,12 +28,12 @@ unfolding witnessFrom
 from-reading r = rw (lent-back (r .proofs))
 
 -- what proofs that are read from bytes lend are bytes
-readings-bytes : (s : List ℕ) (n off : ℕ) → Bytes s → Bytes (proofsPayload (proofReadings s n off))
-unfolding proofsPayload joined proofReadings proofReading proofAt
+readings-bytes : (s : List ℕ) (n off : ℕ) → Bytes s → Bytes (proofsPayload (proofsOf s n off))
+unfolding proofsPayload joined proofsOf proofGiven proofAt
 readings-bytes s zero off b = λ i. lit< tt
 readings-bytes s (suc n) off b =
     let len = proofLengthAt s off in
-    bytes-append (take len (drop (off + 8) s)) (proofsPayload (proofReadings s n (off + 8 + len))) (bytes-take len (drop (off + 8) s) (bytes-drop (off + 8) s b)) (readings-bytes s n (off + 8 + len) b)
+    bytes-append (take len (drop (off + 8) s)) (proofsPayload (proofsOf s n (off + 8 + len))) (bytes-take len (drop (off + 8) s) (bytes-drop (off + 8) s b)) (readings-bytes s n (off + 8 + len) b)
 
 -- what the reading lends fits the writer's types
 fits : (s : List ℕ) → Bytes s → AllPass (witnessRows s) → WitnessFits (witnessReading s)
@@ -41,7 +41,7 @@ unfolding witnessReading
 fits s b h =
     let z = witness-holds s h in
     let r = witnessReading s in
-    let t : encodeTotal (proofSlots (r .proofs)) (proofsPayload (r .proofs)) ≡ length s = lent-total r ∙ ap length (witness-back s b h) in
+    let t : witnessTotal (proofSlots (r .proofs)) (proofsPayload (r .proofs)) ≡ length s = lent-total r ∙ ap length (witness-back s b h) in
     record {
       typed = witness-typed s b h;
       bytes = readings-bytes s (proofCountOf s) 16 b;
@@ -57,13 +57,13 @@ pub witness-writes-back : (s : List ℕ) → Bytes s → AllPass (witnessRows s)
     (witnessWritten (r .operation) (proofSlots ps) (proofLengths ps) (proofsPayload ps))
     (witnessStored (r .operation) (r .sequence) (proofSlots ps) (proofLengths ps) (proofsPayload ps))
     s
-unfolding witnessWritten witnessStored encodeFault
+unfolding witnessWritten witnessStored witnessWriterFault
 witness-writes-back s b h =
     let r = witnessReading s in
     let ps = r .proofs in
     let back = ap witnessBytes (from-reading r) ∙ witness-back s b h in
     let total = lent-total r ∙ ap length (witness-back s b h) in
-    (fits s b h, writes-back (witnessWriterRows (r .operation) (proofSlots ps) (proofLengths ps) (proofsPayload ps)) (witnessBytes (witnessFrom (r .operation) (r .sequence) (proofSlots ps) (proofLengths ps) (proofsPayload ps))) (encodeTotal (proofSlots ps) (proofsPayload ps)) s (lent-hold s b h) back total)
+    (fits s b h, writes-back (witnessWriterRows (r .operation) (proofSlots ps) (proofLengths ps) (proofsPayload ps)) (witnessBytes (witnessFrom (r .operation) (r .sequence) (proofSlots ps) (proofLengths ps) (proofsPayload ps))) (witnessTotal (proofSlots ps) (proofsPayload ps)) s (lent-hold s b h) back total)
 
 -- a witness lock is accepted exactly where it is the written form of a reading that the writer takes
 pub witness-written : (s : List ℕ) → Bytes s

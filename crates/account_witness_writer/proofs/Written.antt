@@ -20,7 +20,7 @@ use Rattle.account_witness.specs.Header.{witnessHeaderRows, witnessHeaderFields
 use Rattle.account_witness.specs.Walk.{proofLayoutRows, proofsLayoutRows}
 use Rattle.account_witness.specs.Witness.{witnessRows}
 use Rattle.account_witness.specs.Reading.{ProofReading, WitnessReading, proofFields, proofBytes, proofsBytes, witnessBytes, proofSlots, ProofTyped, ProofsTyped, WitnessTyped}
-use Rattle.account_witness_writer.specs.Encode.{isRising, encodeTotal, lentRows, witnessWriterRows, proofLengths, proofsPayload}
+use Rattle.account_witness_writer.specs.Encode.{isRising, witnessTotal, lentProofRows, witnessWriterRows, proofLengths, proofsPayload}
 use Rattle.account_witness_writer.proofs.Lent.{length-slots, lent-total}
 use Rattle.account_witness.proofs.Unique.{length-proof, table-read, len-read, header-read}
 
@@ -62,16 +62,16 @@ proofs-rows (q ∷ qs) s p off least y e l f g =
 -- the whole
 pub written-accepted : (r : WitnessReading) → WitnessTyped r
     → AllPass (witnessWriterRows (r .operation) (proofSlots (r .proofs)) (proofLengths (r .proofs)) (proofsPayload (r .proofs))) → AllPass (witnessRows (witnessBytes r))
-unfolding witnessRows witnessHeaderRows witnessWriterRows lentRows witnessBytes witnessHeaderFields layoutAt
+unfolding witnessRows witnessHeaderRows witnessWriterRows lentProofRows witnessBytes witnessHeaderFields layoutAt
 written-accepted r y h =
     let ps = r .proofs in
     let x = witnessHeaderFields (r .operation) (length ps) (r .sequence) in
     let s = witnessBytes r in
     let t = header-read r y in
-    let total : encodeTotal (proofSlots ps) (proofsPayload ps) ≡ length s = lent-total r in
+    let total : witnessTotal (proofSlots ps) (proofsPayload ps) ≡ length s = lent-total r in
     let count : proofCountOf s ≡ length ps = ap (fieldValue 3) t in
     let few : length (proofSlots ps) ≤ 16 = leb-true _ _ (h .1 .1 .1 .0) in
-    let most : encodeTotal (proofSlots ps) (proofsPayload ps) ≤ 131072 = leb-true _ _ (h .1 .1 .1 .1 .1 .0) in
+    let most : witnessTotal (proofSlots ps) (proofsPayload ps) ≤ 131072 = leb-true _ _ (h .1 .1 .1 .1 .1 .0) in
     let slots : length (proofSlots ps) ≡ length ps = length-slots ps in
     let a : 16 ≤ length s = omega arith in
     let b : length s ≤ 131072 = omega arith in

@@ -36,14 +36,14 @@ isRising least [] = true
 isRising least (slot ∷ slots) = leb least slot && isRising (slot + 1) slots
 
 -- the length of the written form
-abbrev pub encodeTotal : List ℕ → List ℕ → ℕ
-encodeTotal slots bytes = 16 + (8 * length slots + length bytes)
+abbrev pub witnessTotal : List ℕ → List ℕ → ℕ
+witnessTotal slots bytes = 16 + (8 * length slots + length bytes)
 
 -- 01, Proof and Witness lock: "length (u32, not 0)", "16 to 131,072 bytes", "slots rise strictly"
-unfoldable pub lentRows : List ℕ → List ℕ → List ℕ → List Row
-lentRows slots lengths bytes =
+unfoldable pub lentProofRows : List ℕ → List ℕ → List ℕ → List Row
+lentProofRows slots lengths bytes =
     row (every (leb 1) lengths) InvalidWitness
-    ∷ row (leb (encodeTotal slots bytes) 131072) InvalidWitness
+    ∷ row (leb (witnessTotal slots bytes) 131072) InvalidWitness
     ∷ row (isRising 0 slots) InvalidWitness
     ∷ []
 
@@ -55,21 +55,21 @@ witnessWriterRows operation slots lengths bytes =
     ∷ row (eqb (sum lengths) (length bytes)) SlicesDisagree
     ∷ row (isOperation operation) InvalidOperation
     ∷ row (leb (length slots) 16) InvalidWitness
-    ∷ lentRows slots lengths bytes
+    ∷ lentProofRows slots lengths bytes
 
 -- 01: "then with 5 if the buffer is short"
-unfoldable pub encodeFault : ℕ → List ℕ → List ℕ → List ℕ → ℕ → Check
-encodeFault operation slots lengths bytes room =
-    writeFault (witnessWriterRows operation slots lengths bytes) (encodeTotal slots bytes) room
+unfoldable pub witnessWriterFault : ℕ → List ℕ → List ℕ → List ℕ → ℕ → Check
+witnessWriterFault operation slots lengths bytes room =
+    writeFault (witnessWriterRows operation slots lengths bytes) (witnessTotal slots bytes) room
 
 -- what the writer answers, and the buffer afterwards
 unfoldable pub witnessWritten : ℕ → List ℕ → List ℕ → List ℕ → List ℕ → WriteAnswer
 witnessWritten operation slots lengths bytes out =
-    writeAnswer (encodeFault operation slots lengths bytes (length out)) (encodeTotal slots bytes)
+    writeAnswer (witnessWriterFault operation slots lengths bytes (length out)) (witnessTotal slots bytes)
 
 unfoldable pub witnessStored : ℕ → ℕ → List ℕ → List ℕ → List ℕ → List ℕ → List ℕ
 witnessStored operation sequence slots lengths bytes out =
-    afterWrite (encodeFault operation slots lengths bytes (length out)) (witnessBytes (witnessFrom operation sequence slots lengths bytes)) out
+    afterWrite (witnessWriterFault operation slots lengths bytes (length out)) (witnessBytes (witnessFrom operation sequence slots lengths bytes)) out
 
 -- the slices that lend these proofs, beside their slots
 unfoldable pub proofLengths : List ProofReading → List ℕ

@@ -11,7 +11,7 @@ ghost use Prim.Native.Nat.{_+_, _*_};
 ghost use lib.Dec.{leb, eqb};
 ghost use Rattle.octets.specs.Lists.{every};
 ghost use Rattle.protocol.specs.Rows.{decide};
-ghost use Rattle.account_witness_writer.specs.Encode.{sum, isRising, lentRows, encodeFault};
+ghost use Rattle.account_witness_writer.specs.Encode.{sum, isRising, lentProofRows, witnessWriterFault};
 
 // Whether the lengths add up to `total`. What is left of it never falls below zero.
 fn adds_up(lengths: &[u32], total: usize) -> bool
@@ -77,7 +77,7 @@ fn total_within(limit: usize, count: usize, len: usize) -> bool
 
 // The checks of the proofs, after what was found before them.
 fn check_lent(before: Check, slots: &[u16], lengths: &[u32], bytes: &[u8]) -> Check
-    ensures { λ r. ⌜ r ≡ decide before (lentRows (now (slots .entry)) (now (lengths .entry)) (now (bytes .entry))) ⌝ }
+    ensures { λ r. ⌜ r ≡ decide before (lentProofRows (now (slots .entry)) (now (lengths .entry)) (now (bytes .entry))) ⌝ }
 {
     let invalid = ProtocolError::InvalidWitness;
     before
@@ -97,7 +97,7 @@ pub(crate) fn check_encode(
     bytes: &[u8],
     room: usize,
 ) -> Check
-    ensures { λ r. ⌜ r ≡ encodeFault operation (now (slots .entry)) (now (lengths .entry)) (now (bytes .entry)) room ⌝ }
+    ensures { λ r. ⌜ r ≡ witnessWriterFault operation (now (slots .entry)) (now (lengths .entry)) (now (bytes .entry)) room ⌝ }
 {
     let disagree = ProtocolError::SlicesDisagree;
     let first = Check::Passed

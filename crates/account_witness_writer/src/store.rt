@@ -12,7 +12,7 @@ ghost use lib.Seq.{sets};
 ghost use Rattle.octets.specs.Layout.{layoutBytes};
 ghost use Rattle.account_witness.specs.Header.{witnessHeaderFields};
 ghost use Rattle.account_witness.specs.Reading.{proofBytes, proofsBytes};
-ghost use Rattle.account_witness_writer.specs.Encode.{sum, lentProofs, encodeTotal};
+ghost use Rattle.account_witness_writer.specs.Encode.{sum, lentProofs, witnessTotal};
 
 pub(crate) fn store_header(out: &mut [u8], operation: u8, count: usize, sequence: u64)
     ensures { λ _. ⌜ now (out .exit) ≡ sets (now (out .entry)) 0 (layoutBytes (witnessHeaderFields operation count sequence)) ⌝ }
@@ -37,7 +37,7 @@ fn store_proof(out: &mut [u8], at: usize, slot: u16, proof: &[u8])
 
 // Stores the proofs behind the header.
 pub(crate) fn store_proofs(out: &mut [u8], slots: &[u16], lengths: &[u32], bytes: &[u8])
-    requires { ⌜ (length (now slots) ≡ length (now lengths)) × (sum (now lengths) ≡ length (now bytes)) × (encodeTotal (now slots) (now bytes) ≤ 131072) ⌝ }
+    requires { ⌜ (length (now slots) ≡ length (now lengths)) × (sum (now lengths) ≡ length (now bytes)) × (witnessTotal (now slots) (now bytes) ≤ 131072) ⌝ }
     ensures { λ _. ⌜ now (out .exit) ≡ sets (now (out .entry)) 16 (proofsBytes (lentProofs (now (slots .entry)) (now (lengths .entry)) (now (bytes .entry)))) ⌝ }
 {
     let mut at = ACCOUNT_WITNESS_HEADER_LEN;

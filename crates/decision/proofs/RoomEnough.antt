@@ -24,14 +24,14 @@ use Rattle.account_state.specs.Fields.{auxLengthOf, entryCountOf, entryLengthOf
 use Rattle.account_state.specs.Reading.{EntryReading, entryOf, entriesOf}
 use Rattle.account_state.specs.State as state
 use Rattle.account_witness.specs.Fields.{proofCountOf, proofLengthAt}
-use Rattle.account_witness.specs.Reading.{ProofReading, proofReading, proofSlots}
+use Rattle.account_witness.specs.Reading.{ProofReading, proofGiven, proofSlots}
 use Rattle.account_witness.specs.Walk as witness
 use Rattle.account_witness.proofs.WalkLaws.{proof-holds}
 use Rattle.verifier_request.specs.Fields.{requestSize}
 use Rattle.verifier_request.specs.Writer.{requestTotal}
 use Rattle.verifier_request.proofs.Form.{length-request}
 use Rattle.decision.specs.Proofs.{Context, noEntry, entryFor, requestLimitRows, authenticatorRows, proofRows, requestContent, requestOf, requestsOf}
-use Rattle.decision.specs.Walk.{WalkOutcome, walkOutcome, verdict, approvedWeight, lastRows, orElse, walk, proofsUntilFault, walkList, walkLock}
+use Rattle.decision.specs.Walk.{WalkOutcome, walkOutcome, verdict, approvedWeight, lastRows, unlessFailed, walkFrom, proofsUntilFault, walkList, walkLock}
 use Rattle.decision.proofs.Listed.{listed-stops, listed-goes, listed-rising, Behind}
 
 -- ---- what the requests of a list of proofs need
@@ -138,8 +138,8 @@ rows-room c used p h =
 
 -- nor does a turn, where neither its rows nor what comes after them do
 turn-room : (k : Check) (i : ℕ) (made : List ℕ) (onward : WalkOutcome) → checkNumber k ≢ 5 → checkNumber (onward .found) ≢ 5
-    → checkNumber (orElse k i made onward .found) ≢ 5
-unfolding orElse
+    → checkNumber (unlessFailed k i made onward .found) ≢ 5
+unfolding unlessFailed
 turn-room Passed i made onward k o = o
 turn-room (Failed e) i made onward k o = k
 
@@ -151,8 +151,8 @@ end-room clean weight threshold =
 
 -- a walk whose buffer has room for the requests of all proofs that are left never gives 5
 pub walk-room : (c : Context) → length (c .digest) ≡ 32 → (clean : Bool) (i weight : ℕ) (made : List ℕ) (ps : List ProofReading)
-    → length made + length (requestsOf c ps) ≤ c .room → checkNumber (walk c clean i weight made ps .found) ≢ 5
-unfolding walk requestsOf
+    → length made + length (requestsOf c ps) ≤ c .room → checkNumber (walkFrom c clean i weight made ps .found) ≢ 5
+unfolding walkFrom requestsOf
 walk-room c d clean i weight made [] h = end-room clean weight (c .threshold)
 walk-room c d clean i weight made (p ∷ ps) h =
     let n = length-append (requestOf c p) (requestsOf c ps) in
@@ -181,9 +181,9 @@ module _ (lock : List ℕ) where
       go Passed h rest = rw (listed-goes lock n at least h) (omega arith)
       go (Failed e) h rest = rw (listed-stops lock n at least e h) (omega arith)
 
-  -- their bytes stand in the lock behind the place where they begin
+  -- their bytes stand in the lock behind the offset where they begin
   pub listed-length : (n at least : ℕ) → proofsLength (proofsUntilFault lock n at least .proofs) ≤ length lock - at
-  unfolding proofsUntilFault proofReading witness.proofAt
+  unfolding proofsUntilFault proofGiven witness.proofAt
   listed-length zero at least = omega arith
   listed-length (suc n) at least = go (decide Passed (witness.proofLayoutRows lock at least)) refl (listed-length n _ _)
     where

@@ -50,9 +50,9 @@ contextFor state deps digits operation digest room =
     }
 
 -- the state has an entry for the slot, and which
-unfoldable pub known : ℕ → List EntryReading → Bool
-known slot [] = false
-known slot (e ∷ es) = cond (eqb (e .slot) slot) true (known slot es)
+unfoldable pub knownSlot : ℕ → List EntryReading → Bool
+knownSlot slot [] = false
+knownSlot slot (e ∷ es) = cond (eqb (e .slot) slot) true (knownSlot slot es)
 
 unfoldable pub noEntry : EntryReading
 noEntry =
@@ -97,7 +97,7 @@ authenticatorRows operation deps e proof left =
 
 unfoldable pub proofRows : Context → ℕ → ProofReading → List Row
 proofRows c used p =
-    row (known (p .slot) (c .entries)) InvalidWitness
+    row (knownSlot (p .slot) (c .entries)) InvalidWitness
     ∷ authenticatorRows (c .operation) (c .deps) (entryFor (p .slot) (c .entries)) (length (p .bytes)) (c .room - used)
 
 -- the request: its profile is the first byte of aux. 01, Request: "digest, key (32 bytes each)": a key in its field of 32 bytes. A

@@ -20,7 +20,7 @@ use Rattle.account_state.specs.Fields.{hashTypeOf, codeHashOf, weightOf}
 use Rattle.account_state.specs.Reading.{EntryReading, entryOf, stateEntries}
 use Rattle.account_witness.specs.Reading.{ProofReading}
 use Rattle.verifier_request.specs.Reading.{requestBytes}
-use Rattle.verifier_request.specs.Writer.{requestTotal, requestRoom, requestWritten, requestStored}
+use Rattle.verifier_request.specs.Writer.{requestTotal, requestWriterFault, requestWritten, requestStored}
 use Rattle.verifier_request.proofs.Form.{length-request}
 use Rattle.scene_table.specs.Scene.{Cell}
 use Rattle.scene_table.specs.Lent.{sceneIn}
@@ -28,11 +28,11 @@ use Rattle.cell_search.specs.declared.cells.Source.the-variants.{CellDep}
 use Rattle.cell_search.specs.declared.search.Search.{Search}
 use Rattle.cell_search.specs.declared.search.Search.the-variants.{Missing, One, Several}
 use Rattle.cell_search.specs.Search.{cellsOf, matches, searchOf, cellSearch}
-use Rattle.decision.specs.Proofs.{contextFor, known, entryFor, verifierField, verifiers, requestLimitRows, authenticatorRows, proofRows, requestContent, requestOf}
+use Rattle.decision.specs.Proofs.{contextFor, knownSlot, entryFor, verifierField, verifiers, requestLimitRows, authenticatorRows, proofRows, requestContent, requestOf}
 use Rattle.decision.specs.Walk.{answered}
 use Rattle.decision.proofs.RequestsRead.{request-limits}
 use Rattle.proof_walk.specs.Answer.{sceneDeps, walkContext}
-use Rattle.proof_walk.specs.Steps.{isKnown, entryIn, FoundIs, proofOf, foundRows}
+use Rattle.proof_walk.specs.Steps.{isKnown, entryIn, FoundIs, proofWith, foundRows}
 use Rattle.proof_walk.specs.declared.authenticator.Found.{Found}
 
 -- just one place
@@ -48,11 +48,11 @@ one-found (k ∷ []) = refl
 one-found (k ∷ j ∷ ks) = sym (ne-eqb (suc (suc (length ks))) 1 (λ e. omega arith))
 
 -- what the search for an entry's verifier says
-pub resolved : (table store entry : List ℕ) (s : Search)
+pub verifier-resolved : (table store entry : List ℕ) (s : Search)
     → s ≡ cellSearch (verifierField (hashTypeOf entry)) (codeHashOf entry) (cellsOf CellDep (sceneIn table store))
     → isOne s ≡ eqb (length (verifiers (entryOf entry) (sceneDeps table store))) 1
 unfolding entryOf verifiers cellsOf sceneDeps cellSearch
-resolved table store entry s e =
+verifier-resolved table store entry s e =
     ap isOne e ∙ one-found (matches (verifierField (hashTypeOf entry)) (codeHashOf entry) (sceneIn table store .deps))
 
 -- where every row passes the request writer refuses nothing: its answer is the request's length, which fits, and the request
@@ -67,8 +67,8 @@ module _ (known : Bool) (operation : ℕ) (digest : List ℕ) (deps : List Cell)
   unfolding foundRows authenticatorRows requestLimitRows requestContent requestTotal
   request-fits = leb-true _ _ (passed-all-pass _ h .1 .1 .1 .1 .1 .1 .0)
 
-  request-passes : requestRoom (requestContent operation digest e p) (length out) ≡ Passed
-  unfolding foundRows requestRoom
+  request-passes : requestWriterFault (requestContent operation digest e p) (length out) ≡ Passed
+  unfolding foundRows requestWriterFault
   request-passes = write-room _ _ _ (request-limits operation digest deps e p (length out) (passed-all-pass _ h .1)) request-fits
 
   pub made-fits : length (requestBytes (requestContent operation digest e p)) ≤ length out
@@ -86,12 +86,12 @@ module _ (known : Bool) (operation : ℕ) (digest : List ℕ) (deps : List Cell)
 module _ (table store state : List ℕ) (operation : ℕ) (digest : List ℕ) (room slot : ℕ) (bytes : List ℕ) (found : Found)
     (f : FoundIs (stateEntries state) state slot found) where
   pub found-rows : foundRows (isKnown found) operation (sceneDeps table store) (entryOf (entryIn state found)) (length bytes) room
-      ≡ proofRows (walkContext table store state operation digest room) 0 (proofOf slot bytes)
+      ≡ proofRows (walkContext table store state operation digest room) 0 (proofWith slot bytes)
   unfolding proofRows walkContext contextFor foundRows
   found-rows = rw (f .itsKnown, f .itsEntry, sub-zero)
 
-  pub found-request : requestBytes (requestContent operation digest (entryOf (entryIn state found)) (proofOf slot bytes))
-      ≡ requestOf (walkContext table store state operation digest room) (proofOf slot bytes)
+  pub found-request : requestBytes (requestContent operation digest (entryOf (entryIn state found)) (proofWith slot bytes))
+      ≡ requestOf (walkContext table store state operation digest room) (proofWith slot bytes)
   unfolding requestOf walkContext contextFor
   found-request = rw (f .itsEntry)
 

@@ -27,5 +27,5 @@ unfoldable pub walkProofs : Context → List ℕ → WalkOutcome
 walkProofs c lock = cond (isOperation (c .operation)) (walkLock c lock) (walkOutcome (Failed InvalidOperation) 0 [])
 
 -- what the walk answers of its outcome
-unfoldable pub walkedOf : WalkOutcome → Walked
-walkedOf o = record { found = o .found; count = o .count; length = length (o .made) }
+unfoldable pub proofWalkAnswer : WalkOutcome → Walked
+proofWalkAnswer o = record { found = o .found; count = o .count; length = length (o .made) }

@@ -34,7 +34,7 @@ ghost use Rattle.account_state.specs.Reading.{entryOf};
 ghost use Rattle.verifier_request.specs.Writer.{requestWritten, requestStored};
 ghost use Rattle.decision.specs.Proofs.{verifierField, verifiers, requestContent};
 ghost use Rattle.proof_walk.specs.Answer.{walkContext, sceneDeps};
-ghost use Rattle.proof_walk.specs.Steps.{foundRows, proofOf, RequestStepIs};
+ghost use Rattle.proof_walk.specs.Steps.{foundRows, proofWith, RequestStepIs};
 
 // A refusal, or the length of the request that was made and the weight of its slot.
 pub(crate) enum RequestStep {
@@ -108,8 +108,8 @@ fn encode_request(
     proof: &[u8],
     out: &mut [u8],
 ) -> WriteAnswer
-    ensures { λ r. ⌜ r ≡ requestWritten (requestContent operation digest (entryOf (now (entry .entry))) (proofOf slot (now (proof .entry)))) (now (out .entry)) ⌝ }
-    ensures { λ _. ⌜ now (out .exit) ≡ requestStored (requestContent operation digest (entryOf (now (entry .entry))) (proofOf slot (now (proof .entry)))) (now (out .entry)) ⌝ }
+    ensures { λ r. ⌜ r ≡ requestWritten (requestContent operation digest (entryOf (now (entry .entry))) (proofWith slot (now (proof .entry)))) (now (out .entry)) ⌝ }
+    ensures { λ _. ⌜ now (out .exit) ≡ requestStored (requestContent operation digest (entryOf (now (entry .entry))) (proofWith slot (now (proof .entry)))) (now (out .entry)) ⌝ }
 {
     let aux = aux_of(entry);
     encode_verifier_request(
@@ -136,7 +136,7 @@ pub(crate) fn make_request(
     proof: &[u8],
     out: &mut [u8],
 ) -> RequestStep
-    ensures { λ r. ⌜ RequestStepIs (walkContext (now (table .entry)) (now (store .entry)) (now (state .entry)) operation digest (length (now (out .entry)))) (proofOf slot (now (proof .entry))) (now (out .entry)) (now (out .exit)) r ⌝ }
+    ensures { λ r. ⌜ RequestStepIs (walkContext (now (table .entry)) (now (store .entry)) (now (state .entry)) operation digest (length (now (out .entry)))) (proofWith slot (now (proof .entry))) (now (out .entry)) (now (out .exit)) r ⌝ }
 {
     let found = find_authenticator(state, slot);
     let entry = entry_bytes(state, found);

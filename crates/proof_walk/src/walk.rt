@@ -18,7 +18,7 @@ ghost use lib.ListN.{length};
 ghost use Rattle.protocol.specs.Rows.{decide};
 ghost use Rattle.decision.specs.Proofs.{thresholdOf};
 ghost use Rattle.decision.specs.Walk.{walkLock, answered, lastRows};
-ghost use Rattle.proof_walk.specs.Answer.{walkContext, walkProofs, walkedOf};
+ghost use Rattle.proof_walk.specs.Answer.{walkContext, walkProofs, proofWalkAnswer};
 ghost use Rattle.proof_walk.specs.Steps.{verdictOutcome, ProofOutcomeIs};
 
 // What the walk answers: what the checks found, how many requests were made, and how many bytes they take.
@@ -54,12 +54,12 @@ fn walk_proof(
     state: &[u8],
     lock: &[u8],
     cursor: ProofCursor,
-    place: u8,
+    index: u8,
     operation: u8,
     digest: [u8; 32],
     out: &mut [u8],
 ) -> ProofOutcome
-    ensures { λ r. ⌜ ProofOutcomeIs (walkContext (now (table .entry)) (now (store .entry)) (now (state .entry)) operation digest (length (now (out .entry)))) (now (lock .entry)) cursor place (now (out .entry)) (now (out .exit)) r ⌝ }
+    ensures { λ r. ⌜ ProofOutcomeIs (walkContext (now (table .entry)) (now (store .entry)) (now (state .entry)) operation digest (length (now (out .entry)))) (now (lock .entry)) cursor index (now (out .entry)) (now (out .exit)) r ⌝ }
 {
     match next_proof(lock, cursor) {
         ProofStep::Refused(error) => ProofOutcome::Refused(error),
@@ -69,7 +69,7 @@ fn walk_proof(
             match make_request(table, store, state, operation, digest, slot, bytes, out) {
                 RequestStep::Refused(error) => ProofOutcome::Refused(error),
                 RequestStep::Made(len, weight) => apply_verdict(
-                    verdict(table, place as u32),
+                    verdict(table, index as u32),
                     len,
                     weight,
                     next,
@@ -111,7 +111,7 @@ fn walk_lock(
     digest: [u8; 32],
     answer: &mut [u8],
 ) -> Walked
-    ensures { λ r. ⌜ r ≡ walkedOf (walkLock (walkContext (now (table .entry)) (now (store .entry)) (now (state .entry)) operation digest (length (now (answer .entry)))) (now (lock .entry))) ⌝ }
+    ensures { λ r. ⌜ r ≡ proofWalkAnswer (walkLock (walkContext (now (table .entry)) (now (store .entry)) (now (state .entry)) operation digest (length (now (answer .entry)))) (now (lock .entry))) ⌝ }
     ensures { λ _. ⌜ now (answer .exit) ≡ answered (now (answer .entry)) (walkLock (walkContext (now (table .entry)) (now (store .entry)) (now (state .entry)) operation digest (length (now (answer .entry)))) (now (lock .entry)) .made) ⌝ }
 {
     let count = proof_count_of(lock);
@@ -150,7 +150,7 @@ pub fn walk_proofs(
     digest: [u8; 32],
     answer: &mut [u8],
 ) -> Walked
-    ensures { λ r. ⌜ r ≡ walkedOf (walkProofs (walkContext (now (table .entry)) (now (store .entry)) (now (state .entry)) operation digest (length (now (answer .entry)))) (now (lock .entry))) ⌝ }
+    ensures { λ r. ⌜ r ≡ proofWalkAnswer (walkProofs (walkContext (now (table .entry)) (now (store .entry)) (now (state .entry)) operation digest (length (now (answer .entry)))) (now (lock .entry))) ⌝ }
     ensures { λ _. ⌜ now (answer .exit) ≡ answered (now (answer .entry)) (walkProofs (walkContext (now (table .entry)) (now (store .entry)) (now (state .entry)) operation digest (length (now (answer .entry)))) (now (lock .entry)) .made) ⌝ }
 {
     if is_operation(operation) {

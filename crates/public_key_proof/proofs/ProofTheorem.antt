@@ -22,7 +22,7 @@ use Rattle.public_key_proof.specs.declared.reader.PublicKeyProofAnswer.{
 use Rattle.public_key_proof.specs.declared.reader.PublicKeyProofAnswer.the-variants.{Proof, Refused}
 use Rattle.public_key_proof.specs.Reader.{publicKeyProofRows, publicKeyProofFault, publicKeyProofPlaces, publicKeyProofAnswer, readPublicKeyProof}
 use Rattle.public_key_proof.specs.Reading.{PublicKeyProofReading, PublicKeyProofTyped, publicKeyProofGiven, publicKeyProofReading, publicKeyProofBytes}
-use Rattle.public_key_proof.specs.Writer.{publicKeyProofWriterRows, publicKeyProofTotal, publicKeyProofRoom, publicKeyProofWritten, publicKeyProofStored}
+use Rattle.public_key_proof.specs.Writer.{publicKeyProofWriterRows, publicKeyProofTotal, publicKeyProofWriterFault, publicKeyProofWritten, publicKeyProofStored}
 use Rattle.public_key_proof.proofs.Inverse.{passes, passes-hold, reading-written, reading-limits, reading-total, written-reading, written-passes, lengths-fit}
 
 -- what the checks found, by the answer
@@ -77,7 +77,7 @@ public-key-proof-given s p h =
 
 -- and the writer writes it back
 pub public-key-proof-writes-back : (s : List ℕ) → Bytes s → AllPass (publicKeyProofRows s) → WritesBack (publicKeyProofWritten (publicKeyProofReading s)) (publicKeyProofStored (publicKeyProofReading s)) s
-unfolding publicKeyProofWritten publicKeyProofStored publicKeyProofRoom
+unfolding publicKeyProofWritten publicKeyProofStored publicKeyProofWriterFault
 public-key-proof-writes-back s b h =
     let z = passes s h in
     let r = publicKeyProofReading s in

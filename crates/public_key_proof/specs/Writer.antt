@@ -26,13 +26,13 @@ unfoldable pub publicKeyProofTotal : PublicKeyProofReading → ℕ
 publicKeyProofTotal r = 5 + length (r .publicKey) + length (r .signature)
 
 -- what the writer's checks find, for a buffer of `room` bytes
-unfoldable pub publicKeyProofRoom : PublicKeyProofReading → ℕ → Check
-publicKeyProofRoom r room = writeFault (publicKeyProofWriterRows r) (publicKeyProofTotal r) room
+unfoldable pub publicKeyProofWriterFault : PublicKeyProofReading → ℕ → Check
+publicKeyProofWriterFault r room = writeFault (publicKeyProofWriterRows r) (publicKeyProofTotal r) room
 
 -- the writer's answer
 unfoldable pub publicKeyProofWritten : PublicKeyProofReading → List ℕ → WriteAnswer
-publicKeyProofWritten r out = writeAnswer (publicKeyProofRoom r (length out)) (publicKeyProofTotal r)
+publicKeyProofWritten r out = writeAnswer (publicKeyProofWriterFault r (length out)) (publicKeyProofTotal r)
 
 -- and the buffer afterwards
 unfoldable pub publicKeyProofStored : PublicKeyProofReading → List ℕ → List ℕ
-publicKeyProofStored r out = afterWrite (publicKeyProofRoom r (length out)) (publicKeyProofBytes r) out
+publicKeyProofStored r out = afterWrite (publicKeyProofWriterFault r (length out)) (publicKeyProofBytes r) out

@@ -8,7 +8,7 @@ use protocol::WriteAnswer;
 ghost use mathlib.Core.Path.{_≡_};
 ghost use lib.Seq.{sets};
 ghost use Rattle.public_key_proof.specs.Reading.{publicKeyProofWith, publicKeyProofBytes};
-ghost use Rattle.public_key_proof.specs.Writer.{publicKeyProofRoom, publicKeyProofWritten, publicKeyProofStored};
+ghost use Rattle.public_key_proof.specs.Writer.{publicKeyProofWriterFault, publicKeyProofWritten, publicKeyProofStored};
 
 // Stores the proof's bytes from the front of `out`, as far as there is room.
 fn store_proof(key: &[u8], signature: &[u8], out: &mut [u8])
@@ -23,7 +23,7 @@ fn store_proof(key: &[u8], signature: &[u8], out: &mut [u8])
 
 // The writer's refusals, and then that of a buffer of `room` bytes.
 fn check_room(key: &[u8], signature: &[u8], room: usize) -> Check
-    ensures { λ r. ⌜ r ≡ publicKeyProofRoom (publicKeyProofWith (now (key .entry)) (now (signature .entry))) room ⌝ }
+    ensures { λ r. ⌜ r ≡ publicKeyProofWriterFault (publicKeyProofWith (now (key .entry)) (now (signature .entry))) room ⌝ }
 {
     Check::Passed
         .require(0 < key.len(), ProtocolError::InvalidProof)

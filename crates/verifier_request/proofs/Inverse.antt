@@ -18,15 +18,15 @@ use Rattle.protocol.specs.Policy.{isOperation}
 use Rattle.protocol.specs.Rows.{AllPass}
 use Rattle.protocol.proofs.AllPass.{all-pass-append}
 use Rattle.verifier_request.specs.Fields.{requestAbiOf, requestAlgorithmOf, requestAuxLengthOf, requestHeaderLengthOf, requestLastZerosOf, requestMagicOf, requestOperationOf, requestProfileOf, requestProofLengthOf, requestReservedOf, requestSlotOf, requestZerosOf}
-use Rattle.verifier_request.specs.Reader.{verifierMagic, requestHeaderRows, requestFieldRows, requestRows, requestFieldsOf}
+use Rattle.verifier_request.specs.Reader.{requestMagic, requestHeaderRows, requestFieldRows, requestRows, requestFieldsOf}
 use Rattle.verifier_request.specs.Reading.{RequestReading, RequestTyped, requestGiven, requestReading, requestHead, requestLengths, requestBytes}
-use Rattle.verifier_request.specs.Writer.{writerLimitRows, requestWriterRows, requestTotal}
+use Rattle.verifier_request.specs.Writer.{requestWriterLimitRows, requestWriterRows, requestTotal}
 use Rattle.verifier_request.proofs.Form.{Sized, typed-sized, Head, Lengths, length-head, before-key, before-lengths, before-aux, before-proof, length-request}
 
 -- what the rows say of a request that passes them; that it has at most 69,728 bytes follows
 pub record Passes (s : List ℕ) : Type 0 where
   pub header : 96 ≤ length s
-  pub magic : requestMagicOf s ≡ verifierMagic
+  pub magic : requestMagicOf s ≡ requestMagic
   pub abi : requestAbiOf s ≡ 1
   pub flags : requestReservedOf s ≡ 0
   pub headerLen : requestHeaderLengthOf s ≡ 96
@@ -115,7 +115,7 @@ module _ (s : List ℕ) (b : Bytes s) (z : Passes s) where
 
   -- which is within the writer's limits,
   pub reading-limits : AllPass (requestWriterRows (requestReading s))
-  unfolding requestWriterRows writerLimitRows requestReading requestGiven requestFieldsOf
+  unfolding requestWriterRows requestWriterLimitRows requestReading requestGiven requestFieldsOf
   reading-limits = rw (length-aux, length-proof) (z .operation, (le-leb _ _ (z .aux), (le-leb _ _ (z .proof), tt)))
 
   -- and whose written form is as long as the request
@@ -181,7 +181,7 @@ module _ (r : RequestReading) (t : RequestTyped r) (small : requestTotal r < 2 ^
 
   -- and within the writer's limits it passes
   pub written-passes : AllPass (requestWriterRows r) → Passes (requestBytes r)
-  unfolding requestWriterRows writerLimitRows requestTotal requestHead requestLengths layoutAt
+  unfolding requestWriterRows requestWriterLimitRows requestTotal requestHead requestLengths layoutAt
   written-passes h =
       let a : length (r .aux) ≤ 4096 = leb-true _ _ (h .1 .0) in
       let p : length (r .proof) ≤ 65536 = leb-true _ _ (h .1 .1 .0) in

@@ -22,7 +22,7 @@ use Rattle.verifier_request.specs.declared.reader.RequestAnswer.{Request
 use Rattle.verifier_request.specs.declared.reader.RequestAnswer.the-variants.{Request, Refused}
 use Rattle.verifier_request.specs.Reader.{requestRows, requestFault, requestFieldsOf, requestAnswer, readRequest}
 use Rattle.verifier_request.specs.Reading.{RequestReading, RequestTyped, requestGiven, requestReading, requestBytes}
-use Rattle.verifier_request.specs.Writer.{writerLimitRows, requestWriterRows, requestTotal, requestRoom, requestWritten, requestStored}
+use Rattle.verifier_request.specs.Writer.{requestWriterLimitRows, requestWriterRows, requestTotal, requestWriterFault, requestWritten, requestStored}
 use Rattle.verifier_request.proofs.Form.{typed-sized, length-request}
 use Rattle.verifier_request.proofs.Inverse.{Passes, passes, passes-hold, reading-written, reading-typed, reading-limits, reading-total, written-reading, written-passes}
 
@@ -49,7 +49,7 @@ request-refuses s e = answer-refuses (λ k. requestAnswer k (requestFieldsOf s))
 
 -- what the writer writes is accepted, and read as what was written
 pub request-accepted : (r : RequestReading) → RequestTyped r → AllPass (requestWriterRows r) → AllPass (requestRows (requestBytes r)) × (requestReading (requestBytes r) ≡ r)
-unfolding requestWriterRows writerLimitRows requestTotal
+unfolding requestWriterRows requestWriterLimitRows requestTotal
 request-accepted r t h =
     let a : length (r .aux) ≤ 4096 = leb-true _ _ (h .1 .0) in
     let p : length (r .proof) ≤ 65536 = leb-true _ _ (h .1 .1 .0) in
@@ -83,7 +83,7 @@ request-given s f h =
 
 -- and the writer writes it back
 pub request-writes-back : (s : List ℕ) → Bytes s → AllPass (requestRows s) → WritesBack (requestWritten (requestReading s)) (requestStored (requestReading s)) s
-unfolding requestWritten requestStored requestRoom
+unfolding requestWritten requestStored requestWriterFault
 request-writes-back s b h =
     let z = passes s h in
     let r = requestReading s in

@@ -16,15 +16,15 @@ use Rattle.verifier_request.specs.declared.reader.RequestAnswer.{Request
 use Rattle.verifier_request.specs.declared.reader.RequestAnswer.the-variants.{Request, Refused}
 
 -- `CKVR`, as a number
-abbrev pub verifierMagic : ℕ
-verifierMagic = 0x52564b43
+abbrev pub requestMagic : ℕ
+requestMagic = 0x52564b43
 
 -- 01, Request: "Order: length 96 to 69,728 (35), magic (35), ABI (32), byte 5 and header length (35)"
 unfoldable pub requestHeaderRows : List ℕ → List Row
 requestHeaderRows s =
     row (leb 96 (length s)) InvalidRequest
     ∷ row (leb (length s) 69728) InvalidRequest
-    ∷ row (eqb (requestMagicOf s) verifierMagic) InvalidRequest
+    ∷ row (eqb (requestMagicOf s) requestMagic) InvalidRequest
     ∷ row (eqb (requestAbiOf s) 1) UnsupportedVersion
     ∷ row (eqb (requestReservedOf s) 0) InvalidRequest
     ∷ row (eqb (requestHeaderLengthOf s) 96) InvalidRequest

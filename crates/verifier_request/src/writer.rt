@@ -18,7 +18,7 @@ ghost use Rattle.octets.specs.Layout.{layoutBytes};
 ghost use Rattle.protocol.specs.Write.{writeFault};
 ghost use Rattle.verifier_request.specs.Fields.{requestSize};
 ghost use Rattle.verifier_request.specs.Reading.{requestWith, requestHead, requestLengths, requestBytes};
-ghost use Rattle.verifier_request.specs.Writer.{writerLimitRows, requestWritten, requestStored};
+ghost use Rattle.verifier_request.specs.Writer.{requestWriterLimitRows, requestWritten, requestStored};
 
 // Bytes 0 to 15.
 fn store_head(out: &mut [u8], algorithm: u16, slot: u16, operation: u8, profile: u8)
@@ -68,7 +68,7 @@ fn store_request(
 
 // The writer's refusals, and then that of a buffer of `room` bytes.
 fn check_room(operation: u8, aux: &[u8], proof: &[u8], room: usize) -> Check
-    ensures { λ r. ⌜ r ≡ writeFault (writerLimitRows operation (length (now (aux .entry))) (length (now (proof .entry)))) (requestSize (length (now (aux .entry))) (length (now (proof .entry)))) room ⌝ }
+    ensures { λ r. ⌜ r ≡ writeFault (requestWriterLimitRows operation (length (now (aux .entry))) (length (now (proof .entry)))) (requestSize (length (now (aux .entry))) (length (now (proof .entry)))) room ⌝ }
 {
     let invalid = ProtocolError::InvalidRequest;
     Check::Passed

@@ -5,7 +5,7 @@ use lib.ListN.{length}
 use Rattle.account_state.specs.Reading.{entryOf}
 use Rattle.decision.specs.Proofs.{verifiers}
 use Rattle.proof_walk.specs.Answer.{sceneDeps}
-use Rattle.proof_walk.proofs.RequestLaws.{isOne, resolved}
+use Rattle.proof_walk.proofs.RequestLaws.{isOne, verifier-resolved}
 use borrow.Author.Needs.{needs}
 use Rattle.proof_walk.proofs.request.resolve_verifier.Statement.{statement}
 use Rattle.proof_walk.proofs.request.resolve_verifier.Tie as tie
@@ -16,7 +16,7 @@ searched : (c : tie.After-search-cells) →
     isOne (c .search-cells .result) ≡ eqb (length (verifiers (entryOf (a .entry .now)) (sceneDeps (a .table .now) (a .store .now)))) 1
 searched c =
     let a = c .before .before .before .before .before .before .before .args in
-    resolved (a .table .now) (a .store .now) (a .entry .now) _
+    verifier-resolved (a .table .now) (a .store .now) (a .entry .now) _
     (rw (c .before .code-hash-of .ensures, c .before .before .verifier-field .ensures, c .before .before .before .hash-type-of .ensures) at (c .search-cells .ensures))
 
 returns : tie.Need-returns

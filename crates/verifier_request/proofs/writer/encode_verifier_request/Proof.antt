@@ -1,7 +1,7 @@
 -- `verifier_request::writer::encode_verifier_request` meets its contract, by what its checks find. Assumes nothing.
 use native.Mathlib.Omega.{arith}
 use Rattle.verifier_request.specs.Reading.{RequestReading, requestWith, requestBytes}
-use Rattle.verifier_request.specs.Writer.{requestWriterRows, requestTotal, requestRoom, requestWritten, requestStored}
+use Rattle.verifier_request.specs.Writer.{requestWriterRows, requestTotal, requestWriterFault, requestWritten, requestStored}
 use Rattle.verifier_request.proofs.Form.{Sized, length-request}
 use Rattle.protocol.proofs.Outcome.{write-refused, write-fits, write-done}
 use borrow.Author.Needs.{needs}
@@ -19,13 +19,13 @@ add-t20 c =
     omega (arith, write-fits (requestWriterRows r) (requestTotal r) (a .out .now) _ (k .check-room .ensures) (told .enum-told .given .1), s .good)
 
 returns : tie.Need-returns
-unfolding requestWriterRows requestTotal requestRoom requestWritten requestStored
+unfolding requestWriterRows requestTotal requestWriterFault requestWritten requestStored
 returns c =
     let k = c .before .before .before in
     write-refused _ _ _ _ (k .check-room .ensures) _ _ (c .before .error .given .1)
 
 returns-2 : tie.Need-returns-2
-unfolding requestWriterRows requestTotal requestRoom requestWritten requestStored
+unfolding requestWriterRows requestTotal requestWriterFault requestWritten requestStored
 returns-2 c =
     let told = c .before .before .before .before in
     let k = told .before .before in
