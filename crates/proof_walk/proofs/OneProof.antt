@@ -22,7 +22,7 @@ use Rattle.account_witness.specs.declared.walk.ProofStep.the-variants as proof-
 use Rattle.account_witness.proofs.WalkLaws.{step-next, step-refused}
 use Rattle.decision.specs.Proofs.{Context, entryFor, proofRows}
 use Rattle.decision.specs.Walk.{verdict, approvedWeight}
-use Rattle.proof_walk.specs.Steps.{proofWith, RequestStepIs, RequestMade, proofCheck, verdictOutcome, ProofWalked, ProofOutcomeIs}
+use Rattle.proof_walk.specs.Steps.{proofWith, RequestStepIs, proofCheck, verdictOutcome, ProofWalked, ProofOutcomeIs}
 use Rattle.proof_walk.specs.declared.request.RequestStep.the-variants as step
 use Rattle.proof_walk.specs.declared.walk.ProofOutcome.the-variants as outcome
 

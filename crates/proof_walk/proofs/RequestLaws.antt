@@ -1,7 +1,7 @@
 -- The rows and the request of one proof: by the entry that was found, and how long the request is.
 -- Assumes nothing.
 use mathlib.Core.Path.{_≡_, refl, sym, ap, _∙_}
-use mathlib.Core.Bool.{Bool, true, false}
+use mathlib.Core.Bool.{Bool}
 use mathlib.Core.List.{List, [], _∷_}
 use Prim.Native.Nat.{ℕ, suc, _≤_}
 use native.Mathlib.Nat.{sub-zero}
@@ -26,22 +26,16 @@ use Rattle.scene_table.specs.Scene.{Cell}
 use Rattle.scene_table.specs.Lent.{sceneIn}
 use Rattle.cell_search.specs.declared.cells.Source.the-variants.{CellDep}
 use Rattle.cell_search.specs.declared.search.Search.{Search}
-use Rattle.cell_search.specs.declared.search.Search.the-variants.{Missing, One, Several}
-use Rattle.cell_search.specs.Search.{cellsOf, matches, searchOf, cellSearch}
-use Rattle.decision.specs.Proofs.{contextFor, knownSlot, entryFor, verifierField, verifiers, requestLimitRows, authenticatorRows, proofRows, requestContent, requestOf}
+use Rattle.cell_search.specs.Search.{cellsOf, matches, searchOf, cellSearch, isOne}
+use Rattle.decision.specs.Proofs.{contextFor, entryFor, verifierField, verifiers, requestLimitRows, authenticatorRows, proofRows, requestContent, requestOf}
 use Rattle.decision.specs.Walk.{answered}
 use Rattle.decision.proofs.RequestsRead.{request-limits}
 use Rattle.proof_walk.specs.Answer.{sceneDeps, walkContext}
 use Rattle.proof_walk.specs.Steps.{isKnown, entryIn, FoundIs, proofWith, foundRows}
 use Rattle.proof_walk.specs.declared.authenticator.Found.{Found}
 
--- just one place
-abbrev pub isOne : Search → Bool
-isOne Missing = false
-isOne (One k) = true
-isOne Several = false
-
-one-found : (places : List ℕ) → isOne (searchOf places) ≡ eqb (length places) 1
+-- just one index
+one-found : (indices : List ℕ) → isOne (searchOf indices) ≡ eqb (length indices) 1
 unfolding searchOf
 one-found [] = refl
 one-found (k ∷ []) = refl

@@ -28,7 +28,7 @@ use Rattle.decision.specs.Walk.{WalkOutcome, walkOutcome, verdict, approvedWeig
 use Rattle.proof_walk.specs.Answer.{sceneDeps, walkContext, walkProofs, proofWalkAnswer}
 use Rattle.proof_walk.specs.Steps.{ProofWalked, ProofOutcomeIs}
 use Rattle.proof_walk.specs.declared.walk.ProofOutcome.the-variants as outcome
-use Rattle.proof_walk.specs.declared.walk.Walked.{Walked}
+use Rattle.proof_walk.specs.declared.walk.ProofWalkAnswer.{ProofWalkAnswer}
 use Rattle.proof_walk.proofs.Answered.{answered-length, part-put, lentOf, backIn}
 use Rattle.proof_walk.proofs.OneProof.{layout-error, turn-split, turn-both}
 
@@ -121,7 +121,7 @@ unfolding proofsUntilFault unlessFaulty walkFrom witness.proofCursorBehind
 walk-read c lock n cursor i weight made h = rw h
 
 -- a return, from the outcome that was come to
-pub walk-answered : {o : WalkOutcome} (answer₀ : List ℕ) {answer made : List ℕ} {f : Check} {i total : ℕ} {r : Walked} → o ≡ walkOutcome f i made
+pub walk-answered : {o : WalkOutcome} (answer₀ : List ℕ) {answer made : List ℕ} {f : Check} {i total : ℕ} {r : ProofWalkAnswer} → o ≡ walkOutcome f i made
     → length made ≡ total → answer ≡ answered answer₀ made → r ≡ record { found = f; count = i; length = total }
     → (r ≡ proofWalkAnswer o) × (answer ≡ answered answer₀ (o .made))
 unfolding proofWalkAnswer
@@ -176,10 +176,10 @@ module _ (table store state : List ℕ) (operation : ℕ) (digest : List ℕ) {l
         h .goes ∙ ap (λ (n : ℕ). walkFromCursor C lock n cursor i weight (h .made)) z
 
     -- it was refused
-    pub stopped : (e : ProtocolError) → ProofOutcomeIs L lock cursor i (lentOf total answer) after (outcome.Refused e)
+    pub turn-stopped : (e : ProtocolError) → ProofOutcomeIs L lock cursor i (lentOf total answer) after (outcome.Refused e)
         → walkLock C lock ≡ walkOutcome (Failed e) i (h .made)
     unfolding unlessFailed
-    stopped e t =
+    turn-stopped e t =
         from-here
         ∙ ⊎-elim
         (λ l. walk-faulty C lock _ cursor i weight (h .made) e l)
@@ -191,8 +191,8 @@ module _ (table store state : List ℕ) (operation : ℕ) (digest : List ℕ) {l
       same-request : requestOf L P ≡ requestOf C P
       same-request = request-alike table store state operation digest (length (lentOf total answer)) (length answer₀) P
 
-      pub written : RequestWritten C answer₀ answer (h .made) total P after len
-      written =
+      pub turn-written : RequestWritten C answer₀ answer (h .made) total P after len
+      turn-written =
           let n = lent-length in
           let b : backIn total answer after ≡ answered answer₀ (h .made ++ requestOf C P) = part-put answer₀ (h .made) (requestOf C P) total (h .long) (h .fits) (h .wrote) (w .made .wrote ∙ ap (answered (lentOf total answer)) same-request) in
           let l : length (h .made ++ requestOf C P) ≡ total + len = omega (arith, length-append (h .made) (requestOf C P), w .made .long ∙ ap length same-request) in
@@ -207,16 +207,16 @@ module _ (table store state : List ℕ) (operation : ℕ) (digest : List ℕ) {l
           let b = turn-both L lock cursor (w .passed) in
           from-here ∙ (walk-read C lock _ cursor i weight (h .made) (b .0) ∙ rw (← lent-rows, b .1))
 
-      pub failed : verdict L i ≡ 2 → walkLock C lock ≡ walkOutcome (Failed VerifierFailure) (i + 1) (h .made ++ requestOf C P)
-      failed v =
+      pub turn-failed : verdict L i ≡ 2 → walkLock C lock ≡ walkOutcome (Failed VerifierFailure) (i + 1) (h .made ++ requestOf C P)
+      turn-failed v =
           let v₀ : verdict C i ≡ 2 = verdict-alike table store state operation digest (length answer₀) (length (lentOf total answer)) i ∙ v in
           gone ∙ rw v₀
 
-      pub onward : (added : ℕ) (next : ProofCursor) → added ≤ 65535
+      pub turn-onward : (added : ℕ) (next : ProofCursor) → added ≤ 65535
           → ProofOutcomeIs L lock cursor i (lentOf total answer) after (outcome.Onward len added next)
           → WalkInvariant C lock count answer₀ (backIn total answer after) next (weight + added) (total + len) (i + 1)
-      onward added next small t =
-          let r = written in
+      turn-onward added next small t =
+          let r = turn-written in
           let v : verdict C i ≢ 2 = λ z. t .1 (verdict-alike table store state operation digest (length (lentOf total answer)) (length answer₀) i ∙ z) in
           let a : added ≡ approvedWeight C i P = t .2 ∙ earned-alike table store state operation digest (length (lentOf total answer)) (length answer₀) i P in
           record {

@@ -11,7 +11,6 @@ use account_state::hash_type_of;
 use account_state::key_of;
 use account_state::weight_of;
 use cell_search::CellField;
-use cell_search::Search;
 use cell_search::Source;
 use cell_search::search_cells;
 use octets::array_32;
@@ -58,11 +57,7 @@ fn resolve_verifier(table: &[u32], store: &[u8], entry: &[u8]) -> bool
 {
     let field = verifier_field(hash_type_of(entry));
     let hash = code_hash_of(entry);
-    match search_cells(table, store, Source::CellDep, field, hash) {
-        Search::Missing => false,
-        Search::One(_) => true,
-        Search::Several => false,
-    }
+    search_cells(table, store, Source::CellDep, field, hash).is_one()
 }
 
 // The rows of a proof of `proof` bytes where `left` bytes of the answer buffer are left.

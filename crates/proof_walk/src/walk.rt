@@ -22,7 +22,7 @@ ghost use Rattle.proof_walk.specs.Answer.{walkContext, walkProofs, proof
 ghost use Rattle.proof_walk.specs.Steps.{verdictOutcome, ProofOutcomeIs};
 
 // What the walk answers: what the checks found, how many requests were made, and how many bytes they take.
-pub struct Walked {
+pub struct ProofWalkAnswer {
     pub found: Check,
     pub count: usize,
     pub length: usize,
@@ -91,10 +91,10 @@ fn check_end(state: &[u8], lock: &[u8], operation: u8, offset: usize, weight: u3
 }
 
 // The answer where `count` requests of `length` bytes were made.
-fn answer_of(found: Check, count: u8, length: usize) -> Walked
+fn answer_of(found: Check, count: u8, length: usize) -> ProofWalkAnswer
     ensures { λ r. ⌜ r ≡ record { found = found; count = count; length = length } ⌝ }
 {
-    Walked {
+    ProofWalkAnswer {
         found,
         count: count as usize,
         length,
@@ -110,7 +110,7 @@ fn walk_lock(
     operation: u8,
     digest: [u8; 32],
     answer: &mut [u8],
-) -> Walked
+) -> ProofWalkAnswer
     ensures { λ r. ⌜ r ≡ proofWalkAnswer (walkLock (walkContext (now (table .entry)) (now (store .entry)) (now (state .entry)) operation digest (length (now (answer .entry)))) (now (lock .entry))) ⌝ }
     ensures { λ _. ⌜ now (answer .exit) ≡ answered (now (answer .entry)) (walkLock (walkContext (now (table .entry)) (now (store .entry)) (now (state .entry)) operation digest (length (now (answer .entry)))) (now (lock .entry)) .made) ⌝ }
 {
@@ -149,7 +149,7 @@ pub fn walk_proofs(
     operation: u8,
     digest: [u8; 32],
     answer: &mut [u8],
-) -> Walked
+) -> ProofWalkAnswer
     ensures { λ r. ⌜ r ≡ proofWalkAnswer (walkProofs (walkContext (now (table .entry)) (now (store .entry)) (now (state .entry)) operation digest (length (now (answer .entry)))) (now (lock .entry))) ⌝ }
     ensures { λ _. ⌜ now (answer .exit) ≡ answered (now (answer .entry)) (walkProofs (walkContext (now (table .entry)) (now (store .entry)) (now (state .entry)) operation digest (length (now (answer .entry)))) (now (lock .entry)) .made) ⌝ }
 {

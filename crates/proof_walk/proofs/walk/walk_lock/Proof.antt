@@ -8,7 +8,7 @@ use Rattle.account_witness.specs.Reading.{proofOf}
 use Rattle.proof_walk.specs.Steps.{ProofOutcomeIs}
 use Rattle.proof_walk.specs.declared.walk.ProofOutcome.the-variants as outcome
 use Rattle.proof_walk.proofs.Answered.{lentOf, unwritten}
-use Rattle.proof_walk.proofs.WalkLaws.{WalkInvariant, RequestWritten, invariant-first, walk-answered, walk-ends, stopped, written, failed, onward}
+use Rattle.proof_walk.proofs.WalkLaws.{WalkInvariant, RequestWritten, invariant-first, walk-answered, walk-ends, turn-stopped, turn-written, turn-failed, turn-onward}
 use borrow.Author.Needs.{needs}
 use Rattle.proof_walk.proofs.walk.walk_lock.Statement.{statement}
 use Rattle.proof_walk.proofs.walk.walk_lock.Tie as tie
@@ -67,13 +67,13 @@ written-2 : (c : tie.After-known-told2 Inv-loop μ-loop) → Written (c .before 
 written-2 c =
     let k = c .before .before .before .before .before in
     let a = At k .args in
-    written (a .table .now) (a .store .now) (a .state .now) (a .operation) (a .digest) (k .before .before .before .loop .inv) (k .before .before .loop-test .taken) _ _ (failed-at c .0)
+    turn-written (a .table .now) (a .store .now) (a .state .now) (a .operation) (a .digest) (k .before .before .before .loop .inv) (k .before .before .loop-test .taken) _ _ (failed-at c .0)
 
 written-3 : (c : tie.After-known-told3 Inv-loop μ-loop) → Written (c .before .before .before .before .before) (c .before .len2 .given .0 .0)
 written-3 c =
     let k = c .before .before .before .before .before in
     let a = At k .args in
-    written (a .table .now) (a .store .now) (a .state .now) (a .operation) (a .digest) (k .before .before .before .loop .inv) (k .before .before .loop-test .taken) _ _ (onward-at c .0)
+    turn-written (a .table .now) (a .store .now) (a .state .now) (a .operation) (a .digest) (k .before .before .before .loop .inv) (k .before .before .loop-test .taken) _ _ (onward-at c .0)
 
 same-length : tie.Need-same-length Inv-loop μ-loop
 same-length c =
@@ -87,7 +87,7 @@ returns c =
     let a = At k .args in
     let l = k .before .before .before .loop in
     walk-answered (a .answer .now)
-    (stopped (a .table .now) (a .store .now) (a .state .now) (a .operation) (a .digest) (l .inv) (k .before .before .loop-test .taken) _ _ (refused-at t))
+    (turn-stopped (a .table .now) (a .store .now) (a .state .now) (a .operation) (a .digest) (l .inv) (k .before .before .loop-test .taken) _ _ (refused-at t))
     (l .inv .long)
     (unwritten (l .total) (l .answer) _ (refused-at t .1) ∙ l .inv .wrote)
     (c .answer-of .ensures)
@@ -109,7 +109,7 @@ returns-2 c =
     let l = k .before .before .before .loop in
     let w = written-2 t in
     walk-answered (a .answer .now)
-    (failed (a .table .now) (a .store .now) (a .state .now) (a .operation) (a .digest) (l .inv) (k .before .before .loop-test .taken) _ _ (failed-at t .0) (failed-at t .1))
+    (turn-failed (a .table .now) (a .store .now) (a .state .now) (a .operation) (a .digest) (l .inv) (k .before .before .loop-test .taken) _ _ (failed-at t .0) (failed-at t .1))
     (w .long)
     (w .wrote)
     (c .answer-of2 .ensures)
@@ -126,7 +126,7 @@ loop-again c =
     let a = At k .args in
     let l = k .before .before .before .loop in
     let t = onward-at c in
-    onward (a .table .now) (a .store .now) (a .state .now) (a .operation) (a .digest) (l .inv) (k .before .before .loop-test .taken) _ _ (t .0) _ _ (omega arith) t
+    turn-onward (a .table .now) (a .store .now) (a .state .now) (a .operation) (a .digest) (l .inv) (k .before .before .loop-test .taken) _ _ (t .0) _ _ (omega arith) t
 
 same-length-3 : tie.Need-same-length-3 Inv-loop μ-loop
 same-length-3 c = c .before .before .before .loop .inv .kept
