@@ -15,7 +15,7 @@ use Rattle.decision.specs.Proofs.{Context, requestsOf}
 use Rattle.decision.specs.Walk.{proofListOf, walkFrom, walkList, walkLock}
 use Rattle.account_witness.specs.Reading.{witnessProofs}
 use Rattle.decision.specs.Decision.{EachPasses, ProofsPass, Quorum}
-use Rattle.decision.proofs.Quorum.{ZeroOr28, walk-zero-or-28, decision, answers, walk-answers-always}
+use Rattle.decision.proofs.Quorum.{ZeroOr28, walk-zero-or-28, walk-decides, walk-answers, walk-answers-always}
 use Rattle.decision.proofs.Listed.{listed-clean, listed-proofs, listed-rising}
 
 -- where no layout is faulty these are the lock's
@@ -29,7 +29,7 @@ lock-decides c lock = (there, back)
   where
     decides : (walkFrom c (proofListOf lock .clean) 0 0 [] (proofListOf lock .proofs) .found ≡ Passed)
         ↔ ((proofListOf lock .clean ≡ true) × EachPasses c 0 0 (proofListOf lock .proofs) × Quorum c (proofListOf lock .proofs))
-    decides = decision c (proofListOf lock .clean) (proofListOf lock .proofs) (listed-rising lock (proofCountOf lock) 16 0)
+    decides = walk-decides c (proofListOf lock .clean) (proofListOf lock .proofs) (listed-rising lock (proofCountOf lock) 16 0)
 
     back : ProofsPass c lock × Quorum c (witnessProofs lock) → walkLock c lock .found ≡ Passed
     back h =
@@ -68,7 +68,7 @@ pub lock-answers : (c : Context) (lock : List ℕ) → ProofsPass c lock
 unfolding walkLock walkList
 lock-answers c lock h =
     let e = listed-witness-proofs lock (h .layout) in
-    rw (← e) (answers c (proofListOf lock .clean) (proofListOf lock .proofs) (rw e (h .each)))
+    rw (← e) (walk-answers c (proofListOf lock .clean) (proofListOf lock .proofs) (rw e (h .each)))
 
 -- and always: the requests of as many proofs as were counted, a failed verdict's too
 pub lock-answers-always : (c : Context) (lock : List ℕ)

@@ -27,11 +27,11 @@ module _ (lock : List ℕ) (n at least : ℕ) where
   listed-stops e h = rw h
 
   -- or it is the next of the list
-  abbrev pub Behind : ProofList
-  Behind = proofsUntilFault lock n (at + 8 + proofLengthAt lock at) (proofSlotAt lock at + 1)
+  abbrev pub ListBehind : ProofList
+  ListBehind = proofsUntilFault lock n (at + 8 + proofLengthAt lock at) (proofSlotAt lock at + 1)
 
   pub listed-goes : decide Passed (proofLayoutRows lock at least) ≡ Passed
-      → proofsUntilFault lock (suc n) at least ≡ record { proofs = proofGiven lock (proofAt lock at) ∷ Behind .proofs; clean = Behind .clean }
+      → proofsUntilFault lock (suc n) at least ≡ record { proofs = proofGiven lock (proofAt lock at) ∷ ListBehind .proofs; clean = ListBehind .clean }
   unfolding proofsUntilFault unlessFaulty
   listed-goes h = rw h refl
 
@@ -75,7 +75,7 @@ module _ (lock : List ℕ) where
   listed-rising zero at least = tt
   listed-rising (suc n) at least = go (decide Passed (proofLayoutRows lock at least)) refl (listed-rising n _ _)
     where
-      go : (k : Check) → decide Passed (proofLayoutRows lock at least) ≡ k → Rising (proofSlotAt lock at + 1) (proofSlots (Behind lock n at least .proofs))
+      go : (k : Check) → decide Passed (proofLayoutRows lock at least) ≡ k → Rising (proofSlotAt lock at + 1) (proofSlots (ListBehind lock n at least .proofs))
           → Rising least (proofSlots (proofsUntilFault lock (suc n) at least .proofs))
       go Passed h rest =
           rw (listed-goes lock n at least h) (proof-holds lock at least (passed-all-pass (proofLayoutRows lock at least) h) .above, rest)

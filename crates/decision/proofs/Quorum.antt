@@ -276,9 +276,9 @@ walk-zero-or-28 c clean ps = (last-each c clean 0 0 [] ps, back)
     back h = rw (each-found c clean ps (h .1), h .0) (end-number (slotsWeight c (approved c 0 ps)) (c .threshold))
 
 -- Passed exactly where nothing follows the proofs, each proof's rows pass, and there is a quorum.
-pub decision : (c : Context) (clean : Bool) (ps : List ProofReading) → Rising 0 (proofSlots ps)
+pub walk-decides : (c : Context) (clean : Bool) (ps : List ProofReading) → Rising 0 (proofSlots ps)
     → (walkFrom c clean 0 0 [] ps .found ≡ Passed) ↔ ((clean ≡ true) × EachPasses c 0 0 ps × Quorum c ps)
-decision c clean ps rises = (there, back)
+walk-decides c clean ps rises = (there, back)
   where
     approves : EachPasses c 0 0 ps → (s : ℕ) → List·Memᴰ s (approved c 0 ps) → Approved c ps s
     approves pass s m =
@@ -313,9 +313,9 @@ decision c clean ps rises = (there, back)
         ∙ end-passes clean (slotsWeight c (approved c 0 ps)) (c .threshold) .1 (h .0, q .above, omega (arith, q .enough))
 
 -- Where each proof's rows pass: one request for each proof, in order.
-pub answers : (c : Context) (clean : Bool) (ps : List ProofReading) → EachPasses c 0 0 ps
+pub walk-answers : (c : Context) (clean : Bool) (ps : List ProofReading) → EachPasses c 0 0 ps
     → (walkFrom c clean 0 0 [] ps .count ≡ length ps) × (walkFrom c clean 0 0 [] ps .made ≡ requestsOf c ps)
-answers c clean ps pass =
+walk-answers c clean ps pass =
     let e = walk-each c clean 0 0 [] ps pass in
     let z : 0 + length ps ≡ length ps = omega arith in
     (ap (λ (o : WalkOutcome). o .count) e ∙ z, ap (λ (o : WalkOutcome). o .made) e)

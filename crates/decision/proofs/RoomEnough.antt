@@ -32,7 +32,7 @@ use Rattle.verifier_request.specs.Writer.{requestTotal}
 use Rattle.verifier_request.proofs.Form.{length-request}
 use Rattle.decision.specs.Proofs.{Context, noEntry, entryFor, requestLimitRows, authenticatorRows, proofRows, requestContent, requestOf, requestsOf}
 use Rattle.decision.specs.Walk.{WalkOutcome, walkOutcome, verdict, approvedWeight, lastRows, unlessFailed, walkFrom, proofsUntilFault, walkList, walkLock}
-use Rattle.decision.proofs.Listed.{listed-stops, listed-goes, listed-rising, Behind}
+use Rattle.decision.proofs.Listed.{listed-stops, listed-goes, listed-rising, ListBehind}
 
 -- ---- what the requests of a list of proofs need
 
@@ -176,7 +176,7 @@ module _ (lock : List ℕ) where
   listed-few zero at least = omega arith
   listed-few (suc n) at least = go (decide Passed (witness.proofLayoutRows lock at least)) refl (listed-few n _ _)
     where
-      go : (k : Check) → decide Passed (witness.proofLayoutRows lock at least) ≡ k → length (Behind lock n at least .proofs) ≤ n
+      go : (k : Check) → decide Passed (witness.proofLayoutRows lock at least) ≡ k → length (ListBehind lock n at least .proofs) ≤ n
           → length (proofsUntilFault lock (suc n) at least .proofs) ≤ suc n
       go Passed h rest = rw (listed-goes lock n at least h) (omega arith)
       go (Failed e) h rest = rw (listed-stops lock n at least e h) (omega arith)
@@ -188,7 +188,7 @@ module _ (lock : List ℕ) where
   listed-length (suc n) at least = go (decide Passed (witness.proofLayoutRows lock at least)) refl (listed-length n _ _)
     where
       go : (k : Check) → decide Passed (witness.proofLayoutRows lock at least) ≡ k
-          → proofsLength (Behind lock n at least .proofs) ≤ length lock - (at + 8 + proofLengthAt lock at)
+          → proofsLength (ListBehind lock n at least .proofs) ≤ length lock - (at + 8 + proofLengthAt lock at)
           → proofsLength (proofsUntilFault lock (suc n) at least .proofs) ≤ length lock - at
       go Passed h rest =
           let z = proof-holds lock at least (passed-all-pass (witness.proofLayoutRows lock at least) h) .inside in

@@ -2,7 +2,7 @@
 use native.Mathlib.Omega.{arith}
 use Rattle.public_key_proof.specs.Reading.{PublicKeyProofReading, publicKeyProofWith, publicKeyProofBytes}
 use Rattle.public_key_proof.specs.Writer.{publicKeyProofWriterRows, publicKeyProofTotal, publicKeyProofWriterFault, publicKeyProofWritten, publicKeyProofStored}
-use Rattle.public_key_proof.proofs.Form.{length-proof}
+use Rattle.public_key_proof.proofs.Form.{length-public-key-proof}
 use Rattle.protocol.proofs.Outcome.{write-refused, write-fits, write-done}
 use borrow.Author.Needs.{needs}
 use Rattle.public_key_proof.proofs.writer.encode_public_key_proof.Statement.{statement}
@@ -30,7 +30,7 @@ returns-2 c =
     let k = told .before .before in
     let a = k .before .before .before .before .args in
     let r : PublicKeyProofReading = publicKeyProofWith (a .key .now) (a .signature .now) in
-    write-done (publicKeyProofWriterRows r) (publicKeyProofTotal r) (a .out .now) _ (k .check-room .ensures) (publicKeyProofBytes r) _ (told .enum-told .given .1) (length-proof r) (c .before .before .store-proof .ensures)
+    write-done (publicKeyProofWriterRows r) (publicKeyProofTotal r) (a .out .now) _ (k .check-room .ensures) (publicKeyProofBytes r) _ (told .enum-told .given .1) (length-public-key-proof r) (c .before .before .store-proof .ensures)
 
 pub encode-public-key-proof-spec : {M : Type 1} → statement M
 encode-public-key-proof-spec =
