@@ -18,7 +18,7 @@ use Rattle.protocol.specs.declared.check.Check.the-variants.{Passed, Failed}
 use Rattle.protocol.proofs.AllPass.{decide-append, decide-failed, passed-all-pass}
 use Rattle.verifier_request.specs.Reader.{requestRows, requestFault, readRequest}
 use Rattle.verifier_request.specs.Reading.{RequestReading, requestReading}
-use Rattle.held_request.specs.Held.{placesOf, heldReading}
+use Rattle.held_request.specs.Held.{requestPlacesOf, heldReading}
 use Rattle.held_request.proofs.HeldTheorem.{held-refusal, held-reading}
 use Rattle.export_answers.specs.Words.{wordBytes, wordsAfter}
 use Rattle.export_answers.proofs.Table64.{length-words, words-fit}
@@ -32,22 +32,22 @@ refused-fault s e h size room =
     decide-append Passed (requestRows s) last ∙ rw h (decide-failed last e)
 
 -- its number
-pub refused-number : (s : List ℕ) (size room : ℕ) → (placesOf (readRequest s) .refusal ≡ 0 → ⊥)
-    → (e : ProtocolError) × (partFault s size room ≡ Failed e) × (placesOf (readRequest s) .refusal ≡ errorNumber e)
+pub refused-number : (s : List ℕ) (size room : ℕ) → (requestPlacesOf (readRequest s) .refusal ≡ 0 → ⊥)
+    → (e : ProtocolError) × (partFault s size room ≡ Failed e) × (requestPlacesOf (readRequest s) .refusal ≡ errorNumber e)
 refused-number s size room ne = by-check (requestFault s) refl
   where
-    by-check : (k : Check) → requestFault s ≡ k → (e : ProtocolError) × (partFault s size room ≡ Failed e) × (placesOf (readRequest s) .refusal ≡ errorNumber e)
+    by-check : (k : Check) → requestFault s ≡ k → (e : ProtocolError) × (partFault s size room ≡ Failed e) × (requestPlacesOf (readRequest s) .refusal ≡ errorNumber e)
     by-check Passed h = absurd (ne (held-refusal s ∙ ap checkNumber h))
     by-check (Failed e) h = (e, refused-fault s e h size room, held-refusal s ∙ ap checkNumber h)
 
 -- what the struct's functions hand out is the reading's, where it is handed out at all
 pub handed : (s out : List ℕ) (of : RequestReading → List ℕ)
-    → (partWritten s (of (heldReading s (placesOf (readRequest s)))) out ≡ partWritten s (of (requestReading s)) out) × (partStored s (of (heldReading s (placesOf (readRequest s)))) out ≡ partStored s (of (requestReading s)) out)
+    → (partWritten s (of (heldReading s (requestPlacesOf (readRequest s)))) out ≡ partWritten s (of (requestReading s)) out) × (partStored s (of (heldReading s (requestPlacesOf (readRequest s)))) out ≡ partStored s (of (requestReading s)) out)
 unfolding requestFault partWritten partStored writeAnswer afterWrite
 handed s out of = by-check (requestFault s) refl
   where
     held : List ℕ
-    held = of (heldReading s (placesOf (readRequest s)))
+    held = of (heldReading s (requestPlacesOf (readRequest s)))
 
     read : List ℕ
     read = of (requestReading s)

@@ -17,7 +17,7 @@ ghost use mathlib.Core.Path.{_≡_};
 ghost use Rattle.protocol.specs.Write.{writeNumber};
 ghost use Rattle.verifier_request.specs.Reader.{readRequest};
 ghost use Rattle.verifier_request.specs.Reading.{requestReading};
-ghost use Rattle.held_request.specs.Held.{placesOf, heldReading};
+ghost use Rattle.held_request.specs.Held.{requestPlacesOf, heldReading};
 ghost use Rattle.export_answers.specs.Words.{lengthAfter};
 ghost use Rattle.exports_request.specs.Parts.{partWritten, partStored, numberWords};
 
@@ -41,7 +41,7 @@ fn hand_out(request: &[u8], part: &[u8], out: &mut [u8], len: &mut u64) -> u32
 
 // The request's four numbers, as 64-bit words.
 fn number_words(request: &[u8]) -> [u8; 32]
-    ensures { λ r. ⌜ r ≡ numberWords (heldReading (now (request .entry)) (placesOf (readRequest (now (request .entry))))) ⌝ }
+    ensures { λ r. ⌜ r ≡ numberWords (heldReading (now (request .entry)) (requestPlacesOf (readRequest (now (request .entry))))) ⌝ }
 {
     let words = [
         algorithm_id_of(request) as u64,
