@@ -60,10 +60,10 @@ pub proofs-end : (s : List ℕ) (off least : ℕ) → AllPass (proofsLayoutRows 
 unfolding proofsLayoutRows
 proofs-end s off least h = eqb-true _ _ (h .0)
 
-pub length-readings : (s : List ℕ) (n off : ℕ) → length (proofsOf s n off) ≡ n
+pub length-proofs : (s : List ℕ) (n off : ℕ) → length (proofsOf s n off) ≡ n
 unfolding proofsOf
-length-readings s zero off = refl
-length-readings s (suc n) off = ap suc (length-readings s n _)
+length-proofs s zero off = refl
+length-proofs s (suc n) off = ap suc (length-proofs s n _)
 
 module _ (s : List ℕ) (b : Bytes s) where
   -- a proof is written back
@@ -98,16 +98,16 @@ module _ (s : List ℕ) (b : Bytes s) where
       let z = proofs-split s n off least h in
       (proof-typed off least (z .0), proofs-typed n _ _ (z .1))
 
-  header-back : WitnessHolds s → layoutBytes (witnessHeaderFields (operationOf s) (proofCountOf s) (witnessSequenceOf s)) ≡ take 16 s
+  witness-header-found-back : WitnessHolds s → layoutBytes (witnessHeaderFields (operationOf s) (proofCountOf s) (witnessSequenceOf s)) ≡ take 16 s
   unfolding witnessHeaderFields layoutAt
-  header-back z = rw (z .magic, z .version, z .zeros) at (table-back (4 ∷ 1 ∷ 1 ∷ 1 ∷ 1 ∷ 8 ∷ []) s 0 b (z .present))
+  witness-header-found-back z = rw (z .magic, z .version, z .zeros) at (table-back (4 ∷ 1 ∷ 1 ∷ 1 ∷ 1 ∷ 8 ∷ []) s 0 b (z .present))
 
   -- the whole is
   pub witness-back : AllPass (witnessRows s) → witnessBytes (witnessReading s) ≡ s
   unfolding witnessBytes witnessReading
   witness-back h =
       let z = witness-holds s h in
-      rw (length-readings s (proofCountOf s) 16, header-back z) (proofs-back (proofCountOf s) 16 0 (z .proofs))
+      rw (length-proofs s (proofCountOf s) 16, witness-header-found-back z) (proofs-back (proofCountOf s) 16 0 (z .proofs))
 
   pub witness-typed : AllPass (witnessRows s) → WitnessTyped (witnessReading s)
   unfolding witnessReading
@@ -115,6 +115,6 @@ module _ (s : List ℕ) (b : Bytes s) where
       record {
         operation = number-lt s 5 1 b;
         sequence = number-lt s 8 8 b;
-        count = rw (length-readings s (proofCountOf s) 16) (number-lt s 6 1 b);
+        count = rw (length-proofs s (proofCountOf s) 16) (number-lt s 6 1 b);
         proofs = proofs-typed (proofCountOf s) 16 0 (witness-holds s h .proofs);
       }

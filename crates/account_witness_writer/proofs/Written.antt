@@ -20,7 +20,7 @@ use Rattle.account_witness.specs.Header.{witnessHeaderRows, witnessHeaderFields
 use Rattle.account_witness.specs.Walk.{proofLayoutRows, proofsLayoutRows}
 use Rattle.account_witness.specs.Witness.{witnessRows}
 use Rattle.account_witness.specs.Reading.{ProofReading, WitnessReading, proofFields, proofBytes, proofsBytes, witnessBytes, proofSlots, ProofTyped, ProofsTyped, WitnessTyped}
-use Rattle.account_witness_writer.specs.Encode.{isRising, witnessTotal, lentProofRows, witnessWriterRows, proofLengths, proofsPayload}
+use Rattle.account_witness_writer.specs.Writer.{isRising, witnessTotal, lentProofRows, witnessWriterRows, proofLengths, proofsPayload}
 use Rattle.account_witness_writer.proofs.Lent.{length-slots, lent-total}
 use Rattle.account_witness.proofs.Unique.{length-proof, table-read, len-read, header-read}
 

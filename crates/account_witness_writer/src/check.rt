@@ -11,7 +11,7 @@ ghost use Prim.Native.Nat.{_+_, _*_};
 ghost use lib.Dec.{leb, eqb};
 ghost use Rattle.octets.specs.Lists.{every};
 ghost use Rattle.protocol.specs.Rows.{decide};
-ghost use Rattle.account_witness_writer.specs.Encode.{sum, isRising, lentProofRows, witnessWriterFault};
+ghost use Rattle.account_witness_writer.specs.Writer.{sum, isRising, lentProofRows, witnessWriterFault};
 
 // Whether the lengths add up to `total`. What is left of it never falls below zero.
 fn adds_up(lengths: &[u32], total: usize) -> bool

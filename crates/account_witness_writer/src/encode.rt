@@ -6,7 +6,7 @@ use protocol::ACCOUNT_WITNESS_HEADER_LEN;
 use protocol::Check;
 use protocol::WriteAnswer;
 ghost use mathlib.Core.Path.{_≡_};
-ghost use Rattle.account_witness_writer.specs.Encode.{witnessWritten, witnessStored};
+ghost use Rattle.account_witness_writer.specs.Writer.{witnessWritten, witnessStored};
 
 // Writes a witness lock and answers its length. Proof i has the slot slots[i] and the next lengths[i] bytes of `bytes`.
 pub fn encode_witness(

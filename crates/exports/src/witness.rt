@@ -16,7 +16,7 @@ ghost use Rattle.protocol.specs.Write.{writeNumber};
 ghost use Rattle.account_witness.specs.Header.{witnessHeaderNumber, readWitnessHeader};
 ghost use Rattle.account_witness.specs.Walk.{proofStepNumber, proofStep};
 ghost use Rattle.account_witness.specs.Witness.{witnessNumber, readWitness};
-ghost use Rattle.account_witness_writer.specs.Encode.{witnessWritten, witnessStored};
+ghost use Rattle.account_witness_writer.specs.Writer.{witnessWritten, witnessStored};
 ghost use Rattle.export_answers.specs.Words.{wordsNumber, wordsAfter, lengthAfter};
 ghost use Rattle.exports.specs.Readers.{witnessHeaderWords, proofStepWords, witnessWords};
 

@@ -19,7 +19,7 @@ use Rattle.account_witness.specs.Walk as witness
 use Rattle.account_witness.specs.declared.walk.Proof.{Proof}
 use Rattle.account_witness.specs.declared.walk.ProofCursor.{ProofCursor}
 use Rattle.account_witness.specs.declared.walk.ProofStep.the-variants as proof-step
-use Rattle.account_witness.proofs.WalkLaws.{step-next, step-refused}
+use Rattle.account_witness.proofs.WalkLaws.{proof-step-next, proof-step-refused}
 use Rattle.decision.specs.Proofs.{Context, entryFor, proofRows}
 use Rattle.decision.specs.Walk.{verdict, approvedWeight}
 use Rattle.proof_walk.specs.Steps.{proofWith, RequestStepIs, proofCheck, verdictOutcome, ProofWalked, ProofOutcomeIs}
@@ -72,20 +72,20 @@ outcome-by-verdict c lock cursor i out after v len weight next k w wt n = go (eq
 module _ (c : Context) (lock : List ℕ) (cursor : ProofCursor) where
   pub turn-faulty : (e : ProtocolError) → witness.proofStep lock cursor ≡ proof-step.Refused e → proofCheck c lock cursor ≡ Failed e
   unfolding proofCheck _then_
-  turn-faulty e h = rw (step-refused lock cursor e h)
+  turn-faulty e h = rw (proof-step-refused lock cursor e h)
 
   -- a proof was read
   module _ (p : Proof) (next : ProofCursor) (h : witness.proofStep lock cursor ≡ proof-step.Next p next) where
     pub turn-proof : proofOf lock (cursor .offset) ≡ proofWith (p .slot) (take (p .len) (drop (p .start) lock))
     unfolding proofGiven
-    turn-proof = rw (step-next lock cursor p next h .1)
+    turn-proof = rw (proof-step-next lock cursor p next h .1)
 
     pub turn-next : next ≡ witness.proofCursorBehind lock (cursor .offset)
-    turn-next = sym (step-next lock cursor p next h .2)
+    turn-next = sym (proof-step-next lock cursor p next h .2)
 
     pub turn-rows : proofCheck c lock cursor ≡ decide Passed (proofRows c 0 (proofOf lock (cursor .offset)))
     unfolding proofCheck _then_
-    turn-rows = rw (step-next lock cursor p next h .0)
+    turn-rows = rw (proof-step-next lock cursor p next h .0)
 
     -- and its step was made from these bytes
     module _ (i : ℕ) (bytes : List ℕ) (b : bytes ≡ take (p .len) (drop (p .start) lock)) (out after : List ℕ) where

@@ -1,5 +1,5 @@
 -- `account_witness::witness::check_witness` meets its contract: the header, the count, the proofs. Assumes nothing.
-use Rattle.account_witness.proofs.Whole.{witness-parts}
+use Rattle.account_witness.proofs.WitnessParts.{witness-parts}
 use borrow.Author.Needs.{needs}
 use Rattle.account_witness.proofs.witness.check_witness.Statement.{statement}
 use Rattle.account_witness.proofs.witness.check_witness.Tie as tie

@@ -5,7 +5,7 @@ use borrow.Author.Tests.{le-leb, lt-leb}
 use lib.Dec.{leb}
 use lib.ListN.{length, drop, getD}
 use Rattle.octets.specs.Lists.{every}
-use Rattle.account_witness_writer.proofs.EncodeLaws.{filled-turn, filled-end}
+use Rattle.account_witness_writer.proofs.WriterLaws.{filled-turn, filled-end}
 use borrow.Author.Needs.{needs}
 use native.Mathlib.Omega.{arith}
 use Rattle.account_witness_writer.proofs.check.all_filled.Statement.{statement}

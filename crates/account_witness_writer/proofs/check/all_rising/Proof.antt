@@ -3,8 +3,8 @@ use mathlib.Core.Path.{_≡_, refl, sym, _∙_}
 use Prim.Native.Nat.{_-_, _≤_}
 use borrow.Author.Tests.{le-leb, lt-leb}
 use lib.ListN.{length, drop, getD}
-use Rattle.account_witness_writer.specs.Encode.{isRising}
-use Rattle.account_witness_writer.proofs.EncodeLaws.{rising-turn, rising-end}
+use Rattle.account_witness_writer.specs.Writer.{isRising}
+use Rattle.account_witness_writer.proofs.WriterLaws.{rising-turn, rising-end}
 use borrow.Author.Needs.{needs}
 use native.Mathlib.Omega.{arith}
 use Rattle.account_witness_writer.proofs.check.all_rising.Statement.{statement}

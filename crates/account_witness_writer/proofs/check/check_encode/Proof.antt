@@ -1,7 +1,7 @@
 -- `account_witness_writer::check::check_encode` meets its contract: the rows, last to first. Assumes nothing.
 use Rattle.protocol.specs.Rows.{decide}
 use Rattle.protocol.specs.Write.{writeFault}
-use Rattle.account_witness_writer.specs.Encode.{lentProofRows, witnessWriterRows, witnessWriterFault}
+use Rattle.account_witness_writer.specs.Writer.{lentProofRows, witnessWriterRows, witnessWriterFault}
 use borrow.Author.Needs.{needs}
 use Rattle.account_witness_writer.proofs.check.check_encode.Statement.{statement}
 use Rattle.account_witness_writer.proofs.check.check_encode.Tie as tie

@@ -1,6 +1,6 @@
 -- `account_witness_writer::check::check_lent` meets its contract: the rows, last to first. Assumes nothing.
 use Rattle.protocol.specs.Rows.{decide}
-use Rattle.account_witness_writer.specs.Encode.{lentProofRows}
+use Rattle.account_witness_writer.specs.Writer.{lentProofRows}
 use borrow.Author.Needs.{needs}
 use Rattle.account_witness_writer.proofs.check.check_lent.Statement.{statement}
 use Rattle.account_witness_writer.proofs.check.check_lent.Tie as tie

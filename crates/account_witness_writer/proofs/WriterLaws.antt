@@ -23,7 +23,7 @@ use Rattle.protocol.proofs.Back.{write-passed}
 use Rattle.account_witness.specs.Header.{witnessHeaderFields}
 use Rattle.account_witness.proofs.Unique.{length-proof}
 use Rattle.account_witness.specs.Reading.{ProofReading, proofFields, proofBytes, proofsBytes, witnessBytes}
-use Rattle.account_witness_writer.specs.Encode.{sum, lentProofs, witnessFrom, isRising, witnessTotal, lentProofRows, witnessWriterRows, witnessWriterFault}
+use Rattle.account_witness_writer.specs.Writer.{sum, lentProofs, witnessFrom, isRising, witnessTotal, lentProofRows, witnessWriterRows, witnessWriterFault}
 
 -- two tests that tell the same
 eqb-by : (a b c d : ℕ) (t : Bool) → eqb a b ≡ t → (a ≡ b → c ≡ d) → (c ≡ d → a ≡ b) → t ≡ eqb c d
@@ -122,15 +122,15 @@ length-lent (slot ∷ slots) (len ∷ lengths) bytes e n =
     length-append (proofBytes p) _ ∙ omega arith
 
 -- what a writer that passes says
-pub record EncodeHolds (slots lengths bytes : List ℕ) (room : ℕ) : Type 0 where
+pub record WitnessWriterHolds (slots lengths bytes : List ℕ) (room : ℕ) : Type 0 where
   pub counts : length slots ≡ length lengths
   pub sums : sum lengths ≡ length bytes
   pub most : witnessTotal slots bytes ≤ 131072
   pub fits : witnessTotal slots bytes ≤ room
 
-pub encode-holds : (operation : ℕ) (slots lengths bytes : List ℕ) (room : ℕ) → witnessWriterFault operation slots lengths bytes room ≡ Passed → EncodeHolds slots lengths bytes room
+pub witness-writer-holds : (operation : ℕ) (slots lengths bytes : List ℕ) (room : ℕ) → witnessWriterFault operation slots lengths bytes room ≡ Passed → WitnessWriterHolds slots lengths bytes room
 unfolding witnessWriterFault witnessWriterRows lentProofRows
-encode-holds operation slots lengths bytes room h =
+witness-writer-holds operation slots lengths bytes room h =
     let z = write-passed (witnessWriterRows operation slots lengths bytes) (witnessTotal slots bytes) room h in
     record {
       counts = eqb-true _ _ (z .0 .0);
@@ -140,7 +140,7 @@ encode-holds operation slots lengths bytes room h =
     }
 
 -- the header and the proofs, stored one behind another
-pub witness-stored : (operation sequence : ℕ) (slots lengths bytes out : List ℕ) → EncodeHolds slots lengths bytes (length out)
+pub witness-stored : (operation sequence : ℕ) (slots lengths bytes out : List ℕ) → WitnessWriterHolds slots lengths bytes (length out)
     → sets (sets out 0 (layoutBytes (witnessHeaderFields operation (length slots) sequence))) 16 (proofsBytes (lentProofs slots lengths bytes))
     ≡ afterWrite Passed (witnessBytes (witnessFrom operation sequence slots lengths bytes)) out
 unfolding afterWrite witnessBytes witnessFrom witnessHeaderFields

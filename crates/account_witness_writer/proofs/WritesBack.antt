@@ -18,22 +18,22 @@ use Rattle.account_witness.specs.Witness.{witnessRows}
 use Rattle.account_witness.specs.Walk.{proofAt}
 use Rattle.account_witness.specs.Reading.{WitnessReading, witnessBytes, proofGiven, proofsOf, witnessReading, proofSlots, WitnessTyped}
 use Rattle.account_witness.proofs.Inverse.{witness-holds, witness-back, witness-typed}
-use Rattle.account_witness_writer.specs.Encode.{witnessFrom, witnessTotal, witnessWriterRows, witnessWriterFault, witnessWritten, witnessStored, proofLengths, proofsPayload, WitnessFits}
-use Rattle.account_witness_writer.proofs.Lent.{lent-back, lent-total, lent-hold}
+use Rattle.account_witness_writer.specs.Writer.{witnessFrom, witnessTotal, witnessWriterRows, witnessWriterFault, witnessWritten, witnessStored, proofLengths, proofsPayload, WitnessFits}
+use Rattle.account_witness_writer.proofs.Lent.{proofs-lent-back, lent-total, lent-hold}
 use Rattle.account_witness_writer.proofs.Written.{written-accepted}
 
 -- its slices lend it again
 from-reading : (r : WitnessReading) → witnessFrom (r .operation) (r .sequence) (proofSlots (r .proofs)) (proofLengths (r .proofs)) (proofsPayload (r .proofs)) ≡ r
 unfolding witnessFrom
-from-reading r = rw (lent-back (r .proofs))
+from-reading r = rw (proofs-lent-back (r .proofs))
 
 -- what proofs that are read from bytes lend are bytes
-readings-bytes : (s : List ℕ) (n off : ℕ) → Bytes s → Bytes (proofsPayload (proofsOf s n off))
+proofs-bytes : (s : List ℕ) (n off : ℕ) → Bytes s → Bytes (proofsPayload (proofsOf s n off))
 unfolding proofsPayload joined proofsOf proofGiven proofAt
-readings-bytes s zero off b = λ i. lit< tt
-readings-bytes s (suc n) off b =
+proofs-bytes s zero off b = λ i. lit< tt
+proofs-bytes s (suc n) off b =
     let len = proofLengthAt s off in
-    bytes-append (take len (drop (off + 8) s)) (proofsPayload (proofsOf s n (off + 8 + len))) (bytes-take len (drop (off + 8) s) (bytes-drop (off + 8) s b)) (readings-bytes s n (off + 8 + len) b)
+    bytes-append (take len (drop (off + 8) s)) (proofsPayload (proofsOf s n (off + 8 + len))) (bytes-take len (drop (off + 8) s) (bytes-drop (off + 8) s b)) (proofs-bytes s n (off + 8 + len) b)
 
 -- what the reading lends fits the writer's types
 fits : (s : List ℕ) → Bytes s → AllPass (witnessRows s) → WitnessFits (witnessReading s)
@@ -44,7 +44,7 @@ fits s b h =
     let t : witnessTotal (proofSlots (r .proofs)) (proofsPayload (r .proofs)) ≡ length s = lent-total r ∙ ap length (witness-back s b h) in
     record {
       typed = witness-typed s b h;
-      bytes = readings-bytes s (proofCountOf s) 16 b;
+      bytes = proofs-bytes s (proofCountOf s) 16 b;
       count = omega arith;
     }
 
