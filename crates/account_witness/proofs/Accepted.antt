@@ -22,7 +22,7 @@ use Rattle.account_witness.specs.declared.walk.ProofStep.{ProofStep}
 use Rattle.account_witness.specs.declared.walk.ProofStep.the-variants as step
 use Rattle.account_witness.specs.declared.witness.WitnessAnswer.{WitnessAnswer}
 use Rattle.account_witness.specs.declared.witness.WitnessAnswer.the-variants as witness
-use Rattle.account_witness.specs.Header.{witnessHeaderRows, witnessHeaderFault, witnessHeaderOf, witnessHeaderAnswer, readWitnessHeader}
+use Rattle.account_witness.specs.Header.{witnessHeaderRows, witnessHeaderOf, witnessHeaderAnswer, readWitnessHeader}
 use Rattle.account_witness.specs.Walk.{proofLayoutRows, proofAt, proofCursorBehind, proofStep, proofStepAnswer, proofsLayoutRows}
 use Rattle.account_witness.specs.Witness.{witnessRows, witnessFault, witnessAnswer, readWitness}
 
@@ -61,28 +61,28 @@ witness-header-found-back h (Failed e) = refl
 
 -- so the reader's answer tells what the rows find
 pub witness-header-found : (s : List ℕ) → witnessHeaderFound (readWitnessHeader s) ≡ decide Passed (witnessHeaderRows s)
-unfolding readWitnessHeader witnessHeaderFault
+unfolding readWitnessHeader
 witness-header-found s = witness-header-found-back (witnessHeaderOf s) (decide Passed (witnessHeaderRows s))
 
 -- accepted exactly where every row passes
 pub witness-header-accepts : (s : List ℕ) → (readWitnessHeader s ≡ header.Header (witnessHeaderOf s)) ↔ AllPass (witnessHeaderRows s)
-unfolding readWitnessHeader witnessHeaderFault witnessHeaderAnswer
+unfolding readWitnessHeader witnessHeaderAnswer
 witness-header-accepts s = answer-accepts (λ k. witnessHeaderAnswer k (witnessHeaderOf s)) witnessHeaderFound (witness-header-found-back (witnessHeaderOf s)) (witnessHeaderRows s)
 
 -- refused exactly with the first that fails,
 pub witness-header-refuses : (s : List ℕ) (e : ProtocolError) → (readWitnessHeader s ≡ header.Refused e) ↔ FirstFailed (witnessHeaderRows s) e
-unfolding readWitnessHeader witnessHeaderFault witnessHeaderAnswer
+unfolding readWitnessHeader witnessHeaderAnswer
 witness-header-refuses s e = answer-refuses (λ k. witnessHeaderAnswer k (witnessHeaderOf s)) witnessHeaderFound (witness-header-found-back (witnessHeaderOf s)) (witnessHeaderRows s) e
 
 -- which is 22
 pub witness-header-22 : (s : List ℕ) (e : ProtocolError) → readWitnessHeader s ≡ header.Refused e → errorNumber e ≡ 22
-unfolding readWitnessHeader witnessHeaderFault witnessHeaderAnswer
+unfolding readWitnessHeader witnessHeaderAnswer
 witness-header-22 s e h =
     each-failed Is22 (witnessHeaderRows s) e (header-only s) (answer-found (λ k. witnessHeaderAnswer k (witnessHeaderOf s)) witnessHeaderFound (witness-header-found-back (witnessHeaderOf s)) _ (Failed e) h)
 
 -- a header that is given is the one at the front of the bytes
 pub witness-header-answered : (s : List ℕ) (h : AccountWitnessHeader) → readWitnessHeader s ≡ header.Header h → AllPass (witnessHeaderRows s) × (witnessHeaderOf s ≡ h)
-unfolding readWitnessHeader witnessHeaderFault witnessHeaderAnswer
+unfolding readWitnessHeader witnessHeaderAnswer
 witness-header-answered s h e =
     let z = answer-given (λ k. witnessHeaderAnswer k (witnessHeaderOf s)) witnessHeaderFound (witness-header-found-back (witnessHeaderOf s)) (decide Passed (witnessHeaderRows s)) (header.Header h) e refl in
     let q : header.Header (witnessHeaderOf s) ≡ header.Header h = z .1 in

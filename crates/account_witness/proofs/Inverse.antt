@@ -98,16 +98,16 @@ module _ (s : List ℕ) (b : Bytes s) where
       let z = proofs-split s n off least h in
       (proof-typed off least (z .0), proofs-typed n _ _ (z .1))
 
-  witness-header-found-back : WitnessHolds s → layoutBytes (witnessHeaderFields (operationOf s) (proofCountOf s) (witnessSequenceOf s)) ≡ take 16 s
+  witness-header-back : WitnessHolds s → layoutBytes (witnessHeaderFields (operationOf s) (proofCountOf s) (witnessSequenceOf s)) ≡ take 16 s
   unfolding witnessHeaderFields layoutAt
-  witness-header-found-back z = rw (z .magic, z .version, z .zeros) at (table-back (4 ∷ 1 ∷ 1 ∷ 1 ∷ 1 ∷ 8 ∷ []) s 0 b (z .present))
+  witness-header-back z = rw (z .magic, z .version, z .zeros) at (table-back (4 ∷ 1 ∷ 1 ∷ 1 ∷ 1 ∷ 8 ∷ []) s 0 b (z .present))
 
   -- the whole is
   pub witness-back : AllPass (witnessRows s) → witnessBytes (witnessReading s) ≡ s
   unfolding witnessBytes witnessReading
   witness-back h =
       let z = witness-holds s h in
-      rw (length-proofs s (proofCountOf s) 16, witness-header-found-back z) (proofs-back (proofCountOf s) 16 0 (z .proofs))
+      rw (length-proofs s (proofCountOf s) 16, witness-header-back z) (proofs-back (proofCountOf s) 16 0 (z .proofs))
 
   pub witness-typed : AllPass (witnessRows s) → WitnessTyped (witnessReading s)
   unfolding witnessReading

@@ -30,9 +30,6 @@ witnessHeaderRows s =
     ∷ row (eqb (witnessReservedOf s) 0) InvalidWitness
     ∷ []
 
-unfoldable pub witnessHeaderFault : List ℕ → Check
-witnessHeaderFault s = decide Passed (witnessHeaderRows s)
-
 unfoldable pub witnessHeaderOf : List ℕ → AccountWitnessHeader
 witnessHeaderOf s = record { operation = operationOf s; «proof_count» = proofCountOf s; «state_sequence» = witnessSequenceOf s }
 
@@ -42,7 +39,7 @@ witnessHeaderAnswer (Failed e) h = Refused e
 
 -- 01: "Counts 17 to 255 pass `parse_witness_header`"
 unfoldable pub readWitnessHeader : List ℕ → WitnessHeaderAnswer
-readWitnessHeader s = witnessHeaderAnswer (witnessHeaderFault s) (witnessHeaderOf s)
+readWitnessHeader s = witnessHeaderAnswer (decide Passed (witnessHeaderRows s)) (witnessHeaderOf s)
 
 -- the layout
 unfoldable pub witnessHeaderFields : ℕ → ℕ → ℕ → List Field

@@ -32,8 +32,11 @@ proofBytes p = layoutBytes (proofFields (p .slot) (length (p .bytes))) ++ p .byt
 unfoldable pub proofsBytes : List ProofReading → List ℕ
 proofsBytes ps = joined (map proofBytes ps)
 
+abbrev pub witnessHead : WitnessReading → List Field
+witnessHead r = witnessHeaderFields (r .operation) (length (r .proofs)) (r .sequence)
+
 unfoldable pub witnessBytes : WitnessReading → List ℕ
-witnessBytes r = layoutBytes (witnessHeaderFields (r .operation) (length (r .proofs)) (r .sequence)) ++ proofsBytes (r .proofs)
+witnessBytes r = layoutBytes (witnessHead r) ++ proofsBytes (r .proofs)
 
 -- the reading of a proof that a step hands out: its slot, and the bytes at its place; 01: "a place in the input counting as the
 -- bytes there"

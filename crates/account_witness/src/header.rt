@@ -13,7 +13,8 @@ use protocol::Check;
 use protocol::ProtocolError;
 use protocol::is_operation;
 ghost use mathlib.Core.Path.{_≡_};
-ghost use Rattle.account_witness.specs.Header.{witnessHeaderFault, witnessHeaderOf, readWitnessHeader};
+ghost use Rattle.protocol.specs.Rows.{decide};
+ghost use Rattle.account_witness.specs.Header.{witnessHeaderRows, witnessHeaderOf, readWitnessHeader};
 
 pub struct AccountWitnessHeader {
     pub operation: u8,
@@ -27,7 +28,7 @@ pub enum WitnessHeaderAnswer {
 }
 
 pub(crate) fn check_header(witness: &[u8]) -> Check
-    ensures { λ r. ⌜ r ≡ witnessHeaderFault (now (witness .entry)) ⌝ }
+    ensures { λ r. ⌜ r ≡ decide Check.Passed (witnessHeaderRows (now (witness .entry))) ⌝ }
 {
     let invalid = ProtocolError::InvalidWitness;
     Check::Passed

@@ -19,7 +19,7 @@ use Rattle.account_witness.specs.Fields.{proofCountOf, proofLengthAt, proofSlot
 use Rattle.account_witness.specs.Header.{witnessHeaderFields}
 use Rattle.account_witness.specs.Walk.{proofAt, proofsLayoutRows}
 use Rattle.account_witness.specs.Witness.{witnessRows}
-use Rattle.account_witness.specs.Reading.{ProofReading, WitnessReading, proofsBytes, witnessBytes, proofGiven, proofsOf, witnessReading, proofSlots}
+use Rattle.account_witness.specs.Reading.{ProofReading, WitnessReading, proofsBytes, witnessHead, witnessBytes, proofGiven, proofsOf, witnessReading, proofSlots}
 use Rattle.account_witness_writer.specs.Writer.{sum, lentProofs, isRising, witnessTotal, lentProofRows, witnessWriterRows, proofLengths, proofsPayload}
 use Rattle.account_witness_writer.proofs.WriterLaws.{length-lent}
 use Rattle.account_witness.proofs.Inverse.{witness-holds, proofs-split, length-proofs, witness-back}
@@ -48,7 +48,7 @@ pub lent-total : (r : WitnessReading) → witnessTotal (proofSlots (r .proofs)) 
 unfolding witnessBytes witnessHeaderFields
 lent-total r =
     let ps = r .proofs in
-    let h = witnessHeaderFields (r .operation) (length ps) (r .sequence) in
+    let h = witnessHead r in
     let m : length (layoutBytes h) ≡ 16 = length-numbers h in
     let n : length (proofsBytes ps) ≡ 8 * length (proofSlots ps) + length (proofsPayload ps) = rw (proofs-lent-back ps) at (length-lent (proofSlots ps) (proofLengths ps) (proofsPayload ps) (lent-counts ps) (lent-sums ps)) in
     sym (length-append (layoutBytes h) (proofsBytes ps) ∙ omega arith)

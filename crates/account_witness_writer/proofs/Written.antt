@@ -19,7 +19,7 @@ use Rattle.account_witness.specs.Fields.{operationOf, proofCountOf, proofLength
 use Rattle.account_witness.specs.Header.{witnessHeaderRows, witnessHeaderFields}
 use Rattle.account_witness.specs.Walk.{proofLayoutRows, proofsLayoutRows}
 use Rattle.account_witness.specs.Witness.{witnessRows}
-use Rattle.account_witness.specs.Reading.{ProofReading, WitnessReading, proofFields, proofBytes, proofsBytes, witnessBytes, proofSlots, ProofTyped, ProofsTyped, WitnessTyped}
+use Rattle.account_witness.specs.Reading.{ProofReading, WitnessReading, proofFields, proofBytes, proofsBytes, witnessHead, witnessBytes, proofSlots, ProofTyped, ProofsTyped, WitnessTyped}
 use Rattle.account_witness_writer.specs.Writer.{isRising, witnessTotal, lentProofRows, witnessWriterRows, proofLengths, proofsPayload}
 use Rattle.account_witness_writer.proofs.Lent.{length-slots, lent-total}
 use Rattle.account_witness.proofs.Unique.{length-proof, table-read, len-read, header-read}
@@ -65,7 +65,7 @@ pub written-accepted : (r : WitnessReading) → WitnessTyped r
 unfolding witnessRows witnessHeaderRows witnessWriterRows lentProofRows witnessBytes witnessHeaderFields layoutAt
 written-accepted r y h =
     let ps = r .proofs in
-    let x = witnessHeaderFields (r .operation) (length ps) (r .sequence) in
+    let x = witnessHead r in
     let s = witnessBytes r in
     let t = header-read r y in
     let total : witnessTotal (proofSlots ps) (proofsPayload ps) ≡ length s = lent-total r in

@@ -1,12 +1,12 @@
 -- `account_witness::header::check_header` meets its contract: the rows, last to first. Assumes nothing.
 use Rattle.protocol.specs.Rows.{decide}
-use Rattle.account_witness.specs.Header.{witnessHeaderRows, witnessHeaderFault}
+use Rattle.account_witness.specs.Header.{witnessHeaderRows}
 use borrow.Author.Needs.{needs}
 use Rattle.account_witness.proofs.header.check_header.Statement.{statement}
 use Rattle.account_witness.proofs.header.check_header.Tie as tie
 
 returns : tie.Need-returns
-unfolding witnessHeaderFault witnessHeaderRows decide
+unfolding witnessHeaderRows decide
 returns c =
     let c5 = c .before .before in
     let c4 = c5 .before .before .before in
