@@ -2,6 +2,7 @@
 use crate::fields::proof_length_at;
 use crate::fields::proof_reserved_at;
 use crate::fields::proof_slot_at;
+use crate::offsets::PROOF_HEADER_LEN;
 use octets::fits;
 use protocol::ACCOUNT_WITNESS_HEADER_LEN;
 use protocol::Check;
@@ -51,7 +52,7 @@ fn check_proof(witness: &[u8], offset: usize, least: u32) -> Check
     let len = proof_length_at(witness, offset) as usize;
     Check::Passed
         .require(proof_reserved_at(witness, offset) == 0, invalid)
-        .require(fits(witness.len(), offset + 8, len), invalid)
+        .require(fits(witness.len(), offset + PROOF_HEADER_LEN, len), invalid)
         .require(1 <= len, invalid)
         .require(least <= slot, invalid)
 }
@@ -65,7 +66,7 @@ fn step_at(witness: &[u8], offset: usize, least: u32) -> ProofStep
         Check::Failed(error) => ProofStep::Refused(error),
         Check::Passed => {
             let slot = proof_slot_at(witness, offset);
-            let start = offset + 8;
+            let start = offset + PROOF_HEADER_LEN;
             let len = proof_length_at(witness, offset) as usize;
             let proof = Proof { slot, start, len };
             let next = ProofCursor {
@@ -81,7 +82,7 @@ fn step_at(witness: &[u8], offset: usize, least: u32) -> ProofStep
 pub fn next_proof(witness: &[u8], cursor: ProofCursor) -> ProofStep
     ensures { λ r. ⌜ r ≡ proofStep (now (witness .entry)) cursor ⌝ }
 {
-    if fits(witness.len(), cursor.offset, 8) {
+    if fits(witness.len(), cursor.offset, PROOF_HEADER_LEN) {
         step_at(witness, cursor.offset, cursor.least)
     } else {
         ProofStep::Refused(ProtocolError::InvalidWitness)

@@ -1,4 +1,5 @@
 // The writer's refusals: slices that disagree, the operation, the proofs, a short buffer.
+use account_witness::PROOF_HEADER_LEN;
 use octets::fits;
 use protocol::ACCOUNT_WITNESS_HEADER_LEN;
 use protocol::ACCOUNT_WITNESS_MAX_LOCK_LEN;
@@ -69,10 +70,10 @@ fn total_within(limit: usize, count: usize, len: usize) -> bool
         return false;
     }
     let room = limit - ACCOUNT_WITNESS_HEADER_LEN;
-    if room / 8 < count {
+    if room / PROOF_HEADER_LEN < count {
         return false;
     }
-    fits(room, 8 * count, len)
+    fits(room, PROOF_HEADER_LEN * count, len)
 }
 
 // The checks of the proofs, after what was found before them.

@@ -2,6 +2,7 @@
 use crate::fields::public_key_length_of;
 use crate::fields::public_key_proof_version_of;
 use crate::fields::signature_length_of;
+use crate::offsets::PUBLIC_KEY_OFFSET;
 use protocol::Check;
 use protocol::ProtocolError;
 ghost use mathlib.Core.Path.{_≡_};
@@ -27,11 +28,14 @@ fn check_proof(proof: &[u8]) -> Check
     let public_key_len = public_key_length_of(proof) as usize;
     let signature_len = signature_length_of(proof) as usize;
     Check::Passed
-        .require(5 <= proof.len(), invalid)
+        .require(PUBLIC_KEY_OFFSET <= proof.len(), invalid)
         .require(public_key_proof_version_of(proof) == 1, invalid)
         .require(0 < public_key_len, invalid)
         .require(0 < signature_len, invalid)
-        .require(5 + public_key_len + signature_len == proof.len(), invalid)
+        .require(
+            PUBLIC_KEY_OFFSET + public_key_len + signature_len == proof.len(),
+            invalid,
+        )
 }
 
 fn places_at(proof: &[u8]) -> PublicKeyProof
@@ -39,9 +43,9 @@ fn places_at(proof: &[u8]) -> PublicKeyProof
 {
     let public_key_len = public_key_length_of(proof) as usize;
     PublicKeyProof {
-        public_key: 5,
+        public_key: PUBLIC_KEY_OFFSET,
         public_key_len: public_key_len,
-        signature: 5 + public_key_len,
+        signature: PUBLIC_KEY_OFFSET + public_key_len,
         signature_len: signature_length_of(proof) as usize,
     }
 }

@@ -32,7 +32,13 @@ requestProfileOf s = numberAt s 13 1
 abbrev pub requestZerosOf : List ℕ → ℕ
 requestZerosOf s = numberAt s 14 2
 
--- digest and key stand at 16 and 48
+-- where the digest and the key begin
+abbrev pub requestDigestOffset : ℕ
+requestDigestOffset = 16
+
+abbrev pub requestKeyOffset : ℕ
+requestKeyOffset = 48
+
 abbrev pub requestAuxLengthOf : List ℕ → ℕ
 requestAuxLengthOf s = numberAt s 80 4
 

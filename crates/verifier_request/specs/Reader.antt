@@ -10,7 +10,7 @@ use Rattle.protocol.specs.Rows.{Row, row, decide}
 use Rattle.protocol.specs.declared.error.ProtocolError.the-variants.{InvalidRequest, InvalidOperation, UnsupportedVersion}
 use Rattle.protocol.specs.declared.check.Check.{Check}
 use Rattle.protocol.specs.declared.check.Check.the-variants.{Passed, Failed}
-use Rattle.verifier_request.specs.Fields.{requestMagicOf, requestAbiOf, requestReservedOf, requestHeaderLengthOf, requestAlgorithmOf, requestSlotOf, requestOperationOf, requestProfileOf, requestZerosOf, requestAuxLengthOf, requestProofLengthOf, requestLastZerosOf, requestSize}
+use Rattle.verifier_request.specs.Fields.{requestMagicOf, requestAbiOf, requestReservedOf, requestHeaderLengthOf, requestAlgorithmOf, requestSlotOf, requestOperationOf, requestProfileOf, requestZerosOf, requestDigestOffset, requestKeyOffset, requestAuxLengthOf, requestProofLengthOf, requestLastZerosOf, requestSize}
 use Rattle.verifier_request.specs.declared.reader.RequestFields.{RequestFields}
 use Rattle.verifier_request.specs.declared.reader.RequestAnswer.{RequestAnswer}
 use Rattle.verifier_request.specs.declared.reader.RequestAnswer.the-variants.{Request, Refused}
@@ -55,8 +55,8 @@ requestFieldsOf s =
       slot = requestSlotOf s;
       operation = requestOperationOf s;
       «verifier_profile» = requestProfileOf s;
-      «authorization_digest» = 16;
-      «key_id» = 48;
+      «authorization_digest» = requestDigestOffset;
+      «key_id» = requestKeyOffset;
       aux = 96;
       «aux_len» = requestAuxLengthOf s;
       proof = 96 + requestAuxLengthOf s;

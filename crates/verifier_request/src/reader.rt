@@ -11,6 +11,8 @@ use crate::fields::request_proof_length_of;
 use crate::fields::request_reserved_of;
 use crate::fields::request_slot_of;
 use crate::fields::request_zeros_of;
+use crate::offsets::DIGEST_OFFSET;
+use crate::offsets::KEY_OFFSET;
 use protocol::Check;
 use protocol::ProtocolError;
 use protocol::VERIFIER_ABI_V1;
@@ -101,8 +103,8 @@ fn fields_at(request: &[u8]) -> RequestFields
         slot: request_slot_of(request),
         operation: request_operation_of(request),
         verifier_profile: request_profile_of(request),
-        authorization_digest: 16,
-        key_id: 48,
+        authorization_digest: DIGEST_OFFSET,
+        key_id: KEY_OFFSET,
         aux: VERIFIER_REQUEST_HEADER_LEN,
         aux_len: aux_len,
         proof: VERIFIER_REQUEST_HEADER_LEN + aux_len,
