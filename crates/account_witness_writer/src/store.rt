@@ -52,7 +52,8 @@ fn store_proof(out: &mut [u8], at: usize, slot: u16, proof: &[u8])
 // Stores the proofs behind the header.
 pub(crate) fn store_proofs(out: &mut [u8], slots: &[u16], lengths: &[u32], bytes: &[u8])
     requires { ⌜ (length (now slots) ≡ length (now lengths)) × (sum (now lengths) ≡ length (now bytes)) × (witnessTotal (now slots) (now bytes) ≤ 131072) ⌝ }
-    ensures { λ _. ⌜ now (out .exit) ≡ sets (now (out .entry)) 16 (proofsBytes (lentProofs (now (slots .entry)) (now (lengths .entry)) (now (bytes .entry)))) ⌝ }
+    ensures { λ _. ⌜ now (out .exit) ≡ sets (now (out .entry)) 16
+        (proofsBytes (lentProofs (now (slots .entry)) (now (lengths .entry)) (now (bytes .entry)))) ⌝ }
 {
     let mut at = ACCOUNT_WITNESS_HEADER_LEN;
     let mut from: usize = 0;

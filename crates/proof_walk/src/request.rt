@@ -70,7 +70,8 @@ fn check_request(
     proof: usize,
     left: usize,
 ) -> Check
-    ensures { λ r. ⌜ r ≡ decide Passed (foundRows known operation (sceneDeps (now (table .entry)) (now (store .entry))) (entryOf (now (entry .entry))) proof left) ⌝ }
+    ensures { λ r. ⌜ r ≡ decide Passed
+        (foundRows known operation (sceneDeps (now (table .entry)) (now (store .entry))) (entryOf (now (entry .entry))) proof left) ⌝ }
 {
     let aux = aux_of(entry).len();
     let invalid = ProtocolError::InvalidRequest;
@@ -103,8 +104,12 @@ fn encode_request(
     proof: &[u8],
     out: &mut [u8],
 ) -> WriteAnswer
-    ensures { λ r. ⌜ r ≡ requestWritten (requestContent operation digest (entryOf (now (entry .entry))) (proofWith slot (now (proof .entry)))) (now (out .entry)) ⌝ }
-    ensures { λ _. ⌜ now (out .exit) ≡ requestStored (requestContent operation digest (entryOf (now (entry .entry))) (proofWith slot (now (proof .entry)))) (now (out .entry)) ⌝ }
+    ensures { λ r. ⌜ r ≡ requestWritten
+        (requestContent operation digest (entryOf (now (entry .entry))) (proofWith slot (now (proof .entry))))
+        (now (out .entry)) ⌝ }
+    ensures { λ _. ⌜ now (out .exit) ≡ requestStored
+        (requestContent operation digest (entryOf (now (entry .entry))) (proofWith slot (now (proof .entry))))
+        (now (out .entry)) ⌝ }
 {
     let aux = aux_of(entry);
     encode_verifier_request(
@@ -131,7 +136,9 @@ pub(crate) fn make_request(
     proof: &[u8],
     out: &mut [u8],
 ) -> RequestStep
-    ensures { λ r. ⌜ RequestStepIs (walkContext (now (table .entry)) (now (store .entry)) (now (state .entry)) operation digest (length (now (out .entry)))) (proofWith slot (now (proof .entry))) (now (out .entry)) (now (out .exit)) r ⌝ }
+    ensures { λ r. ⌜ RequestStepIs
+        (walkContext (now (table .entry)) (now (store .entry)) (now (state .entry)) operation digest (length (now (out .entry))))
+        (proofWith slot (now (proof .entry))) (now (out .entry)) (now (out .exit)) r ⌝ }
 {
     let found = find_authenticator(state, slot);
     let entry = entry_bytes(state, found);

@@ -59,7 +59,9 @@ fn walk_proof(
     digest: [u8; 32],
     out: &mut [u8],
 ) -> ProofOutcome
-    ensures { λ r. ⌜ ProofOutcomeIs (walkContext (now (table .entry)) (now (store .entry)) (now (state .entry)) operation digest (length (now (out .entry)))) (now (lock .entry)) cursor index (now (out .entry)) (now (out .exit)) r ⌝ }
+    ensures { λ r. ⌜ ProofOutcomeIs
+        (walkContext (now (table .entry)) (now (store .entry)) (now (state .entry)) operation digest (length (now (out .entry))))
+        (now (lock .entry)) cursor index (now (out .entry)) (now (out .exit)) r ⌝ }
 {
     match next_proof(lock, cursor) {
         ProofStep::Refused(error) => ProofOutcome::Refused(error),
@@ -111,8 +113,12 @@ fn walk_lock(
     digest: [u8; 32],
     answer: &mut [u8],
 ) -> ProofWalkAnswer
-    ensures { λ r. ⌜ r ≡ proofWalkAnswer (walkLock (walkContext (now (table .entry)) (now (store .entry)) (now (state .entry)) operation digest (length (now (answer .entry)))) (now (lock .entry))) ⌝ }
-    ensures { λ _. ⌜ now (answer .exit) ≡ answered (now (answer .entry)) (walkLock (walkContext (now (table .entry)) (now (store .entry)) (now (state .entry)) operation digest (length (now (answer .entry)))) (now (lock .entry)) .made) ⌝ }
+    ensures { λ r. ⌜ r ≡ proofWalkAnswer (walkLock
+        (walkContext (now (table .entry)) (now (store .entry)) (now (state .entry)) operation digest (length (now (answer .entry))))
+        (now (lock .entry))) ⌝ }
+    ensures { λ _. ⌜ now (answer .exit) ≡ answered (now (answer .entry)) (walkLock
+        (walkContext (now (table .entry)) (now (store .entry)) (now (state .entry)) operation digest (length (now (answer .entry))))
+        (now (lock .entry)) .made) ⌝ }
 {
     let count = proof_count_of(lock);
     let mut cursor = first_proof();
@@ -150,8 +156,12 @@ pub fn walk_proofs(
     digest: [u8; 32],
     answer: &mut [u8],
 ) -> ProofWalkAnswer
-    ensures { λ r. ⌜ r ≡ proofWalkAnswer (walkProofs (walkContext (now (table .entry)) (now (store .entry)) (now (state .entry)) operation digest (length (now (answer .entry)))) (now (lock .entry))) ⌝ }
-    ensures { λ _. ⌜ now (answer .exit) ≡ answered (now (answer .entry)) (walkProofs (walkContext (now (table .entry)) (now (store .entry)) (now (state .entry)) operation digest (length (now (answer .entry)))) (now (lock .entry)) .made) ⌝ }
+    ensures { λ r. ⌜ r ≡ proofWalkAnswer (walkProofs
+        (walkContext (now (table .entry)) (now (store .entry)) (now (state .entry)) operation digest (length (now (answer .entry))))
+        (now (lock .entry))) ⌝ }
+    ensures { λ _. ⌜ now (answer .exit) ≡ answered (now (answer .entry)) (walkProofs
+        (walkContext (now (table .entry)) (now (store .entry)) (now (state .entry)) operation digest (length (now (answer .entry))))
+        (now (lock .entry)) .made) ⌝ }
 {
     if is_operation(operation) {
         walk_lock(table, store, state, lock, operation, digest, answer)

@@ -75,7 +75,8 @@ fn store_request(
     proof: &[u8],
     out: &mut [u8],
 )
-    ensures { λ _. ⌜ now (out .exit) ≡ sets (now (out .entry)) 0 (requestBytes (requestWith algorithm slot operation profile digest key (now (aux .entry)) (now (proof .entry)))) ⌝ }
+    ensures { λ _. ⌜ now (out .exit) ≡ sets (now (out .entry)) 0
+        (requestBytes (requestWith algorithm slot operation profile digest key (now (aux .entry)) (now (proof .entry)))) ⌝ }
 {
     store_head(out, algorithm, slot, operation, profile);
     store_bytes(out, DIGEST_OFFSET, &digest);
@@ -87,7 +88,10 @@ fn store_request(
 
 // The writer's refusals, and then that of a buffer of `room` bytes.
 fn check_room(operation: u8, aux: &[u8], proof: &[u8], room: usize) -> Check
-    ensures { λ r. ⌜ r ≡ writeFault (requestWriterLimitRows operation (length (now (aux .entry))) (length (now (proof .entry)))) (requestSize (length (now (aux .entry))) (length (now (proof .entry)))) room ⌝ }
+    ensures { λ r. ⌜ r ≡ writeFault
+        (requestWriterLimitRows operation (length (now (aux .entry))) (length (now (proof .entry))))
+        (requestSize (length (now (aux .entry))) (length (now (proof .entry))))
+        room ⌝ }
 {
     let invalid = ProtocolError::InvalidRequest;
     Check::Passed
@@ -112,8 +116,12 @@ pub fn encode_verifier_request(
     proof: &[u8],
     out: &mut [u8],
 ) -> WriteAnswer
-    ensures { λ r. ⌜ r ≡ requestWritten (requestWith algorithm slot operation profile digest key (now (aux .entry)) (now (proof .entry))) (now (out .entry)) ⌝ }
-    ensures { λ _. ⌜ now (out .exit) ≡ requestStored (requestWith algorithm slot operation profile digest key (now (aux .entry)) (now (proof .entry))) (now (out .entry)) ⌝ }
+    ensures { λ r. ⌜ r ≡ requestWritten
+        (requestWith algorithm slot operation profile digest key (now (aux .entry)) (now (proof .entry)))
+        (now (out .entry)) ⌝ }
+    ensures { λ _. ⌜ now (out .exit) ≡ requestStored
+        (requestWith algorithm slot operation profile digest key (now (aux .entry)) (now (proof .entry)))
+        (now (out .entry)) ⌝ }
 {
     match check_room(operation, aux, proof, out.len()) {
         Check::Failed(error) => WriteAnswer::Refused(error),
