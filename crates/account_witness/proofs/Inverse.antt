@@ -20,7 +20,7 @@ use Rattle.protocol.specs.Rows.{AllPass}
 use Rattle.protocol.proofs.AllPass.{all-pass-split}
 use Rattle.account_witness.specs.Fields.{operationOf, proofCountOf, proofLengthAt, proofSlotAt, witnessMagicOf, witnessReservedOf, witnessSequenceOf, witnessVersionOf}
 use Rattle.account_witness.specs.Header.{witnessMagic, witnessHeaderRows, witnessHeaderFields}
-use Rattle.account_witness.specs.Walk.{proofLayoutRows, proofAt, proofsLayoutRows}
+use Rattle.account_witness.specs.Walk.{proofLayoutRows, proofAt, proofsLayoutRows, witnessProofRows}
 use Rattle.account_witness.specs.Witness.{witnessRows}
 use Rattle.account_witness.specs.Reading.{proofFields, proofBytes, proofsBytes, witnessBytes, proofGiven, proofsOf, witnessReading, ProofTyped, ProofsTyped, WitnessTyped}
 use Rattle.account_witness.proofs.WalkLaws.{ProofHolds, proof-holds}
@@ -34,7 +34,7 @@ pub record WitnessHolds (s : List ℕ) : Type 0 where
   pub operation : isOperation (operationOf s) ≡ true
   pub zeros : witnessReservedOf s ≡ 0
   pub count : proofCountOf s ≤ 16
-  pub proofs : AllPass (proofsLayoutRows s (proofCountOf s) 16 0)
+  pub proofs : AllPass (witnessProofRows s)
 
 pub witness-holds : (s : List ℕ) → AllPass (witnessRows s) → WitnessHolds s
 unfolding witnessRows witnessHeaderRows

@@ -11,7 +11,7 @@ use Rattle.protocol.specs.Rows.{Row, row, decide}
 use Rattle.protocol.specs.declared.error.ProtocolError.the-variants.{InvalidWitness}
 use Rattle.protocol.specs.declared.check.Check.{Check}
 use Rattle.protocol.specs.declared.check.Check.the-variants.{Passed, Failed}
-use Rattle.account_witness.specs.Fields.{witnessMagicOf, witnessVersionOf, operationOf, proofCountOf, witnessReservedOf, witnessSequenceOf}
+use Rattle.account_witness.specs.Fields.{witnessMagicOf, witnessVersionOf, operationOf, proofCountOf, witnessReservedOf, witnessSequenceOf, witnessHeaderLength}
 use Rattle.account_witness.specs.declared.header.AccountWitnessHeader.{AccountWitnessHeader}
 use Rattle.account_witness.specs.declared.header.WitnessHeaderAnswer.{WitnessHeaderAnswer}
 use Rattle.account_witness.specs.declared.header.WitnessHeaderAnswer.the-variants.{Header, Refused}
@@ -22,7 +22,7 @@ witnessMagic = 0x57414b43
 
 unfoldable pub witnessHeaderRows : List ℕ → List Row
 witnessHeaderRows s =
-    row (leb 16 (length s)) InvalidWitness
+    row (leb witnessHeaderLength (length s)) InvalidWitness
     ∷ row (leb (length s) 131072) InvalidWitness
     ∷ row (eqb (witnessMagicOf s) witnessMagic) InvalidWitness
     ∷ row (eqb (witnessVersionOf s) 1) InvalidWitness

@@ -6,7 +6,7 @@ use mathlib.Core.List.{List, [], _∷_, _++_, map}
 use lib.ListN.{length, take, drop, getD}
 use Rattle.octets.specs.Lists.{joined}
 use Rattle.octets.specs.Layout.{Field, layoutBytes}
-use Rattle.account_witness.specs.Fields.{operationOf, proofCountOf, witnessSequenceOf, proofLengthAt}
+use Rattle.account_witness.specs.Fields.{operationOf, proofCountOf, witnessSequenceOf, witnessHeaderLength, proofEndAt}
 use Rattle.account_witness.specs.declared.header.AccountWitnessHeader.{AccountWitnessHeader}
 use Rattle.account_witness.specs.declared.walk.Proof.{Proof}
 use Rattle.account_witness.specs.declared.walk.ProofStep.the-variants.{Next}
@@ -50,11 +50,11 @@ proofOf s off = proofGiven s (proofAt s off)
 -- n proofs one behind another, from `off` on
 unfoldable pub proofsOf : List ℕ → ℕ → ℕ → List ProofReading
 proofsOf s zero off = []
-proofsOf s (suc n) off = proofOf s off ∷ proofsOf s n (off + 8 + proofLengthAt s off)
+proofsOf s (suc n) off = proofOf s off ∷ proofsOf s n (proofEndAt s off)
 
 -- the proofs of a witness lock
 abbrev pub witnessProofs : List ℕ → List ProofReading
-witnessProofs s = proofsOf s (proofCountOf s) 16
+witnessProofs s = proofsOf s (proofCountOf s) witnessHeaderLength
 
 unfoldable pub witnessReading : List ℕ → WitnessReading
 witnessReading s =

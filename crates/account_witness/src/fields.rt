@@ -14,7 +14,7 @@ use octets::u64_at;
 ghost use mathlib.Core.Path.{_≡_};
 ghost use Prim.Native.Nat.{_+_, _≤_};
 ghost use lib.ListN.{length};
-ghost use Rattle.account_witness.specs.Fields.{witnessMagicOf, witnessVersionOf, operationOf, proofCountOf, witnessReservedOf, witnessSequenceOf, proofSlotAt, proofReservedAt, proofLengthAt};
+ghost use Rattle.account_witness.specs.Fields.{witnessMagicOf, witnessVersionOf, operationOf, proofCountOf, witnessReservedOf, witnessSequenceOf, proofSlotAt, proofReservedAt, proofLengthAt, proofHeaderLength};
 
 pub(crate) fn witness_magic_of(witness: &[u8]) -> u32
     ensures { λ r. ⌜ r ≡ witnessMagicOf (now (witness .entry)) ⌝ }
@@ -60,14 +60,14 @@ pub(crate) fn proof_slot_at(witness: &[u8], offset: usize) -> u16
 }
 
 pub(crate) fn proof_reserved_at(witness: &[u8], offset: usize) -> u16
-    requires { ⌜ offset + 8 ≤ length (now witness) ⌝ }
+    requires { ⌜ offset + proofHeaderLength ≤ length (now witness) ⌝ }
     ensures { λ r. ⌜ r ≡ proofReservedAt (now (witness .entry)) offset ⌝ }
 {
     u16_at(witness, offset + PROOF_RESERVED_OFFSET)
 }
 
 pub(crate) fn proof_length_at(witness: &[u8], offset: usize) -> u32
-    requires { ⌜ offset + 8 ≤ length (now witness) ⌝ }
+    requires { ⌜ offset + proofHeaderLength ≤ length (now witness) ⌝ }
     ensures { λ r. ⌜ r ≡ proofLengthAt (now (witness .entry)) offset ⌝ }
 {
     u32_at(witness, offset + PROOF_LENGTH_OFFSET)

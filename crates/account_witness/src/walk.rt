@@ -11,6 +11,7 @@ ghost use mathlib.Core.Path.{_≡_};
 ghost use Prim.Native.Nat.{_+_, _≤_};
 ghost use lib.ListN.{length};
 ghost use Rattle.protocol.specs.Rows.{decide};
+ghost use Rattle.account_witness.specs.Fields.{witnessHeaderLength, proofHeaderLength};
 ghost use Rattle.account_witness.specs.Walk.{proofLayoutRows, proofStep, firstProof, proofsLayoutRows};
 
 // Where the next proof begins, and the least slot that it may have.
@@ -44,7 +45,7 @@ pub fn first_proof() -> ProofCursor
 
 // The checks of a proof whose first 8 bytes are present.
 fn check_proof(witness: &[u8], offset: usize, least: u32) -> Check
-    requires { ⌜ offset + 8 ≤ length (now witness) ⌝ }
+    requires { ⌜ offset + proofHeaderLength ≤ length (now witness) ⌝ }
     ensures { λ r. ⌜ r ≡ decide Check.Passed (proofLayoutRows (now (witness .entry)) offset least) ⌝ }
 {
     let invalid = ProtocolError::InvalidWitness;
@@ -59,7 +60,7 @@ fn check_proof(witness: &[u8], offset: usize, least: u32) -> Check
 
 // The step at an offset where 8 bytes are present.
 fn step_at(witness: &[u8], offset: usize, least: u32) -> ProofStep
-    requires { ⌜ offset + 8 ≤ length (now witness) ⌝ }
+    requires { ⌜ offset + proofHeaderLength ≤ length (now witness) ⌝ }
     ensures { λ r. ⌜ r ≡ proofStep (now (witness .entry)) (record { offset = offset; least = least }) ⌝ }
 {
     match check_proof(witness, offset, least) {
@@ -91,7 +92,7 @@ pub fn next_proof(witness: &[u8], cursor: ProofCursor) -> ProofStep
 
 // The checks of `count` proofs behind the header, and that no byte follows the last.
 pub(crate) fn check_proofs(witness: &[u8], count: u8) -> Check
-    ensures { λ r. ⌜ r ≡ decide Check.Passed (proofsLayoutRows (now (witness .entry)) count 16 0) ⌝ }
+    ensures { λ r. ⌜ r ≡ decide Check.Passed (proofsLayoutRows (now (witness .entry)) count witnessHeaderLength 0) ⌝ }
 {
     let mut cursor = first_proof();
     let mut left = count;

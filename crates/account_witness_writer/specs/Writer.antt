@@ -12,6 +12,7 @@ use Rattle.protocol.specs.Write.{writeFault, writeAnswer, afterWrite}
 use Rattle.protocol.specs.declared.error.ProtocolError.the-variants.{SlicesDisagree, InvalidOperation, InvalidWitness}
 use Rattle.protocol.specs.declared.check.Check.{Check}
 use Rattle.protocol.specs.declared.check.WriteAnswer.{WriteAnswer}
+use Rattle.account_witness.specs.Fields.{witnessHeaderLength, proofHeaderLength}
 use Rattle.account_witness.specs.Reading.{ProofReading, WitnessReading, WitnessTyped, witnessBytes}
 
 -- the lengths together
@@ -37,7 +38,7 @@ isRising least (slot ∷ slots) = leb least slot && isRising (slot + 1) slots
 
 -- the length of the written form
 abbrev pub witnessTotal : List ℕ → List ℕ → ℕ
-witnessTotal slots bytes = 16 + (8 * length slots + length bytes)
+witnessTotal slots bytes = witnessHeaderLength + (proofHeaderLength * length slots + length bytes)
 
 -- 01, Proof and Witness lock: "length (u32, not 0)", "16 to 131,072 bytes", "slots rise strictly"
 unfoldable pub lentProofRows : List ℕ → List ℕ → List ℕ → List Row

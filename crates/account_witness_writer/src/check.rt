@@ -12,6 +12,7 @@ ghost use Prim.Native.Nat.{_+_, _*_};
 ghost use lib.Dec.{leb, eqb};
 ghost use Rattle.octets.specs.Lists.{every};
 ghost use Rattle.protocol.specs.Rows.{decide};
+ghost use Rattle.account_witness.specs.Fields.{witnessHeaderLength, proofHeaderLength};
 ghost use Rattle.account_witness_writer.specs.Writer.{sum, isRising, lentProofRows, witnessWriterFault};
 
 // Whether the lengths add up to `total`. What is left of it never falls below zero.
@@ -64,7 +65,7 @@ fn all_rising(slots: &[u16]) -> bool
 
 // Whether a witness lock of `count` proofs with `len` bytes in all is at most `limit` long.
 fn total_within(limit: usize, count: usize, len: usize) -> bool
-    ensures { λ r. ⌜ r ≡ leb (16 + (8 * count + len)) limit ⌝ }
+    ensures { λ r. ⌜ r ≡ leb (witnessHeaderLength + (proofHeaderLength * count + len)) limit ⌝ }
 {
     if limit < ACCOUNT_WITNESS_HEADER_LEN {
         return false;

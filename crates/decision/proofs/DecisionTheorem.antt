@@ -10,7 +10,7 @@ use lib.ListN.{length, take}
 use Rattle.protocol.specs.Rows.{AllPass, checkNumber}
 use Rattle.protocol.specs.declared.check.Check.the-variants.{Passed}
 use Rattle.account_witness.specs.Fields.{proofCountOf}
-use Rattle.account_witness.specs.Walk.{proofsLayoutRows}
+use Rattle.account_witness.specs.Walk.{witnessProofRows}
 use Rattle.decision.specs.Proofs.{Context, requestsOf}
 use Rattle.decision.specs.Walk.{proofListOf, walkFrom, walkList, walkLock}
 use Rattle.account_witness.specs.Reading.{witnessProofs}
@@ -19,7 +19,7 @@ use Rattle.decision.proofs.Quorum.{ZeroOr28, walk-zero-or-28, walk-deci
 use Rattle.decision.proofs.Listed.{listed-clean, listed-proofs, listed-rising}
 
 -- where no layout is faulty these are the lock's
-pub listed-witness-proofs : (lock : List ℕ) → AllPass (proofsLayoutRows lock (proofCountOf lock) 16 0) → proofListOf lock .proofs ≡ witnessProofs lock
+pub listed-witness-proofs : (lock : List ℕ) → AllPass (witnessProofRows lock) → proofListOf lock .proofs ≡ witnessProofs lock
 listed-witness-proofs lock h = listed-proofs lock (proofCountOf lock) 16 0 h
 
 pub lock-decides : (c : Context) (lock : List ℕ)

@@ -8,9 +8,8 @@ use mathlib.Core.List.{List, [], _∷_, List·Memᴰ}
 use lib.ListN.{length, getD}
 use Rattle.octets.specs.Lists.{Rising}
 use Rattle.protocol.specs.Rows.{AllPass}
-use Rattle.account_witness.specs.Fields.{proofCountOf}
 use Rattle.account_witness.specs.Reading.{ProofReading, witnessProofs, proofSlots}
-use Rattle.account_witness.specs.Walk.{proofsLayoutRows}
+use Rattle.account_witness.specs.Walk.{witnessProofRows}
 use Rattle.decision.specs.Proofs.{Context, knownSlot, entryFor, capable, proofRows, requestOf}
 use Rattle.decision.specs.Walk.{verdict}
 
@@ -22,7 +21,7 @@ EachPasses c i used (p ∷ ps) =
 
 -- the rows of the proofs, all before the one for 28: each one's layout, "bytes after the last proof", and each one's own
 pub record ProofsPass (c : Context) (lock : List ℕ) : Type 0 where
-  pub layout : AllPass (proofsLayoutRows lock (proofCountOf lock) 16 0)
+  pub layout : AllPass (witnessProofRows lock)
   pub each : EachPasses c 0 0 (witnessProofs lock)
 
 -- 01: "A request is approved where DIGITS has 0 at its proof's place in the witness lock": the slot is one of the current state's,

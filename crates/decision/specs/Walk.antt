@@ -8,7 +8,7 @@ use Rattle.protocol.specs.Rows.{Row, row, decide}
 use Rattle.protocol.specs.declared.error.ProtocolError.the-variants.{InvalidWitness, VerifierFailure, ThresholdUnsatisfied}
 use Rattle.protocol.specs.declared.check.Check.{Check}
 use Rattle.protocol.specs.declared.check.Check.the-variants.{Passed, Failed}
-use Rattle.account_witness.specs.Fields.{proofCountOf, proofSlotAt, proofLengthAt}
+use Rattle.account_witness.specs.Fields.{proofCountOf, witnessHeaderLength, proofSlotAt, proofEndAt}
 use Rattle.account_witness.specs.Reading.{ProofReading, proofOf}
 use Rattle.account_witness.specs.Walk as witness
 use Rattle.scene_table.specs.Places.{verdictAt}
@@ -67,8 +67,8 @@ proofsUntilFault lock zero at least = record { proofs = []; clean = eqb at (leng
 proofsUntilFault lock (suc n) at least =
     unlessFaulty (decide Passed (witness.proofLayoutRows lock at least))
     (record {
-      proofs = proofOf lock at ∷ proofsUntilFault lock n (at + 8 + proofLengthAt lock at) (proofSlotAt lock at + 1) .proofs;
-      clean = proofsUntilFault lock n (at + 8 + proofLengthAt lock at) (proofSlotAt lock at + 1) .clean;
+      proofs = proofOf lock at ∷ proofsUntilFault lock n (proofEndAt lock at) (proofSlotAt lock at + 1) .proofs;
+      clean = proofsUntilFault lock n (proofEndAt lock at) (proofSlotAt lock at + 1) .clean;
     })
 
 unfoldable pub walkList : Context → ProofList → WalkOutcome
@@ -76,7 +76,7 @@ walkList c ps = walkFrom c (ps .clean) 0 0 [] (ps .proofs)
 
 -- those of a witness lock
 abbrev pub proofListOf : List ℕ → ProofList
-proofListOf lock = proofsUntilFault lock (proofCountOf lock) 16 0
+proofListOf lock = proofsUntilFault lock (proofCountOf lock) witnessHeaderLength 0
 
 -- the walk over them
 unfoldable pub walkLock : Context → List ℕ → WalkOutcome
