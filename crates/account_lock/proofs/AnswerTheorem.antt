@@ -24,7 +24,7 @@ use Rattle.decision.specs.Proofs.{contextFor}
 use Rattle.decision.specs.Walk.{answered}
 use Rattle.decision.specs.Requests.{ContextFits}
 use Rattle.decision.proofs.DecisionTheorem.{lock-answers}
-use Rattle.decision.proofs.RequestsRead.{state-fits, lock-requests-read}
+use Rattle.decision.proofs.RequestsRead.{state-context-fits, lock-requests-read}
 use Rattle.account_lock.specs.Lock.{witnessLock, current, digest, contextOf, Result, walked, walkResult, lockOf}
 use Rattle.account_lock.specs.Decides.{EarlierPass, Answers}
 use Rattle.account_lock.proofs.LockTheorem.{state-passes}
@@ -57,7 +57,7 @@ module _ (table store before : List ℕ) (b : Bytes store) (pass : EarlierPass t
 
   setting-fits : ContextFits (contextOf (sceneIn table store) (length before))
   unfolding contextOf digest digestOf
-  setting-fits = state-fits (current (sceneIn table store)) _ _ _ _ _ (current-bytes table store b) (state-passes (sceneIn table store) (pass .early)) (length-hash _)
+  setting-fits = state-context-fits (current (sceneIn table store)) _ _ _ _ _ (current-bytes table store b) (state-passes (sceneIn table store) (pass .early)) (length-hash _)
 
   pub lock-answer : Answers table store before
   unfolding walkResult walked answered contextOf contextFor

@@ -25,7 +25,8 @@ use Rattle.state_transition.specs.Resolve.{resolveRows, stateSince}
 use Rattle.state_transition.specs.Transition.{dataRows, currentRows, successorRows, recoveryRows, successionRows, transitionRows}
 use Rattle.decision.specs.Proofs.{thresholdOf, contextFor}
 use Rattle.decision.specs.Walk.{walkLock, answered}
-use Rattle.decision.specs.Decision.{ProofsPass, Quorum, proofsOf}
+use Rattle.account_witness.specs.Reading.{witnessProofs}
+use Rattle.decision.specs.Decision.{ProofsPass, Quorum}
 use Rattle.decision.proofs.DecisionTheorem.{lock-decides}
 use Rattle.account_lock.specs.Lock.{scriptRows, account, operation, witnessLock, witnessSequence, current, successor, statesRows, lateRows, earlyRows, contextOf, digest, Result, refused, walked, orWalked, walkResult, lockScene, lockOf, answerOf}
 use Rattle.account_lock.specs.declared.answer.LockAnswer.{LockAnswer}

@@ -30,7 +30,7 @@ use Rattle.group_sighash.specs.Witnesses.{countRows, firstWitnessRows, groupRow
 use Rattle.state_transition.specs.Resolve as resolve
 use Rattle.state_transition.specs.Transition as transition
 use Rattle.decision.specs.Proofs.{Context, requestLimitRows, authenticatorRows, proofRows, requestOf}
-use Rattle.decision.specs.Walk.{WalkOutcome, walkOutcome, verdict, approvedWeight, lastRows, orElse, walk, walkList, walkLock}
+use Rattle.decision.specs.Walk.{WalkOutcome, walkOutcome, verdict, approvedWeight, lastRows, unlessFailed, walkFrom, walkList, walkLock}
 use Rattle.account_lock.specs.Lock as lock
 use Rattle.account_lock.specs.Decides.{LockNumber}
 
@@ -170,15 +170,15 @@ end-refusal clean weight threshold =
 
 -- one proof, and those behind it
 walk-refusal : (c : Context) (clean : Bool) (i weight : ℕ) (made : List ℕ) (ps : List ProofReading)
-    → Refuses LockRefusal (walk c clean i weight made ps .found)
-unfolding walk orElse
+    → Refuses LockRefusal (walkFrom c clean i weight made ps .found)
+unfolding walkFrom unlessFailed
 walk-refusal c clean i weight made [] = each-refuses LockRefusal _ (end-refusal clean weight (c .threshold))
 walk-refusal c clean i weight made (p ∷ ps) =
     go (decide Passed (proofRows c (length made) p)) (each-refuses LockRefusal _ (proof-refusal c (length made) p)) (eqb (verdict c i) 2)
-    (walk c clean (i + 1) (weight + approvedWeight c i p) (made ++ requestOf c p) ps) (walk-refusal c clean (i + 1) _ _ ps)
+    (walkFrom c clean (i + 1) (weight + approvedWeight c i p) (made ++ requestOf c p) ps) (walk-refusal c clean (i + 1) _ _ ps)
   where
     go : (k : Check) → Refuses LockRefusal k → (b : Bool) (onward : WalkOutcome) → Refuses LockRefusal (onward .found)
-        → Refuses LockRefusal (orElse k i made (cond b (walkOutcome (Failed VerifierFailure) (i + 1) (made ++ requestOf c p)) onward) .found)
+        → Refuses LockRefusal (unlessFailed k i made (cond b (walkOutcome (Failed VerifierFailure) (i + 1) (made ++ requestOf c p)) onward) .found)
     go (Failed e) h b onward f = h
     go Passed h true onward f = original-refusal VerifierFailure (search arith)
     go Passed h false onward f = f

@@ -16,7 +16,8 @@ use Rattle.account_state.specs.Fields.{sequenceOf}
 use Rattle.decision.specs.Proofs.{requestsOf}
 use Rattle.decision.specs.Walk.{answered}
 use Rattle.decision.specs.Requests.{RequestsRead}
-use Rattle.decision.specs.Decision.{ProofsPass, Quorum, proofsOf}
+use Rattle.account_witness.specs.Reading.{witnessProofs}
+use Rattle.decision.specs.Decision.{ProofsPass, Quorum}
 use Rattle.account_lock.specs.Lock.{account, operation, witnessLock, current, earlyRows, contextOf, lockOf}
 
 -- 01: "Earlier checks are its rows before the one for 28."
@@ -28,18 +29,18 @@ pub record EarlierPass (table store : List ℕ) (room : ℕ) : Type 0 where
 -- a quorum of the account's current state among the proofs of the witness lock
 abbrev pub LockQuorum : List ℕ → List ℕ → ℕ → Type 0
 LockQuorum table store room =
-    Quorum (contextOf (sceneIn table store) room) (proofsOf (witnessLock (sceneIn table store)))
+    Quorum (contextOf (sceneIn table store) room) (witnessProofs (witnessLock (sceneIn table store)))
 
 -- what stands in the answer where every earlier row passes; 01: "Each request is written into the rest of the answer buffer, behind
 -- the last one. Bytes after that total are unchanged."
 pub record Answers (table store before : List ℕ) : Type 0 where
   -- one request for each proof, in order, and the old bytes behind them
-  pub count : lockOf table store (length before) .count ≡ length (proofsOf (witnessLock (sceneIn table store)))
+  pub count : lockOf table store (length before) .count ≡ length (witnessProofs (witnessLock (sceneIn table store)))
   pub buffer : answered before (lockOf table store (length before) .made)
-      ≡ requestsOf (contextOf (sceneIn table store) (length before)) (proofsOf (witnessLock (sceneIn table store)))
-      ++ drop (length (requestsOf (contextOf (sceneIn table store) (length before)) (proofsOf (witnessLock (sceneIn table store))))) before
+      ≡ requestsOf (contextOf (sceneIn table store) (length before)) (witnessProofs (witnessLock (sceneIn table store)))
+      ++ drop (length (requestsOf (contextOf (sceneIn table store) (length before)) (witnessProofs (witnessLock (sceneIn table store))))) before
   -- the request reader reads each as what it was made from
-  pub read : RequestsRead (contextOf (sceneIn table store) (length before)) (proofsOf (witnessLock (sceneIn table store)))
+  pub read : RequestsRead (contextOf (sceneIn table store) (length before)) (witnessProofs (witnessLock (sceneIn table store)))
   -- and the digest in each is the lock's
   pub carried : contextOf (sceneIn table store) (length before) .digest ≡ lockOf table store (length before) .digest
   -- the digest is reached, and is CKB's hash of document 01's input

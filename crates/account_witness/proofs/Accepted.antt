@@ -22,7 +22,7 @@ use Rattle.account_witness.specs.declared.walk.ProofStep.{ProofStep}
 use Rattle.account_witness.specs.declared.walk.ProofStep.the-variants as step
 use Rattle.account_witness.specs.declared.witness.WitnessAnswer.{WitnessAnswer}
 use Rattle.account_witness.specs.declared.witness.WitnessAnswer.the-variants as witness
-use Rattle.account_witness.specs.Header.{witnessHeaderRows, witnessHeaderFault, witnessHeaderOf, witnessHeaderAnswer, readWitnessHeader}
+use Rattle.account_witness.specs.Header.{witnessHeaderRows, witnessHeaderOf, witnessHeaderAnswer, readWitnessHeader}
 use Rattle.account_witness.specs.Walk.{proofLayoutRows, proofAt, proofCursorBehind, proofStep, proofStepAnswer, proofsLayoutRows}
 use Rattle.account_witness.specs.Witness.{witnessRows, witnessFault, witnessAnswer, readWitness}
 
@@ -49,76 +49,76 @@ unfolding witnessRows
 witness-only s = each-append Is22 (witnessHeaderRows s) _ (header-only s) (refl, proofs-only s (proofCountOf s) 16 0)
 
 -- the header: what the checks found, by the answer
-abbrev pub headerFound : WitnessHeaderAnswer → Check
-headerFound (header.Header h) = Passed
-headerFound (header.Refused e) = Failed e
+abbrev pub witnessHeaderFound : WitnessHeaderAnswer → Check
+witnessHeaderFound (header.Header h) = Passed
+witnessHeaderFound (header.Refused e) = Failed e
 
 -- which is what it was made from
-header-back : (h : AccountWitnessHeader) (k : Check) → headerFound (witnessHeaderAnswer k h) ≡ k
+witness-header-found-back : (h : AccountWitnessHeader) (k : Check) → witnessHeaderFound (witnessHeaderAnswer k h) ≡ k
 unfolding witnessHeaderAnswer
-header-back h Passed = refl
-header-back h (Failed e) = refl
+witness-header-found-back h Passed = refl
+witness-header-found-back h (Failed e) = refl
 
 -- so the reader's answer tells what the rows find
-pub header-found : (s : List ℕ) → headerFound (readWitnessHeader s) ≡ decide Passed (witnessHeaderRows s)
-unfolding readWitnessHeader witnessHeaderFault
-header-found s = header-back (witnessHeaderOf s) (decide Passed (witnessHeaderRows s))
+pub witness-header-found : (s : List ℕ) → witnessHeaderFound (readWitnessHeader s) ≡ decide Passed (witnessHeaderRows s)
+unfolding readWitnessHeader
+witness-header-found s = witness-header-found-back (witnessHeaderOf s) (decide Passed (witnessHeaderRows s))
 
 -- accepted exactly where every row passes
 pub witness-header-accepts : (s : List ℕ) → (readWitnessHeader s ≡ header.Header (witnessHeaderOf s)) ↔ AllPass (witnessHeaderRows s)
-unfolding readWitnessHeader witnessHeaderFault witnessHeaderAnswer
-witness-header-accepts s = answer-accepts (λ k. witnessHeaderAnswer k (witnessHeaderOf s)) headerFound (header-back (witnessHeaderOf s)) (witnessHeaderRows s)
+unfolding readWitnessHeader witnessHeaderAnswer
+witness-header-accepts s = answer-accepts (λ k. witnessHeaderAnswer k (witnessHeaderOf s)) witnessHeaderFound (witness-header-found-back (witnessHeaderOf s)) (witnessHeaderRows s)
 
 -- refused exactly with the first that fails,
 pub witness-header-refuses : (s : List ℕ) (e : ProtocolError) → (readWitnessHeader s ≡ header.Refused e) ↔ FirstFailed (witnessHeaderRows s) e
-unfolding readWitnessHeader witnessHeaderFault witnessHeaderAnswer
-witness-header-refuses s e = answer-refuses (λ k. witnessHeaderAnswer k (witnessHeaderOf s)) headerFound (header-back (witnessHeaderOf s)) (witnessHeaderRows s) e
+unfolding readWitnessHeader witnessHeaderAnswer
+witness-header-refuses s e = answer-refuses (λ k. witnessHeaderAnswer k (witnessHeaderOf s)) witnessHeaderFound (witness-header-found-back (witnessHeaderOf s)) (witnessHeaderRows s) e
 
 -- which is 22
-pub header-22 : (s : List ℕ) (e : ProtocolError) → readWitnessHeader s ≡ header.Refused e → errorNumber e ≡ 22
-unfolding readWitnessHeader witnessHeaderFault witnessHeaderAnswer
-header-22 s e h =
-    each-failed Is22 (witnessHeaderRows s) e (header-only s) (answer-found (λ k. witnessHeaderAnswer k (witnessHeaderOf s)) headerFound (header-back (witnessHeaderOf s)) _ (Failed e) h)
+pub witness-header-22 : (s : List ℕ) (e : ProtocolError) → readWitnessHeader s ≡ header.Refused e → errorNumber e ≡ 22
+unfolding readWitnessHeader witnessHeaderAnswer
+witness-header-22 s e h =
+    each-failed Is22 (witnessHeaderRows s) e (header-only s) (answer-found (λ k. witnessHeaderAnswer k (witnessHeaderOf s)) witnessHeaderFound (witness-header-found-back (witnessHeaderOf s)) _ (Failed e) h)
 
 -- a header that is given is the one at the front of the bytes
-pub header-answered : (s : List ℕ) (h : AccountWitnessHeader) → readWitnessHeader s ≡ header.Header h → AllPass (witnessHeaderRows s) × (witnessHeaderOf s ≡ h)
-unfolding readWitnessHeader witnessHeaderFault witnessHeaderAnswer
-header-answered s h e =
-    let z = answer-given (λ k. witnessHeaderAnswer k (witnessHeaderOf s)) headerFound (header-back (witnessHeaderOf s)) (decide Passed (witnessHeaderRows s)) (header.Header h) e refl in
+pub witness-header-answered : (s : List ℕ) (h : AccountWitnessHeader) → readWitnessHeader s ≡ header.Header h → AllPass (witnessHeaderRows s) × (witnessHeaderOf s ≡ h)
+unfolding readWitnessHeader witnessHeaderAnswer
+witness-header-answered s h e =
+    let z = answer-given (λ k. witnessHeaderAnswer k (witnessHeaderOf s)) witnessHeaderFound (witness-header-found-back (witnessHeaderOf s)) (decide Passed (witnessHeaderRows s)) (header.Header h) e refl in
     let q : header.Header (witnessHeaderOf s) ≡ header.Header h = z .1 in
     (passed-all-pass (witnessHeaderRows s) (z .0), cc)
 
 -- a step, likewise
-abbrev pub stepFound : ProofStep → Check
-stepFound (step.Next p c) = Passed
-stepFound (step.Refused e) = Failed e
+abbrev pub proofStepFound : ProofStep → Check
+proofStepFound (step.Next p c) = Passed
+proofStepFound (step.Refused e) = Failed e
 
 -- which is what it was made from
-pub step-back : (p : Proof) (c : ProofCursor) (k : Check) → stepFound (proofStepAnswer k p c) ≡ k
+pub proof-step-found-back : (p : Proof) (c : ProofCursor) (k : Check) → proofStepFound (proofStepAnswer k p c) ≡ k
 unfolding proofStepAnswer
-step-back p c Passed = refl
-step-back p c (Failed e) = refl
+proof-step-found-back p c Passed = refl
+proof-step-found-back p c (Failed e) = refl
 
 module _ (s : List ℕ) (c : ProofCursor) where
   -- by what its checks found
-  abbrev pub stepBy : Check → ProofStep
-  stepBy k = proofStepAnswer k (proofAt s (c .offset)) (proofCursorBehind s (c .offset))
+  abbrev pub proofStepBy : Check → ProofStep
+  proofStepBy k = proofStepAnswer k (proofAt s (c .offset)) (proofCursorBehind s (c .offset))
 
   -- accepted exactly where every row passes
   pub proof-step-accepts : (proofStep s c ≡ step.Next (proofAt s (c .offset)) (proofCursorBehind s (c .offset))) ↔ AllPass (proofLayoutRows s (c .offset) (c .least))
   unfolding proofStep proofStepAnswer
-  proof-step-accepts = answer-accepts stepBy stepFound (step-back _ _) (proofLayoutRows s (c .offset) (c .least))
+  proof-step-accepts = answer-accepts proofStepBy proofStepFound (proof-step-found-back _ _) (proofLayoutRows s (c .offset) (c .least))
 
   -- refused exactly with the first that fails,
   pub proof-step-refuses : (e : ProtocolError) → (proofStep s c ≡ step.Refused e) ↔ FirstFailed (proofLayoutRows s (c .offset) (c .least)) e
   unfolding proofStep proofStepAnswer
-  proof-step-refuses e = answer-refuses stepBy stepFound (step-back _ _) (proofLayoutRows s (c .offset) (c .least)) e
+  proof-step-refuses e = answer-refuses proofStepBy proofStepFound (proof-step-found-back _ _) (proofLayoutRows s (c .offset) (c .least)) e
 
   -- which is 22
-  pub step-22 : (e : ProtocolError) → proofStep s c ≡ step.Refused e → errorNumber e ≡ 22
+  pub proof-step-22 : (e : ProtocolError) → proofStep s c ≡ step.Refused e → errorNumber e ≡ 22
   unfolding proofStep proofStepAnswer
-  step-22 e h =
-      each-failed Is22 (proofLayoutRows s (c .offset) (c .least)) e (proof-only s (c .offset) (c .least)) (answer-found stepBy stepFound (step-back _ _) _ (Failed e) h)
+  proof-step-22 e h =
+      each-failed Is22 (proofLayoutRows s (c .offset) (c .least)) e (proof-only s (c .offset) (c .least)) (answer-found proofStepBy proofStepFound (proof-step-found-back _ _) _ (Failed e) h)
 
 -- the whole, likewise
 abbrev witnessFound : WitnessAnswer → Check
@@ -126,31 +126,31 @@ witnessFound (witness.Witness h) = Passed
 witnessFound (witness.Refused e) = Failed e
 
 -- which is what it was made from
-witness-back : (h : AccountWitnessHeader) (k : Check) → witnessFound (witnessAnswer k h) ≡ k
+witness-found-back : (h : AccountWitnessHeader) (k : Check) → witnessFound (witnessAnswer k h) ≡ k
 unfolding witnessAnswer
-witness-back h Passed = refl
-witness-back h (Failed e) = refl
+witness-found-back h Passed = refl
+witness-found-back h (Failed e) = refl
 
 -- accepted exactly where every row passes
 pub witness-accepts : (s : List ℕ) → (readWitness s ≡ witness.Witness (witnessHeaderOf s)) ↔ AllPass (witnessRows s)
 unfolding readWitness witnessFault witnessAnswer
-witness-accepts s = answer-accepts (λ k. witnessAnswer k (witnessHeaderOf s)) witnessFound (witness-back (witnessHeaderOf s)) (witnessRows s)
+witness-accepts s = answer-accepts (λ k. witnessAnswer k (witnessHeaderOf s)) witnessFound (witness-found-back (witnessHeaderOf s)) (witnessRows s)
 
 -- refused exactly with the first that fails,
 pub witness-refuses : (s : List ℕ) (e : ProtocolError) → (readWitness s ≡ witness.Refused e) ↔ FirstFailed (witnessRows s) e
 unfolding readWitness witnessFault witnessAnswer
-witness-refuses s e = answer-refuses (λ k. witnessAnswer k (witnessHeaderOf s)) witnessFound (witness-back (witnessHeaderOf s)) (witnessRows s) e
+witness-refuses s e = answer-refuses (λ k. witnessAnswer k (witnessHeaderOf s)) witnessFound (witness-found-back (witnessHeaderOf s)) (witnessRows s) e
 
 -- which is 22
 pub witness-22 : (s : List ℕ) (e : ProtocolError) → readWitness s ≡ witness.Refused e → errorNumber e ≡ 22
 unfolding readWitness witnessFault witnessAnswer
 witness-22 s e h =
-    each-failed Is22 (witnessRows s) e (witness-only s) (answer-found (λ k. witnessAnswer k (witnessHeaderOf s)) witnessFound (witness-back (witnessHeaderOf s)) _ (Failed e) h)
+    each-failed Is22 (witnessRows s) e (witness-only s) (answer-found (λ k. witnessAnswer k (witnessHeaderOf s)) witnessFound (witness-found-back (witnessHeaderOf s)) _ (Failed e) h)
 
 -- a header that is given is the one at the front of the bytes
 pub witness-answered : (s : List ℕ) (h : AccountWitnessHeader) → readWitness s ≡ witness.Witness h → AllPass (witnessRows s) × (witnessHeaderOf s ≡ h)
 unfolding readWitness witnessFault witnessAnswer
 witness-answered s h e =
-    let z = answer-given (λ k. witnessAnswer k (witnessHeaderOf s)) witnessFound (witness-back (witnessHeaderOf s)) (decide Passed (witnessRows s)) (witness.Witness h) e refl in
+    let z = answer-given (λ k. witnessAnswer k (witnessHeaderOf s)) witnessFound (witness-found-back (witnessHeaderOf s)) (decide Passed (witnessRows s)) (witness.Witness h) e refl in
     let q : witness.Witness (witnessHeaderOf s) ≡ witness.Witness h = z .1 in
     (passed-all-pass (witnessRows s) (z .0), cc)

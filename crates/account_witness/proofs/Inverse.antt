@@ -20,9 +20,9 @@ use Rattle.protocol.specs.Rows.{AllPass}
 use Rattle.protocol.proofs.AllPass.{all-pass-split}
 use Rattle.account_witness.specs.Fields.{operationOf, proofCountOf, proofLengthAt, proofSlotAt, witnessMagicOf, witnessReservedOf, witnessSequenceOf, witnessVersionOf}
 use Rattle.account_witness.specs.Header.{witnessMagic, witnessHeaderRows, witnessHeaderFields}
-use Rattle.account_witness.specs.Walk.{proofLayoutRows, proofAt, proofsLayoutRows}
+use Rattle.account_witness.specs.Walk.{proofLayoutRows, proofAt, proofsLayoutRows, witnessProofRows}
 use Rattle.account_witness.specs.Witness.{witnessRows}
-use Rattle.account_witness.specs.Reading.{proofFields, proofBytes, proofsBytes, witnessBytes, proofReading, proofReadings, witnessReading, ProofTyped, ProofsTyped, WitnessTyped}
+use Rattle.account_witness.specs.Reading.{proofFields, proofBytes, proofsBytes, witnessBytes, proofGiven, proofsOf, witnessReading, ProofTyped, ProofsTyped, WitnessTyped}
 use Rattle.account_witness.proofs.WalkLaws.{ProofHolds, proof-holds}
 
 -- what the rows of a witness lock say
@@ -34,7 +34,7 @@ pub record WitnessHolds (s : List ℕ) : Type 0 where
   pub operation : isOperation (operationOf s) ≡ true
   pub zeros : witnessReservedOf s ≡ 0
   pub count : proofCountOf s ≤ 16
-  pub proofs : AllPass (proofsLayoutRows s (proofCountOf s) 16 0)
+  pub proofs : AllPass (witnessProofRows s)
 
 pub witness-holds : (s : List ℕ) → AllPass (witnessRows s) → WitnessHolds s
 unfolding witnessRows witnessHeaderRows
@@ -60,30 +60,30 @@ pub proofs-end : (s : List ℕ) (off least : ℕ) → AllPass (proofsLayoutRows 
 unfolding proofsLayoutRows
 proofs-end s off least h = eqb-true _ _ (h .0)
 
-pub length-readings : (s : List ℕ) (n off : ℕ) → length (proofReadings s n off) ≡ n
-unfolding proofReadings
-length-readings s zero off = refl
-length-readings s (suc n) off = ap suc (length-readings s n _)
+pub length-proofs : (s : List ℕ) (n off : ℕ) → length (proofsOf s n off) ≡ n
+unfolding proofsOf
+length-proofs s zero off = refl
+length-proofs s (suc n) off = ap suc (length-proofs s n _)
 
 module _ (s : List ℕ) (b : Bytes s) where
   -- a proof is written back
   proof-back : (off least : ℕ) → ProofHolds s off least
-      → proofBytes (proofReading s (proofAt s off)) ≡ take (8 + proofLengthAt s off) (drop off s)
-  unfolding proofBytes proofFields proofReading proofAt layoutAt
+      → proofBytes (proofGiven s (proofAt s off)) ≡ take (8 + proofLengthAt s off) (drop off s)
+  unfolding proofBytes proofFields proofGiven proofAt layoutAt
   proof-back off least z =
       let n = proofLengthAt s off in
       let i = z .inside in
       let head = rw (z .zeros) at (simp add-assoc at (table-back (2 ∷ 2 ∷ 4 ∷ []) s off b (omega arith))) in
       rw (part-length s (off + 8) n i, head, join s off 8 n (off + 8) refl)
 
-  proof-typed : (off least : ℕ) → ProofHolds s off least → ProofTyped (proofReading s (proofAt s off))
-  unfolding proofReading proofAt
+  proof-typed : (off least : ℕ) → ProofHolds s off least → ProofTyped (proofGiven s (proofAt s off))
+  unfolding proofGiven proofAt
   proof-typed off least z =
       record { slot = number-lt s off 2 b; len = rw (part-length s (off + 8) (proofLengthAt s off) (z .inside)) (number-lt s (off + 4) 4 b) }
 
   -- n proofs are, to the end
-  proofs-back : (n off least : ℕ) → AllPass (proofsLayoutRows s n off least) → take off s ++ proofsBytes (proofReadings s n off) ≡ s
-  unfolding proofReadings proofsBytes joined
+  proofs-back : (n off least : ℕ) → AllPass (proofsLayoutRows s n off least) → take off s ++ proofsBytes (proofsOf s n off) ≡ s
+  unfolding proofsOf proofsBytes joined
   proofs-back zero off least h =
       let e : off ≡ length s = proofs-end s off least h in
       append-nil (take off s) ∙ take-all off s (omega arith)
@@ -91,23 +91,23 @@ module _ (s : List ℕ) (b : Bytes s) where
       let z = proofs-split s n off least h in
       rw (proof-back off least (z .0), ← append-assoc, ← take-add off (8 + proofLengthAt s off) s, ← add-assoc) (proofs-back n _ _ (z .1))
 
-  proofs-typed : (n off least : ℕ) → AllPass (proofsLayoutRows s n off least) → ProofsTyped (proofReadings s n off)
-  unfolding proofReadings
+  proofs-typed : (n off least : ℕ) → AllPass (proofsLayoutRows s n off least) → ProofsTyped (proofsOf s n off)
+  unfolding proofsOf
   proofs-typed zero off least h = tt
   proofs-typed (suc n) off least h =
       let z = proofs-split s n off least h in
       (proof-typed off least (z .0), proofs-typed n _ _ (z .1))
 
-  header-back : WitnessHolds s → layoutBytes (witnessHeaderFields (operationOf s) (proofCountOf s) (witnessSequenceOf s)) ≡ take 16 s
+  witness-header-back : WitnessHolds s → layoutBytes (witnessHeaderFields (operationOf s) (proofCountOf s) (witnessSequenceOf s)) ≡ take 16 s
   unfolding witnessHeaderFields layoutAt
-  header-back z = rw (z .magic, z .version, z .zeros) at (table-back (4 ∷ 1 ∷ 1 ∷ 1 ∷ 1 ∷ 8 ∷ []) s 0 b (z .present))
+  witness-header-back z = rw (z .magic, z .version, z .zeros) at (table-back (4 ∷ 1 ∷ 1 ∷ 1 ∷ 1 ∷ 8 ∷ []) s 0 b (z .present))
 
   -- the whole is
   pub witness-back : AllPass (witnessRows s) → witnessBytes (witnessReading s) ≡ s
   unfolding witnessBytes witnessReading
   witness-back h =
       let z = witness-holds s h in
-      rw (length-readings s (proofCountOf s) 16, header-back z) (proofs-back (proofCountOf s) 16 0 (z .proofs))
+      rw (length-proofs s (proofCountOf s) 16, witness-header-back z) (proofs-back (proofCountOf s) 16 0 (z .proofs))
 
   pub witness-typed : AllPass (witnessRows s) → WitnessTyped (witnessReading s)
   unfolding witnessReading
@@ -115,6 +115,6 @@ module _ (s : List ℕ) (b : Bytes s) where
       record {
         operation = number-lt s 5 1 b;
         sequence = number-lt s 8 8 b;
-        count = rw (length-readings s (proofCountOf s) 16) (number-lt s 6 1 b);
+        count = rw (length-proofs s (proofCountOf s) 16) (number-lt s 6 1 b);
         proofs = proofs-typed (proofCountOf s) 16 0 (witness-holds s h .proofs);
       }

@@ -1,7 +1,7 @@
 pub mod WalkLaws
-pub mod Whole
+pub mod WitnessParts
 pub mod Accepted
 pub mod Inverse
 pub mod Unique
 pub mod Steps
-pub mod Theorem
+pub mod OneReading

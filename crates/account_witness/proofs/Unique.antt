@@ -13,7 +13,7 @@ use Rattle.octets.proofs.Parts.{part-back}
 use Rattle.account_witness.specs.Fields.{operationOf, proofCountOf, proofLengthAt, proofSlotAt, witnessSequenceOf}
 use Rattle.account_witness.specs.Header.{witnessHeaderFields}
 use Rattle.account_witness.specs.Walk.{proofAt}
-use Rattle.account_witness.specs.Reading.{ProofReading, WitnessReading, proofFields, proofBytes, proofsBytes, witnessBytes, proofReading, proofReadings, witnessReading, ProofTyped, ProofsTyped, WitnessTyped}
+use Rattle.account_witness.specs.Reading.{ProofReading, WitnessReading, proofFields, proofBytes, proofsBytes, witnessHead, witnessBytes, proofGiven, proofsOf, witnessReading, ProofTyped, ProofsTyped, WitnessTyped}
 
 -- the length of a proof's written form
 pub length-proof : (p : ProofReading) → length (proofBytes p) ≡ 8 + length (p .bytes)
@@ -37,16 +37,16 @@ module _ (s p t : List ℕ) (off : ℕ) (q : ProofReading) (y : ProofTyped q) (e
       let n : length h ≡ 8 = length-numbers (proofFields (q .slot) (length (q .bytes))) in
       part-back s (p ++ h) (q .bytes) t (off + 8) _ (e ∙ simp append-assoc) (rw (length-append p h, l, n)) refl
 
-  proof-read : proofReading s (proofAt s off) ≡ q
-  unfolding proofReading proofAt proofFields layoutAt
+  proof-read : proofGiven s (proofAt s off) ≡ q
+  unfolding proofGiven proofAt proofFields layoutAt
   proof-read =
       let v : proofSlotAt s off ≡ q .slot = ap (fieldValue 0) table-read in
       rw (v, len-read, bytes-read)
 
 -- proofs one behind another
 proofs-read : (qs : List ProofReading) (s p t : List ℕ) (off : ℕ) → ProofsTyped qs → s ≡ p ++ (proofsBytes qs ++ t) → length p ≡ off
-    → proofReadings s (length qs) off ≡ qs
-unfolding proofReadings proofsBytes joined
+    → proofsOf s (length qs) off ≡ qs
+unfolding proofsOf proofsBytes joined
 proofs-read [] s p t off y e l = refl
 proofs-read (q ∷ qs) s p t off y e l =
     let e₁ : s ≡ p ++ (proofBytes q ++ (proofsBytes qs ++ t)) = e ∙ simp append-assoc in
@@ -57,16 +57,16 @@ proofs-read (q ∷ qs) s p t off y e l =
 
 -- the header
 pub header-read : (r : WitnessReading) → WitnessTyped r
-    → layoutAt (4 ∷ 1 ∷ 1 ∷ 1 ∷ 1 ∷ 8 ∷ []) (witnessBytes r) 0 ≡ witnessHeaderFields (r .operation) (length (r .proofs)) (r .sequence)
+    → layoutAt (4 ∷ 1 ∷ 1 ∷ 1 ∷ 1 ∷ 8 ∷ []) (witnessBytes r) 0 ≡ witnessHead r
 unfolding witnessBytes witnessHeaderFields
 header-read r y =
-    numbers-back (witnessHeaderFields (r .operation) (length (r .proofs)) (r .sequence)) (witnessBytes r) [] (proofsBytes (r .proofs)) 0 (omega arith) refl refl
+    numbers-back (witnessHead r) (witnessBytes r) [] (proofsBytes (r .proofs)) 0 (omega arith) refl refl
 
 -- the whole
 pub witness-read : (r : WitnessReading) → WitnessTyped r → witnessReading (witnessBytes r) ≡ r
 unfolding witnessReading witnessBytes witnessHeaderFields layoutAt
 witness-read r y =
-    let t = witnessHeaderFields (r .operation) (length (r .proofs)) (r .sequence) in
+    let t = witnessHead r in
     let s = witnessBytes r in
     let h = header-read r y in
     let e₁ : operationOf s ≡ r .operation = ap (fieldValue 2) h in

@@ -11,7 +11,6 @@ use lib.ListN.{length}
 use Rattle.protocol.specs.Rows.{row, _▷_, decide, AllPass}
 use Rattle.protocol.specs.declared.error.ProtocolError.{ProtocolError}
 use Rattle.protocol.specs.declared.error.ProtocolError.the-variants.{InvalidWitness}
-use Rattle.protocol.specs.declared.check.Check.{Check}
 use Rattle.protocol.specs.declared.check.Check.the-variants.{Passed, Failed}
 use Rattle.protocol.proofs.AllPass.{decide-append, decide-failed}
 use Rattle.protocol.proofs.Answers.{answer-found, answer-given}
@@ -20,7 +19,7 @@ use Rattle.account_witness.specs.declared.walk.Proof.{Proof}
 use Rattle.account_witness.specs.declared.walk.ProofCursor.{ProofCursor}
 use Rattle.account_witness.specs.declared.walk.ProofStep.the-variants.{Next, Refused}
 use Rattle.account_witness.specs.Walk.{proofLayoutRows, proofAt, proofCursorBehind, proofStepAnswer, proofStep, proofsLayoutRows}
-use Rattle.account_witness.proofs.Accepted.{stepFound, step-back, stepBy}
+use Rattle.account_witness.proofs.Accepted.{proofStepFound, proof-step-found-back, proofStepBy}
 
 -- a row that passes decides nothing
 pub row-passed : (b : Bool) (e : ProtocolError) → b ≡ true → Passed ▷ row b e ≡ Passed
@@ -45,19 +44,19 @@ proof-holds s off least h =
     }
 
 -- a step that goes on: every row of the proof passed, and the cursor is behind it
-pub step-next : (s : List ℕ) (c : ProofCursor) (p : Proof) (d : ProofCursor) → proofStep s c ≡ Next p d
+pub proof-step-next : (s : List ℕ) (c : ProofCursor) (p : Proof) (d : ProofCursor) → proofStep s c ≡ Next p d
     → (decide Passed (proofLayoutRows s (c .offset) (c .least)) ≡ Passed) × (proofAt s (c .offset) ≡ p) × (proofCursorBehind s (c .offset) ≡ d)
 unfolding proofStep proofStepAnswer
-step-next s c p d h =
-    let z = answer-given (stepBy s c) stepFound (step-back _ _) (decide Passed (proofLayoutRows s (c .offset) (c .least))) (Next p d) h refl in
+proof-step-next s c p d h =
+    let z = answer-given (proofStepBy s c) proofStepFound (proof-step-found-back _ _) (decide Passed (proofLayoutRows s (c .offset) (c .least))) (Next p d) h refl in
     let e : Next (proofAt s (c .offset)) (proofCursorBehind s (c .offset)) ≡ Next p d = z .1 in
     (z .0, cc, cc)
 
 -- a step that does not: the refusal of the rows
-pub step-refused : (s : List ℕ) (c : ProofCursor) (e : ProtocolError) → proofStep s c ≡ Refused e
+pub proof-step-refused : (s : List ℕ) (c : ProofCursor) (e : ProtocolError) → proofStep s c ≡ Refused e
     → decide Passed (proofLayoutRows s (c .offset) (c .least)) ≡ Failed e
 unfolding proofStep proofStepAnswer
-step-refused s c e h = answer-found (stepBy s c) stepFound (step-back _ _) _ (Failed e) h
+proof-step-refused s c e h = answer-found (proofStepBy s c) proofStepFound (proof-step-found-back _ _) _ (Failed e) h
 
 -- a proof's rows, and then those of the proofs behind it
 pub walk-more : (s : List ℕ) (left off least : ℕ) → 0 < left
@@ -73,14 +72,14 @@ pub walk-next : (s : List ℕ) (left : ℕ) (c d : ProofCursor) (p : Proof) → 
     → decide Passed (proofsLayoutRows s left (c .offset) (c .least)) ≡ decide Passed (proofsLayoutRows s (left - 1) (d .offset) (d .least))
 unfolding proofCursorBehind
 walk-next s left c d p l h =
-    let z = step-next s c p d h in
+    let z = proof-step-next s c p d h in
     walk-more s left (c .offset) (c .least) l ∙ rw (z .0, ← z .2)
 
 -- a step that is refused decides
 pub walk-refused : (s : List ℕ) (left : ℕ) (c : ProofCursor) (e : ProtocolError) → 0 < left → proofStep s c ≡ Refused e
     → decide Passed (proofsLayoutRows s left (c .offset) (c .least)) ≡ Failed e
 walk-refused s left c e l h =
-    walk-more s left (c .offset) (c .least) l ∙ rw (step-refused s c e h) (decide-failed _ e)
+    walk-more s left (c .offset) (c .least) l ∙ rw (proof-step-refused s c e h) (decide-failed _ e)
 
 -- behind the last proof the end is left
 pub walk-none : (s : List ℕ) (left off least : ℕ) → left ≡ 0

@@ -22,6 +22,10 @@ witnessReservedOf s = numberAt s 7 1
 abbrev pub witnessSequenceOf : List ℕ → ℕ
 witnessSequenceOf s = numberAt s 8 8
 
+-- the header's length: the proofs follow it
+abbrev pub witnessHeaderLength : ℕ
+witnessHeaderLength = 16
+
 -- 01, Proof: "slot (u16), two zero bytes, length (u32, not 0), bytes", of the proof at `off`
 abbrev pub proofSlotAt : List ℕ → ℕ → ℕ
 proofSlotAt s off = numberAt s off 2
@@ -31,3 +35,11 @@ proofReservedAt s off = numberAt s (off + 2) 2
 
 abbrev pub proofLengthAt : List ℕ → ℕ → ℕ
 proofLengthAt s off = numberAt s (off + 4) 4
+
+-- the length of a proof's slot, zeros and length: its bytes follow them
+abbrev pub proofHeaderLength : ℕ
+proofHeaderLength = 8
+
+-- where the proof at `off` ends, and the next one begins
+abbrev pub proofEndAt : List ℕ → ℕ → ℕ
+proofEndAt s off = off + proofHeaderLength + proofLengthAt s off

@@ -11,7 +11,7 @@ use Rattle.protocol.specs.Rows.{Row, row, decide}
 use Rattle.protocol.specs.declared.error.ProtocolError.the-variants.{InvalidWitness}
 use Rattle.protocol.specs.declared.check.Check.{Check}
 use Rattle.protocol.specs.declared.check.Check.the-variants.{Passed, Failed}
-use Rattle.account_witness.specs.Fields.{witnessMagicOf, witnessVersionOf, operationOf, proofCountOf, witnessReservedOf, witnessSequenceOf}
+use Rattle.account_witness.specs.Fields.{witnessMagicOf, witnessVersionOf, operationOf, proofCountOf, witnessReservedOf, witnessSequenceOf, witnessHeaderLength}
 use Rattle.account_witness.specs.declared.header.AccountWitnessHeader.{AccountWitnessHeader}
 use Rattle.account_witness.specs.declared.header.WitnessHeaderAnswer.{WitnessHeaderAnswer}
 use Rattle.account_witness.specs.declared.header.WitnessHeaderAnswer.the-variants.{Header, Refused}
@@ -22,16 +22,13 @@ witnessMagic = 0x57414b43
 
 unfoldable pub witnessHeaderRows : List ℕ → List Row
 witnessHeaderRows s =
-    row (leb 16 (length s)) InvalidWitness
+    row (leb witnessHeaderLength (length s)) InvalidWitness
     ∷ row (leb (length s) 131072) InvalidWitness
     ∷ row (eqb (witnessMagicOf s) witnessMagic) InvalidWitness
     ∷ row (eqb (witnessVersionOf s) 1) InvalidWitness
     ∷ row (isOperation (operationOf s)) InvalidWitness
     ∷ row (eqb (witnessReservedOf s) 0) InvalidWitness
     ∷ []
-
-unfoldable pub witnessHeaderFault : List ℕ → Check
-witnessHeaderFault s = decide Passed (witnessHeaderRows s)
 
 unfoldable pub witnessHeaderOf : List ℕ → AccountWitnessHeader
 witnessHeaderOf s = record { operation = operationOf s; «proof_count» = proofCountOf s; «state_sequence» = witnessSequenceOf s }
@@ -42,7 +39,7 @@ witnessHeaderAnswer (Failed e) h = Refused e
 
 -- 01: "Counts 17 to 255 pass `parse_witness_header`"
 unfoldable pub readWitnessHeader : List ℕ → WitnessHeaderAnswer
-readWitnessHeader s = witnessHeaderAnswer (witnessHeaderFault s) (witnessHeaderOf s)
+readWitnessHeader s = witnessHeaderAnswer (decide Passed (witnessHeaderRows s)) (witnessHeaderOf s)
 
 -- the layout
 unfoldable pub witnessHeaderFields : ℕ → ℕ → ℕ → List Field

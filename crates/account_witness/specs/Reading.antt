@@ -6,7 +6,7 @@ use mathlib.Core.List.{List, [], _∷_, _++_, map}
 use lib.ListN.{length, take, drop, getD}
 use Rattle.octets.specs.Lists.{joined}
 use Rattle.octets.specs.Layout.{Field, layoutBytes}
-use Rattle.account_witness.specs.Fields.{operationOf, proofCountOf, witnessSequenceOf, proofLengthAt}
+use Rattle.account_witness.specs.Fields.{operationOf, proofCountOf, witnessSequenceOf, witnessHeaderLength, proofEndAt}
 use Rattle.account_witness.specs.declared.header.AccountWitnessHeader.{AccountWitnessHeader}
 use Rattle.account_witness.specs.declared.walk.Proof.{Proof}
 use Rattle.account_witness.specs.declared.walk.ProofStep.the-variants.{Next}
@@ -32,35 +32,52 @@ proofBytes p = layoutBytes (proofFields (p .slot) (length (p .bytes))) ++ p .byt
 unfoldable pub proofsBytes : List ProofReading → List ℕ
 proofsBytes ps = joined (map proofBytes ps)
 
+abbrev pub witnessHead : WitnessReading → List Field
+witnessHead r = witnessHeaderFields (r .operation) (length (r .proofs)) (r .sequence)
+
 unfoldable pub witnessBytes : WitnessReading → List ℕ
-witnessBytes r = layoutBytes (witnessHeaderFields (r .operation) (length (r .proofs)) (r .sequence)) ++ proofsBytes (r .proofs)
+witnessBytes r = layoutBytes (witnessHead r) ++ proofsBytes (r .proofs)
 
--- the reading of s: that of a proof whose place the walk hands out, of n proofs from `off` on, and of the whole
-unfoldable pub proofReading : List ℕ → Proof → ProofReading
-proofReading s p = record { slot = p .slot; bytes = take (p .len) (drop (p .start) s) }
+-- the reading of a proof that a step hands out: its slot, and the bytes at its place; 01: "a place in the input counting as the
+-- bytes there"
+unfoldable pub proofGiven : List ℕ → Proof → ProofReading
+proofGiven s p = record { slot = p .slot; bytes = take (p .len) (drop (p .start) s) }
 
-unfoldable pub proofReadings : List ℕ → ℕ → ℕ → List ProofReading
-proofReadings s zero off = []
-proofReadings s (suc n) off =
-    proofReading s (proofAt s off) ∷ proofReadings s n (off + 8 + proofLengthAt s off)
+-- the proof at `off`
+abbrev pub proofOf : List ℕ → ℕ → ProofReading
+proofOf s off = proofGiven s (proofAt s off)
+
+-- n proofs one behind another, from `off` on
+unfoldable pub proofsOf : List ℕ → ℕ → ℕ → List ProofReading
+proofsOf s zero off = []
+proofsOf s (suc n) off = proofOf s off ∷ proofsOf s n (proofEndAt s off)
+
+-- the proofs of a witness lock
+abbrev pub witnessProofs : List ℕ → List ProofReading
+witnessProofs s = proofsOf s (proofCountOf s) witnessHeaderLength
 
 unfoldable pub witnessReading : List ℕ → WitnessReading
 witnessReading s =
-    record { operation = operationOf s; sequence = witnessSequenceOf s; proofs = proofReadings s (proofCountOf s) 16 }
+    record { operation = operationOf s; sequence = witnessSequenceOf s; proofs = witnessProofs s }
 
--- numbers, lengths and the count fit their fields
+-- the slots of the proofs
+abbrev pub proofSlots : List ProofReading → List ℕ
+proofSlots [] = []
+proofSlots (p ∷ ps) = p .slot ∷ proofSlots ps
+
+-- readings whose fields, lengths and count are values of their types
 pub record ProofTyped (p : ProofReading) : Type 0 where
-  pub slot : p .slot < 256 ^ 2
-  pub len : length (p .bytes) < 256 ^ 4
+  pub slot : p .slot < 2 ^ 16
+  pub len : length (p .bytes) < 2 ^ 32
 
 abbrev pub ProofsTyped : List ProofReading → Type 0
 ProofsTyped [] = Unit {0}
 ProofsTyped (p ∷ ps) = ProofTyped p × ProofsTyped ps
 
 pub record WitnessTyped (r : WitnessReading) : Type 0 where
-  pub operation : r .operation < 256 ^ 1
-  pub sequence : r .sequence < 256 ^ 8
-  pub count : length (r .proofs) < 256 ^ 1
+  pub operation : r .operation < 2 ^ 8
+  pub sequence : r .sequence < 2 ^ 64
+  pub count : length (r .proofs) < 2 ^ 8
   pub proofs : ProofsTyped (r .proofs)
 
 -- the header that a reader gives has the reading's fields and the count of its proofs
@@ -73,7 +90,7 @@ pub record WitnessHeaderGives (s : List ℕ) (h : AccountWitnessHeader) : Type 0
 -- `parse_proofs`: a step per entry."
 pub record ProofStepGives (s : List ℕ) (i : ℕ) : Type 0 where
   pub step : proofStep s (proofCursorAt s i) ≡ Next (proofAt s (proofCursorAt s i .offset)) (proofCursorAt s (suc i))
-  pub reading : (d : ProofReading) → getD (witnessReading s .proofs) i d ≡ proofReading s (proofAt s (proofCursorAt s i .offset))
+  pub reading : (d : ProofReading) → getD (witnessReading s .proofs) i d ≡ proofGiven s (proofAt s (proofCursorAt s i .offset))
 
 -- what the readers hand out of a witness lock, with the header h of its answer, is its reading: the header's fields, and at each step
 -- the next proof; behind the last no byte follows

@@ -12,7 +12,7 @@ use Rattle.account_witness.specs.declared.header.AccountWitnessHeader.{A
 use Rattle.account_witness.specs.declared.witness.WitnessAnswer.{WitnessAnswer}
 use Rattle.account_witness.specs.declared.witness.WitnessAnswer.the-variants.{Witness, Refused}
 use Rattle.account_witness.specs.Header.{witnessHeaderRows, witnessHeaderOf}
-use Rattle.account_witness.specs.Walk.{proofsLayoutRows}
+use Rattle.account_witness.specs.Walk.{witnessProofRows}
 
 -- 01: "Counts 17 to 255 pass `parse_witness_header`; `run` refuses them with 22 before it looks for the state."
 abbrev pub countRow : List ℕ → Row
@@ -20,7 +20,7 @@ countRow s = row (leb (proofCountOf s) 16) InvalidWitness
 
 -- then the proofs
 unfoldable pub witnessRows : List ℕ → List Row
-witnessRows s = witnessHeaderRows s ++ (countRow s ∷ proofsLayoutRows s (proofCountOf s) 16 0)
+witnessRows s = witnessHeaderRows s ++ (countRow s ∷ witnessProofRows s)
 
 unfoldable pub witnessFault : List ℕ → Check
 witnessFault s = decide Passed (witnessRows s)

@@ -1,7 +1,10 @@
 // The header of a witness lock.
-use octets::u8_at;
-use octets::u32_at;
-use octets::u64_at;
+use crate::fields::operation_of;
+use crate::fields::proof_count_of;
+use crate::fields::witness_magic_of;
+use crate::fields::witness_reserved_of;
+use crate::fields::witness_sequence_of;
+use crate::fields::witness_version_of;
 use protocol::ACCOUNT_WITNESS_HEADER_LEN;
 use protocol::ACCOUNT_WITNESS_MAGIC;
 use protocol::ACCOUNT_WITNESS_MAX_LOCK_LEN;
@@ -10,7 +13,8 @@ use protocol::Check;
 use protocol::ProtocolError;
 use protocol::is_operation;
 ghost use mathlib.Core.Path.{_≡_};
-ghost use Rattle.account_witness.specs.Header.{witnessHeaderFault, witnessHeaderOf, readWitnessHeader};
+ghost use Rattle.protocol.specs.Rows.{decide};
+ghost use Rattle.account_witness.specs.Header.{witnessHeaderRows, witnessHeaderOf, readWitnessHeader};
 
 pub struct AccountWitnessHeader {
     pub operation: u8,
@@ -24,16 +28,19 @@ pub enum WitnessHeaderAnswer {
 }
 
 pub(crate) fn check_header(witness: &[u8]) -> Check
-    ensures { λ r. ⌜ r ≡ witnessHeaderFault (now (witness .entry)) ⌝ }
+    ensures { λ r. ⌜ r ≡ decide Check.Passed (witnessHeaderRows (now (witness .entry))) ⌝ }
 {
     let invalid = ProtocolError::InvalidWitness;
     Check::Passed
         .require(ACCOUNT_WITNESS_HEADER_LEN <= witness.len(), invalid)
         .require(witness.len() <= ACCOUNT_WITNESS_MAX_LOCK_LEN, invalid)
-        .require(u32_at(witness, 0) == ACCOUNT_WITNESS_MAGIC, invalid)
-        .require(u8_at(witness, 4) == ACCOUNT_WITNESS_VERSION, invalid)
-        .require(is_operation(u8_at(witness, 5)), invalid)
-        .require(u8_at(witness, 7) == 0, invalid)
+        .require(witness_magic_of(witness) == ACCOUNT_WITNESS_MAGIC, invalid)
+        .require(
+            witness_version_of(witness) == ACCOUNT_WITNESS_VERSION,
+            invalid,
+        )
+        .require(is_operation(operation_of(witness)), invalid)
+        .require(witness_reserved_of(witness) == 0, invalid)
 }
 
 // The fields of a header.
@@ -41,9 +48,9 @@ pub(crate) fn header_at(witness: &[u8]) -> AccountWitnessHeader
     ensures { λ r. ⌜ r ≡ witnessHeaderOf (now (witness .entry)) ⌝ }
 {
     AccountWitnessHeader {
-        operation: u8_at(witness, 5),
-        proof_count: u8_at(witness, 6),
-        state_sequence: u64_at(witness, 8),
+        operation: operation_of(witness),
+        proof_count: proof_count_of(witness),
+        state_sequence: witness_sequence_of(witness),
     }
 }
 

@@ -1,7 +1,9 @@
 // The walk over the proofs of a witness lock, a step for each.
+use crate::fields::proof_length_at;
+use crate::fields::proof_reserved_at;
+use crate::fields::proof_slot_at;
+use crate::offsets::PROOF_HEADER_LEN;
 use octets::fits;
-use octets::u16_at;
-use octets::u32_at;
 use protocol::ACCOUNT_WITNESS_HEADER_LEN;
 use protocol::Check;
 use protocol::ProtocolError;
@@ -9,6 +11,7 @@ ghost use mathlib.Core.Path.{_≡_};
 ghost use Prim.Native.Nat.{_+_, _≤_};
 ghost use lib.ListN.{length};
 ghost use Rattle.protocol.specs.Rows.{decide};
+ghost use Rattle.account_witness.specs.Fields.{witnessHeaderLength, proofHeaderLength};
 ghost use Rattle.account_witness.specs.Walk.{proofLayoutRows, proofStep, firstProof, proofsLayoutRows};
 
 // Where the next proof begins, and the least slot that it may have.
@@ -42,30 +45,30 @@ pub fn first_proof() -> ProofCursor
 
 // The checks of a proof whose first 8 bytes are present.
 fn check_proof(witness: &[u8], offset: usize, least: u32) -> Check
-    requires { ⌜ offset + 8 ≤ length (now witness) ⌝ }
+    requires { ⌜ offset + proofHeaderLength ≤ length (now witness) ⌝ }
     ensures { λ r. ⌜ r ≡ decide Check.Passed (proofLayoutRows (now (witness .entry)) offset least) ⌝ }
 {
     let invalid = ProtocolError::InvalidWitness;
-    let slot = u16_at(witness, offset) as u32;
-    let len = u32_at(witness, offset + 4) as usize;
+    let slot = proof_slot_at(witness, offset) as u32;
+    let len = proof_length_at(witness, offset) as usize;
     Check::Passed
-        .require(u16_at(witness, offset + 2) == 0, invalid)
-        .require(fits(witness.len(), offset + 8, len), invalid)
+        .require(proof_reserved_at(witness, offset) == 0, invalid)
+        .require(fits(witness.len(), offset + PROOF_HEADER_LEN, len), invalid)
         .require(1 <= len, invalid)
         .require(least <= slot, invalid)
 }
 
-// The step at a place where 8 bytes are present.
+// The step at an offset where 8 bytes are present.
 fn step_at(witness: &[u8], offset: usize, least: u32) -> ProofStep
-    requires { ⌜ offset + 8 ≤ length (now witness) ⌝ }
+    requires { ⌜ offset + proofHeaderLength ≤ length (now witness) ⌝ }
     ensures { λ r. ⌜ r ≡ proofStep (now (witness .entry)) (record { offset = offset; least = least }) ⌝ }
 {
     match check_proof(witness, offset, least) {
         Check::Failed(error) => ProofStep::Refused(error),
         Check::Passed => {
-            let slot = u16_at(witness, offset);
-            let start = offset + 8;
-            let len = u32_at(witness, offset + 4) as usize;
+            let slot = proof_slot_at(witness, offset);
+            let start = offset + PROOF_HEADER_LEN;
+            let len = proof_length_at(witness, offset) as usize;
             let proof = Proof { slot, start, len };
             let next = ProofCursor {
                 offset: start + len,
@@ -80,7 +83,7 @@ fn step_at(witness: &[u8], offset: usize, least: u32) -> ProofStep
 pub fn next_proof(witness: &[u8], cursor: ProofCursor) -> ProofStep
     ensures { λ r. ⌜ r ≡ proofStep (now (witness .entry)) cursor ⌝ }
 {
-    if fits(witness.len(), cursor.offset, 8) {
+    if fits(witness.len(), cursor.offset, PROOF_HEADER_LEN) {
         step_at(witness, cursor.offset, cursor.least)
     } else {
         ProofStep::Refused(ProtocolError::InvalidWitness)
@@ -89,7 +92,7 @@ pub fn next_proof(witness: &[u8], cursor: ProofCursor) -> ProofStep
 
 // The checks of `count` proofs behind the header, and that no byte follows the last.
 pub(crate) fn check_proofs(witness: &[u8], count: u8) -> Check
-    ensures { λ r. ⌜ r ≡ decide Check.Passed (proofsLayoutRows (now (witness .entry)) count 16 0) ⌝ }
+    ensures { λ r. ⌜ r ≡ decide Check.Passed (proofsLayoutRows (now (witness .entry)) count witnessHeaderLength 0) ⌝ }
 {
     let mut cursor = first_proof();
     let mut left = count;

@@ -1,9 +1,9 @@
 // The whole witness lock, of at most 16 proofs.
+use crate::fields::proof_count_of;
 use crate::header::AccountWitnessHeader;
 use crate::header::check_header;
 use crate::header::header_at;
 use crate::walk::check_proofs;
-use octets::u8_at;
 use protocol::AUTHENTICATOR_MAX_COUNT;
 use protocol::Check;
 use protocol::ProtocolError;
@@ -18,7 +18,7 @@ pub enum WitnessAnswer {
 fn check_witness(witness: &[u8]) -> Check
     ensures { λ r. ⌜ r ≡ witnessFault (now (witness .entry)) ⌝ }
 {
-    let count = u8_at(witness, 6);
+    let count = proof_count_of(witness);
     check_header(witness)
         .require(
             count as usize <= AUTHENTICATOR_MAX_COUNT,

@@ -1,4 +1,4 @@
-pub mod EncodeLaws
+pub mod WriterLaws
 pub mod Lent
 pub mod Written
-pub mod Theorem
+pub mod WritesBack

@@ -7,8 +7,9 @@ use Prim.Native.Nat.{ℕ, _+_, _≤_}
 use native.Mathlib.Nat.{add-assoc}
 use native.Mathlib.Omega.{arith}
 use borrow.Author.Tests.{leb-true, le-leb, eq-eqb}
+use lib.Dec.{leb}
 use lib.ListN.{length, length-append}
-use Rattle.octets.specs.Lists.{joined}
+use Rattle.octets.specs.Lists.{every, joined}
 use Rattle.octets.specs.Layout.{layoutBytes, layoutAt, fieldValue}
 use Rattle.octets.proofs.Truth.{and-both}
 use Rattle.octets.proofs.LayoutLaws.{length-numbers}
@@ -18,8 +19,8 @@ use Rattle.account_witness.specs.Fields.{operationOf, proofCountOf, proofLength
 use Rattle.account_witness.specs.Header.{witnessHeaderRows, witnessHeaderFields}
 use Rattle.account_witness.specs.Walk.{proofLayoutRows, proofsLayoutRows}
 use Rattle.account_witness.specs.Witness.{witnessRows}
-use Rattle.account_witness.specs.Reading.{ProofReading, WitnessReading, proofFields, proofBytes, proofsBytes, witnessBytes, ProofTyped, ProofsTyped, WitnessTyped}
-use Rattle.account_witness_writer.specs.Encode.{filled, rising, encodeTotal, lentRows, witnessWriterRows, proofSlots, proofLengths, proofsPayload}
+use Rattle.account_witness.specs.Reading.{ProofReading, WitnessReading, proofFields, proofBytes, proofsBytes, witnessHead, witnessBytes, proofSlots, ProofTyped, ProofsTyped, WitnessTyped}
+use Rattle.account_witness_writer.specs.Writer.{isRising, witnessTotal, lentProofRows, witnessWriterRows, proofLengths, proofsPayload}
 use Rattle.account_witness_writer.proofs.Lent.{length-slots, lent-total}
 use Rattle.account_witness.proofs.Unique.{length-proof, table-read, len-read, header-read}
 
@@ -42,8 +43,8 @@ proof-rows s p t off least q y e l some above =
 
 -- proofs one behind another, to the end
 proofs-rows : (qs : List ProofReading) (s p : List ℕ) (off least : ℕ) → ProofsTyped qs → s ≡ p ++ proofsBytes qs → length p ≡ off
-    → filled (proofLengths qs) ≡ true → rising least (proofSlots qs) ≡ true → AllPass (proofsLayoutRows s (length qs) off least)
-unfolding proofsLayoutRows proofsBytes joined filled rising proofLengths proofSlots proofFields layoutAt
+    → every (leb 1) (proofLengths qs) ≡ true → isRising least (proofSlots qs) ≡ true → AllPass (proofsLayoutRows s (length qs) off least)
+unfolding proofsLayoutRows proofsBytes joined every isRising proofLengths proofFields layoutAt
 proofs-rows [] s p off least y e l f g =
     let n : off ≡ length s = sym l ∙ (sym (ap length (append-nil p)) ∙ sym (ap length e)) in
     (eq-eqb _ _ n, tt)
@@ -61,16 +62,16 @@ proofs-rows (q ∷ qs) s p off least y e l f g =
 -- the whole
 pub written-accepted : (r : WitnessReading) → WitnessTyped r
     → AllPass (witnessWriterRows (r .operation) (proofSlots (r .proofs)) (proofLengths (r .proofs)) (proofsPayload (r .proofs))) → AllPass (witnessRows (witnessBytes r))
-unfolding witnessRows witnessHeaderRows witnessWriterRows lentRows witnessBytes witnessHeaderFields layoutAt
+unfolding witnessRows witnessHeaderRows witnessWriterRows lentProofRows witnessBytes witnessHeaderFields layoutAt
 written-accepted r y h =
     let ps = r .proofs in
-    let x = witnessHeaderFields (r .operation) (length ps) (r .sequence) in
+    let x = witnessHead r in
     let s = witnessBytes r in
     let t = header-read r y in
-    let total : encodeTotal (proofSlots ps) (proofsPayload ps) ≡ length s = lent-total r in
+    let total : witnessTotal (proofSlots ps) (proofsPayload ps) ≡ length s = lent-total r in
     let count : proofCountOf s ≡ length ps = ap (fieldValue 3) t in
     let few : length (proofSlots ps) ≤ 16 = leb-true _ _ (h .1 .1 .1 .0) in
-    let most : encodeTotal (proofSlots ps) (proofsPayload ps) ≤ 131072 = leb-true _ _ (h .1 .1 .1 .1 .1 .0) in
+    let most : witnessTotal (proofSlots ps) (proofsPayload ps) ≤ 131072 = leb-true _ _ (h .1 .1 .1 .1 .1 .0) in
     let slots : length (proofSlots ps) ≡ length ps = length-slots ps in
     let a : 16 ≤ length s = omega arith in
     let b : length s ≤ 131072 = omega arith in

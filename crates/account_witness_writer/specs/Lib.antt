@@ -1,1 +1,1 @@
-pub mod Encode
+pub mod Writer

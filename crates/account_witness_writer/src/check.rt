@@ -1,4 +1,5 @@
 // The writer's refusals: slices that disagree, the operation, the proofs, a short buffer.
+use account_witness::PROOF_HEADER_LEN;
 use octets::fits;
 use protocol::ACCOUNT_WITNESS_HEADER_LEN;
 use protocol::ACCOUNT_WITNESS_MAX_LOCK_LEN;
@@ -9,8 +10,10 @@ use protocol::is_operation;
 ghost use mathlib.Core.Path.{_≡_};
 ghost use Prim.Native.Nat.{_+_, _*_};
 ghost use lib.Dec.{leb, eqb};
+ghost use Rattle.octets.specs.Lists.{every};
 ghost use Rattle.protocol.specs.Rows.{decide};
-ghost use Rattle.account_witness_writer.specs.Encode.{sum, filled, rising, lentRows, encodeFault};
+ghost use Rattle.account_witness.specs.Fields.{witnessHeaderLength, proofHeaderLength};
+ghost use Rattle.account_witness_writer.specs.Writer.{sum, isRising, lentProofRows, witnessWriterFault};
 
 // Whether the lengths add up to `total`. What is left of it never falls below zero.
 fn adds_up(lengths: &[u32], total: usize) -> bool
@@ -31,7 +34,7 @@ fn adds_up(lengths: &[u32], total: usize) -> bool
 
 // Whether no proof is empty.
 fn all_filled(lengths: &[u32]) -> bool
-    ensures { λ r. ⌜ r ≡ filled (now (lengths .entry)) ⌝ }
+    ensures { λ r. ⌜ r ≡ every (leb 1) (now (lengths .entry)) ⌝ }
 {
     let mut i: usize = 0;
     while i < lengths.len() {
@@ -45,7 +48,7 @@ fn all_filled(lengths: &[u32]) -> bool
 
 // Whether the slots rise strictly.
 fn all_rising(slots: &[u16]) -> bool
-    ensures { λ r. ⌜ r ≡ rising 0 (now (slots .entry)) ⌝ }
+    ensures { λ r. ⌜ r ≡ isRising 0 (now (slots .entry)) ⌝ }
 {
     let mut least: u32 = 0;
     let mut i: usize = 0;
@@ -62,21 +65,21 @@ fn all_rising(slots: &[u16]) -> bool
 
 // Whether a witness lock of `count` proofs with `len` bytes in all is at most `limit` long.
 fn total_within(limit: usize, count: usize, len: usize) -> bool
-    ensures { λ r. ⌜ r ≡ leb (16 + (8 * count + len)) limit ⌝ }
+    ensures { λ r. ⌜ r ≡ leb (witnessHeaderLength + (proofHeaderLength * count + len)) limit ⌝ }
 {
     if limit < ACCOUNT_WITNESS_HEADER_LEN {
         return false;
     }
     let room = limit - ACCOUNT_WITNESS_HEADER_LEN;
-    if room / 8 < count {
+    if room / PROOF_HEADER_LEN < count {
         return false;
     }
-    fits(room, 8 * count, len)
+    fits(room, PROOF_HEADER_LEN * count, len)
 }
 
 // The checks of the proofs, after what was found before them.
 fn check_lent(before: Check, slots: &[u16], lengths: &[u32], bytes: &[u8]) -> Check
-    ensures { λ r. ⌜ r ≡ decide before (lentRows (now (slots .entry)) (now (lengths .entry)) (now (bytes .entry))) ⌝ }
+    ensures { λ r. ⌜ r ≡ decide before (lentProofRows (now (slots .entry)) (now (lengths .entry)) (now (bytes .entry))) ⌝ }
 {
     let invalid = ProtocolError::InvalidWitness;
     before
@@ -96,7 +99,7 @@ pub(crate) fn check_encode(
     bytes: &[u8],
     room: usize,
 ) -> Check
-    ensures { λ r. ⌜ r ≡ encodeFault operation (now (slots .entry)) (now (lengths .entry)) (now (bytes .entry)) room ⌝ }
+    ensures { λ r. ⌜ r ≡ witnessWriterFault operation (now (slots .entry)) (now (lengths .entry)) (now (bytes .entry)) room ⌝ }
 {
     let disagree = ProtocolError::SlicesDisagree;
     let first = Check::Passed

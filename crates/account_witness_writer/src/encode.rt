@@ -2,11 +2,12 @@
 use crate::check::check_encode;
 use crate::store::store_header;
 use crate::store::store_proofs;
+use account_witness::PROOF_HEADER_LEN;
 use protocol::ACCOUNT_WITNESS_HEADER_LEN;
 use protocol::Check;
 use protocol::WriteAnswer;
 ghost use mathlib.Core.Path.{_≡_};
-ghost use Rattle.account_witness_writer.specs.Encode.{witnessWritten, witnessStored};
+ghost use Rattle.account_witness_writer.specs.Writer.{witnessWritten, witnessStored};
 
 // Writes a witness lock and answers its length. Proof i has the slot slots[i] and the next lengths[i] bytes of `bytes`.
 pub fn encode_witness(
@@ -25,7 +26,9 @@ pub fn encode_witness(
         Check::Passed => {
             store_header(out, operation, slots.len(), sequence);
             store_proofs(out, slots, lengths, bytes);
-            WriteAnswer::Written(ACCOUNT_WITNESS_HEADER_LEN + (8 * slots.len() + bytes.len()))
+            WriteAnswer::Written(
+                ACCOUNT_WITNESS_HEADER_LEN + (PROOF_HEADER_LEN * slots.len() + bytes.len()),
+            )
         }
     }
 }

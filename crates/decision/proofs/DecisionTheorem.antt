@@ -10,38 +10,38 @@ use lib.ListN.{length, take}
 use Rattle.protocol.specs.Rows.{AllPass, checkNumber}
 use Rattle.protocol.specs.declared.check.Check.the-variants.{Passed}
 use Rattle.account_witness.specs.Fields.{proofCountOf}
-use Rattle.account_witness.specs.Walk.{proofsLayoutRows}
+use Rattle.account_witness.specs.Walk.{witnessProofRows}
 use Rattle.decision.specs.Proofs.{Context, requestsOf}
-use Rattle.decision.specs.Walk.{proofListOf, walk, walkList, walkLock}
-use Rattle.decision.specs.Decision.{EachPasses, proofsOf, ProofsPass, Quorum}
-use Rattle.decision.proofs.Quorum.{ZeroOr28, zero-or-28, decision, answers, answers-always}
+use Rattle.decision.specs.Walk.{proofListOf, walkFrom, walkList, walkLock}
+use Rattle.account_witness.specs.Reading.{witnessProofs}
+use Rattle.decision.specs.Decision.{EachPasses, ProofsPass, Quorum}
+use Rattle.decision.proofs.Quorum.{ZeroOr28, walk-zero-or-28, walk-decides, walk-answers, walk-answers-always}
 use Rattle.decision.proofs.Listed.{listed-clean, listed-proofs, listed-rising}
 
 -- where no layout is faulty these are the lock's
-pub listed-of : (lock : List ℕ) → AllPass (proofsLayoutRows lock (proofCountOf lock) 16 0) → proofListOf lock .proofs ≡ proofsOf lock
-unfolding proofsOf
-listed-of lock h = listed-proofs lock (proofCountOf lock) 16 0 h
+pub listed-witness-proofs : (lock : List ℕ) → AllPass (witnessProofRows lock) → proofListOf lock .proofs ≡ witnessProofs lock
+listed-witness-proofs lock h = listed-proofs lock (proofCountOf lock) 16 0 h
 
 pub lock-decides : (c : Context) (lock : List ℕ)
-    → (walkLock c lock .found ≡ Passed) ↔ (ProofsPass c lock × Quorum c (proofsOf lock))
+    → (walkLock c lock .found ≡ Passed) ↔ (ProofsPass c lock × Quorum c (witnessProofs lock))
 unfolding walkLock walkList
 lock-decides c lock = (there, back)
   where
-    decides : (walk c (proofListOf lock .clean) 0 0 [] (proofListOf lock .proofs) .found ≡ Passed)
+    decides : (walkFrom c (proofListOf lock .clean) 0 0 [] (proofListOf lock .proofs) .found ≡ Passed)
         ↔ ((proofListOf lock .clean ≡ true) × EachPasses c 0 0 (proofListOf lock .proofs) × Quorum c (proofListOf lock .proofs))
-    decides = decision c (proofListOf lock .clean) (proofListOf lock .proofs) (listed-rising lock (proofCountOf lock) 16 0)
+    decides = walk-decides c (proofListOf lock .clean) (proofListOf lock .proofs) (listed-rising lock (proofCountOf lock) 16 0)
 
-    back : ProofsPass c lock × Quorum c (proofsOf lock) → walkLock c lock .found ≡ Passed
+    back : ProofsPass c lock × Quorum c (witnessProofs lock) → walkLock c lock .found ≡ Passed
     back h =
         let l = h .0 .layout in
-        let e = listed-of lock l in
+        let e = listed-witness-proofs lock l in
         decides .1 (listed-clean lock (proofCountOf lock) 16 0 .1 l, rw e (h .0 .each), rw e (h .1))
 
-    there : walkLock c lock .found ≡ Passed → ProofsPass c lock × Quorum c (proofsOf lock)
+    there : walkLock c lock .found ≡ Passed → ProofsPass c lock × Quorum c (witnessProofs lock)
     there h =
         let z = decides .0 h in
         let l = listed-clean lock (proofCountOf lock) 16 0 .0 (z .0) in
-        let e = listed-of lock l in
+        let e = listed-witness-proofs lock l in
         (record { layout = l; each = rw e at (z .1) }, rw e at (z .2))
 
 -- its number is 0 or 28 exactly where every row before the one for 28 passes
@@ -49,29 +49,29 @@ pub lock-zero-or-28 : (c : Context) (lock : List ℕ) → ZeroOr28 (checkNumber 
 unfolding walkLock walkList
 lock-zero-or-28 c lock = (there, back)
   where
-    number : ZeroOr28 (checkNumber (walk c (proofListOf lock .clean) 0 0 [] (proofListOf lock .proofs) .found))
+    number : ZeroOr28 (checkNumber (walkFrom c (proofListOf lock .clean) 0 0 [] (proofListOf lock .proofs) .found))
         ↔ ((proofListOf lock .clean ≡ true) × EachPasses c 0 0 (proofListOf lock .proofs))
-    number = zero-or-28 c (proofListOf lock .clean) (proofListOf lock .proofs)
+    number = walk-zero-or-28 c (proofListOf lock .clean) (proofListOf lock .proofs)
 
     there : ZeroOr28 (checkNumber (walkLock c lock .found)) → ProofsPass c lock
     there h =
         let z = number .0 h in
         let l = listed-clean lock (proofCountOf lock) 16 0 .0 (z .0) in
-        record { layout = l; each = rw (listed-of lock l) at (z .1) }
+        record { layout = l; each = rw (listed-witness-proofs lock l) at (z .1) }
 
     back : ProofsPass c lock → ZeroOr28 (checkNumber (walkLock c lock .found))
-    back h = number .1 (listed-clean lock (proofCountOf lock) 16 0 .1 (h .layout), rw (listed-of lock (h .layout)) (h .each))
+    back h = number .1 (listed-clean lock (proofCountOf lock) 16 0 .1 (h .layout), rw (listed-witness-proofs lock (h .layout)) (h .each))
 
 -- where every row before the one for 28 passes: one request for each proof, in order
 pub lock-answers : (c : Context) (lock : List ℕ) → ProofsPass c lock
-    → (walkLock c lock .count ≡ length (proofsOf lock)) × (walkLock c lock .made ≡ requestsOf c (proofsOf lock))
+    → (walkLock c lock .count ≡ length (witnessProofs lock)) × (walkLock c lock .made ≡ requestsOf c (witnessProofs lock))
 unfolding walkLock walkList
 lock-answers c lock h =
-    let e = listed-of lock (h .layout) in
-    rw (← e) (answers c (proofListOf lock .clean) (proofListOf lock .proofs) (rw e (h .each)))
+    let e = listed-witness-proofs lock (h .layout) in
+    rw (← e) (walk-answers c (proofListOf lock .clean) (proofListOf lock .proofs) (rw e (h .each)))
 
 -- and always: the requests of as many proofs as were counted, a failed verdict's too
 pub lock-answers-always : (c : Context) (lock : List ℕ)
     → walkLock c lock .made ≡ requestsOf c (take (walkLock c lock .count) (proofListOf lock .proofs))
 unfolding walkLock walkList
-lock-answers-always c lock = answers-always c (proofListOf lock .clean) (proofListOf lock .proofs)
+lock-answers-always c lock = walk-answers-always c (proofListOf lock .clean) (proofListOf lock .proofs)

@@ -22,29 +22,29 @@ use Rattle.protocol.specs.declared.check.Check.the-variants.{Passed, Failed}
 use Rattle.protocol.proofs.ErrorNumbers.{not-0}
 use Rattle.protocol.proofs.AllPass.{passed-all-pass, all-pass-passed}
 use Rattle.protocol.proofs.Each.{Each, Refuses, each-refuses}
-use Rattle.account_witness.specs.Reading.{ProofReading}
-use Rattle.decision.specs.Proofs.{Context, known, entryFor, capable, requestLimitRows, authenticatorRows, proofRows, requestOf, requestsOf}
-use Rattle.decision.specs.Walk.{WalkOutcome, walkOutcome, verdict, approvedWeight, lastRows, orElse, walk}
-use Rattle.decision.specs.Decision.{slots, EachPasses, Approved, slotsWeight, Quorum}
+use Rattle.account_witness.specs.Reading.{ProofReading, proofSlots}
+use Rattle.decision.specs.Proofs.{Context, knownSlot, entryFor, capable, requestLimitRows, authenticatorRows, proofRows, requestOf, requestsOf}
+use Rattle.decision.specs.Walk.{WalkOutcome, walkOutcome, verdict, approvedWeight, lastRows, unlessFailed, walkFrom}
+use Rattle.decision.specs.Decision.{EachPasses, Approved, slotsWeight, Quorum}
 
 -- The three ways on from a proof.
 module _ (c : Context) (clean : Bool) (i weight : ℕ) (made : List ℕ) (p : ProofReading) (ps : List ProofReading) where
   -- a row refuses it,
   pub walk-stops : (e : ProtocolError) → decide Passed (proofRows c (length made) p) ≡ Failed e
-      → walk c clean i weight made (p ∷ ps) ≡ walkOutcome (Failed e) i made
-  unfolding walk orElse
+      → walkFrom c clean i weight made (p ∷ ps) ≡ walkOutcome (Failed e) i made
+  unfolding walkFrom unlessFailed
   walk-stops e h = rw h
 
   -- its request was made and its verdict is 2,
   pub walk-fails : decide Passed (proofRows c (length made) p) ≡ Passed → verdict c i ≡ 2
-      → walk c clean i weight made (p ∷ ps) ≡ walkOutcome (Failed VerifierFailure) (i + 1) (made ++ requestOf c p)
-  unfolding walk orElse
+      → walkFrom c clean i weight made (p ∷ ps) ≡ walkOutcome (Failed VerifierFailure) (i + 1) (made ++ requestOf c p)
+  unfolding walkFrom unlessFailed
   walk-fails h v = rw (h, eq-eqb (verdict c i) 2 v)
 
   -- or the next proof comes
   pub walk-goes : decide Passed (proofRows c (length made) p) ≡ Passed → verdict c i ≢ 2
-      → walk c clean i weight made (p ∷ ps) ≡ walk c clean (i + 1) (weight + approvedWeight c i p) (made ++ requestOf c p) ps
-  unfolding walk orElse
+      → walkFrom c clean i weight made (p ∷ ps) ≡ walkFrom c clean (i + 1) (weight + approvedWeight c i p) (made ++ requestOf c p) ps
+  unfolding walkFrom unlessFailed
   walk-goes h v = rw (h, ne-eqb (verdict c i) 2 v)
 
 -- ---- which numbers come from behind the last proof
@@ -75,9 +75,9 @@ proof-earlier c used p =
 
 -- A walk that came behind its last proof: each turn's rows passed and its verdict was not 2.
 turn-last : (k : Check) (v : ℕ) (onward : WalkOutcome) (i j : ℕ) (m l : List ℕ) → Refuses Earlier k
-    → ZeroOr28 (checkNumber (orElse k i m (cond (eqb v 2) (walkOutcome (Failed VerifierFailure) j l) onward) .found))
+    → ZeroOr28 (checkNumber (unlessFailed k i m (cond (eqb v 2) (walkOutcome (Failed VerifierFailure) j l) onward) .found))
     → (k ≡ Passed) × (v ≢ 2) × ZeroOr28 (checkNumber (onward .found))
-unfolding orElse
+unfolding unlessFailed
 turn-last (Failed e) v onward i j m l r h = absurd (r h)
 turn-last Passed v onward i j m l r h = go (eqb v 2) refl h
   where
@@ -92,9 +92,9 @@ end-last true weight threshold h = refl
 end-last false weight threshold h = absurd (earlier InvalidWitness (λ z. omega arith) h)
 
 module _ (c : Context) (clean : Bool) where
-  last-each : (i weight : ℕ) (made : List ℕ) (ps : List ProofReading) → ZeroOr28 (checkNumber (walk c clean i weight made ps .found))
+  last-each : (i weight : ℕ) (made : List ℕ) (ps : List ProofReading) → ZeroOr28 (checkNumber (walkFrom c clean i weight made ps .found))
       → (clean ≡ true) × EachPasses c i (length made) ps
-  unfolding walk
+  unfolding walkFrom
   last-each i weight made [] h = (end-last clean weight (c .threshold) h, tt)
   last-each i weight made (p ∷ ps) h =
       let k = each-refuses Earlier _ (proof-earlier c (length made) p) in
@@ -178,7 +178,7 @@ module _ (c : Context) where
       go true = refl
       go false = omega arith
 
-  approved-rising : (i l : ℕ) (ps : List ProofReading) → Rising l (slots ps) → Rising l (approved i ps)
+  approved-rising : (i l : ℕ) (ps : List ProofReading) → Rising l (proofSlots ps) → Rising l (approved i ps)
   approved-rising i l [] r = tt
   approved-rising i l (p ∷ ps) r = go (eqb (verdict c i) 0) (approved-rising (i + 1) (p .slot + 1) ps (r .1))
     where
@@ -191,7 +191,7 @@ module _ (c : Context) where
   mem-cond false x m = m
 
   approved-has : (i : ℕ) (ps : List ProofReading) (k : ℕ) → k < length ps → verdict c (i + k) ≡ 0
-      → List·Memᴰ (getD (slots ps) k 0) (approved i ps)
+      → List·Memᴰ (getD (proofSlots ps) k 0) (approved i ps)
   approved-has i [] k h v = absurd (omega arith)
   approved-has i (p ∷ ps) zero h v =
       let e : i + zero ≡ i = omega arith in
@@ -202,8 +202,8 @@ module _ (c : Context) where
 
   abbrev From : ℕ → List ProofReading → ℕ → Type 0
   From i ps s =
-      (known s (c .entries) ≡ true) × (capable (c .operation) (entryFor s (c .entries) .capabilities) ≡ true)
-      × (k : ℕ) × (k < length ps) × (getD (slots ps) k 0 ≡ s) × (verdict c (i + k) ≡ 0)
+      (knownSlot s (c .entries) ≡ true) × (capable (c .operation) (entryFor s (c .entries) .capabilities) ≡ true)
+      × (k : ℕ) × (k < length ps) × (getD (proofSlots ps) k 0 ≡ s) × (verdict c (i + k) ≡ 0)
 
   approved-from : (i used : ℕ) (ps : List ProofReading) → EachPasses c i used ps → (s : ℕ) → List·Memᴰ s (approved i ps) → From i ps s
   unfolding proofRows authenticatorRows
@@ -228,9 +228,9 @@ module _ (c : Context) where
 
   -- where every proof's rows pass, the walk makes every request and weighs the approved
   walk-each : (clean : Bool) (i weight : ℕ) (made : List ℕ) (ps : List ProofReading) → EachPasses c i (length made) ps
-      → walk c clean i weight made ps
+      → walkFrom c clean i weight made ps
       ≡ walkOutcome (decide Passed (lastRows clean (weight + slotsWeight c (approved i ps)) (c .threshold))) (i + length ps) (made ++ requestsOf c ps)
-  unfolding walk requestsOf
+  unfolding walkFrom requestsOf
   walk-each clean i weight made [] pass =
       let a : weight + 0 ≡ weight = omega arith in
       let b : i + 0 ≡ i = omega arith in
@@ -247,48 +247,48 @@ module _ (c : Context) where
   abbrev Written : ℕ → List ℕ → List ProofReading → WalkOutcome → Type 0
   Written i made ps o = (k : ℕ) × (k ≤ length ps) × (o .count ≡ i + k) × (o .made ≡ made ++ requestsOf c (take k ps))
 
-  written : (clean : Bool) (i weight : ℕ) (made : List ℕ) (ps : List ProofReading) → Written i made ps (walk c clean i weight made ps)
-  unfolding walk requestsOf orElse
+  written : (clean : Bool) (i weight : ℕ) (made : List ℕ) (ps : List ProofReading) → Written i made ps (walkFrom c clean i weight made ps)
+  unfolding walkFrom requestsOf unlessFailed
   written clean i weight made [] = (zero, zero-le, omega arith, sym (append-nil made))
   written clean i weight made (p ∷ ps) =
       go (decide Passed (proofRows c (length made) p)) (eqb (verdict c i) 2) _
       (written clean (i + 1) (weight + approvedWeight c i p) (made ++ requestOf c p) ps)
     where
       go : (k : Check) (b : Bool) (o : WalkOutcome) → Written (i + 1) (made ++ requestOf c p) ps o
-          → Written i made (p ∷ ps) (orElse k i made (cond b (walkOutcome (Failed VerifierFailure) (i + 1) (made ++ requestOf c p)) o))
+          → Written i made (p ∷ ps) (unlessFailed k i made (cond b (walkOutcome (Failed VerifierFailure) (i + 1) (made ++ requestOf c p)) o))
       go Passed true o h = (1, omega arith, refl, rw append-nil)
       go Passed false o h = (suc (h .0), suc-le-suc (h .1), omega (arith, h .2), h .3 ∙ append-assoc made (requestOf c p) (requestsOf c (take (h .0) ps)))
       go (Failed e) b o h = (zero, zero-le, omega arith, sym (append-nil made))
 
 -- where every proof's rows pass, the walk finds what the approved weight makes of the rows behind the last proof
 each-found : (c : Context) (clean : Bool) (ps : List ProofReading) → EachPasses c 0 0 ps
-    → walk c clean 0 0 [] ps .found ≡ decide Passed (lastRows clean (slotsWeight c (approved c 0 ps)) (c .threshold))
+    → walkFrom c clean 0 0 [] ps .found ≡ decide Passed (lastRows clean (slotsWeight c (approved c 0 ps)) (c .threshold))
 each-found c clean ps pass =
     let z : 0 + slotsWeight c (approved c 0 ps) ≡ slotsWeight c (approved c 0 ps) = omega arith in
     ap (λ (o : WalkOutcome). o .found) (walk-each c clean 0 0 [] ps pass) ∙ rw z
 
 -- Its number is 0 or 28 exactly where nothing follows the proofs and each proof's rows pass.
-pub zero-or-28 : (c : Context) (clean : Bool) (ps : List ProofReading)
-    → ZeroOr28 (checkNumber (walk c clean 0 0 [] ps .found)) ↔ ((clean ≡ true) × EachPasses c 0 0 ps)
-zero-or-28 c clean ps = (last-each c clean 0 0 [] ps, back)
+pub walk-zero-or-28 : (c : Context) (clean : Bool) (ps : List ProofReading)
+    → ZeroOr28 (checkNumber (walkFrom c clean 0 0 [] ps .found)) ↔ ((clean ≡ true) × EachPasses c 0 0 ps)
+walk-zero-or-28 c clean ps = (last-each c clean 0 0 [] ps, back)
   where
-    back : (clean ≡ true) × EachPasses c 0 0 ps → ZeroOr28 (checkNumber (walk c clean 0 0 [] ps .found))
+    back : (clean ≡ true) × EachPasses c 0 0 ps → ZeroOr28 (checkNumber (walkFrom c clean 0 0 [] ps .found))
     back h = rw (each-found c clean ps (h .1), h .0) (end-number (slotsWeight c (approved c 0 ps)) (c .threshold))
 
 -- Passed exactly where nothing follows the proofs, each proof's rows pass, and there is a quorum.
-pub decision : (c : Context) (clean : Bool) (ps : List ProofReading) → Rising 0 (slots ps)
-    → (walk c clean 0 0 [] ps .found ≡ Passed) ↔ ((clean ≡ true) × EachPasses c 0 0 ps × Quorum c ps)
-decision c clean ps rises = (there, back)
+pub walk-decides : (c : Context) (clean : Bool) (ps : List ProofReading) → Rising 0 (proofSlots ps)
+    → (walkFrom c clean 0 0 [] ps .found ≡ Passed) ↔ ((clean ≡ true) × EachPasses c 0 0 ps × Quorum c ps)
+walk-decides c clean ps rises = (there, back)
   where
     approves : EachPasses c 0 0 ps → (s : ℕ) → List·Memᴰ s (approved c 0 ps) → Approved c ps s
     approves pass s m =
         let f = approved-from c 0 0 ps pass s m in
         let z : 0 + f .2 ≡ f .2 = omega arith in
-        record { inState = f .0; hasCapability = f .1; place = f .2; isProof = f .3; itsSlot = f .4; isApproved = rw z at (f .5) }
+        record { inState = f .0; hasCapability = f .1; index = f .2; isProof = f .3; itsSlot = f .4; isApproved = rw z at (f .5) }
 
-    there : walk c clean 0 0 [] ps .found ≡ Passed → (clean ≡ true) × EachPasses c 0 0 ps × Quorum c ps
+    there : walkFrom c clean 0 0 [] ps .found ≡ Passed → (clean ≡ true) × EachPasses c 0 0 ps × Quorum c ps
     there h =
-        let z = zero-or-28 c clean ps .0 (inl (ap checkNumber h)) in
+        let z = walk-zero-or-28 c clean ps .0 (inl (ap checkNumber h)) in
         let e = end-passes clean (slotsWeight c (approved c 0 ps)) (c .threshold) .0 (sym (each-found c clean ps (z .1)) ∙ h) in
         let quorum : Quorum c ps = record {
           set = approved c 0 ps;
@@ -302,10 +302,10 @@ decision c clean ps rises = (there, back)
     member : (q : Quorum c ps) (s : ℕ) → List·Memᴰ s (q .set) → List·Memᴰ s (approved c 0 ps)
     member q s m =
         let a = q .each s m in
-        let z : 0 + a .place ≡ a .place = omega arith in
-        Memᴰ·cast (sym (a .itsSlot)) (approved-has c 0 ps (a .place) (a .isProof) (rw z (a .isApproved)))
+        let z : 0 + a .index ≡ a .index = omega arith in
+        Memᴰ·cast (sym (a .itsSlot)) (approved-has c 0 ps (a .index) (a .isProof) (rw z (a .isApproved)))
 
-    back : (clean ≡ true) × EachPasses c 0 0 ps × Quorum c ps → walk c clean 0 0 [] ps .found ≡ Passed
+    back : (clean ≡ true) × EachPasses c 0 0 ps × Quorum c ps → walkFrom c clean 0 0 [] ps .found ≡ Passed
     back h =
         let q = h .2 in
         let le = weightOf-le c (q .set) (approved c 0 ps) 0 0 (q .isSet) (approved-rising c 0 0 ps rises) (member q) in
@@ -313,17 +313,17 @@ decision c clean ps rises = (there, back)
         ∙ end-passes clean (slotsWeight c (approved c 0 ps)) (c .threshold) .1 (h .0, q .above, omega (arith, q .enough))
 
 -- Where each proof's rows pass: one request for each proof, in order.
-pub answers : (c : Context) (clean : Bool) (ps : List ProofReading) → EachPasses c 0 0 ps
-    → (walk c clean 0 0 [] ps .count ≡ length ps) × (walk c clean 0 0 [] ps .made ≡ requestsOf c ps)
-answers c clean ps pass =
+pub walk-answers : (c : Context) (clean : Bool) (ps : List ProofReading) → EachPasses c 0 0 ps
+    → (walkFrom c clean 0 0 [] ps .count ≡ length ps) × (walkFrom c clean 0 0 [] ps .made ≡ requestsOf c ps)
+walk-answers c clean ps pass =
     let e = walk-each c clean 0 0 [] ps pass in
     let z : 0 + length ps ≡ length ps = omega arith in
     (ap (λ (o : WalkOutcome). o .count) e ∙ z, ap (λ (o : WalkOutcome). o .made) e)
 
 -- And always, the requests of as many proofs as were counted.
-pub answers-always : (c : Context) (clean : Bool) (ps : List ProofReading)
-    → walk c clean 0 0 [] ps .made ≡ requestsOf c (take (walk c clean 0 0 [] ps .count) ps)
-answers-always c clean ps =
+pub walk-answers-always : (c : Context) (clean : Bool) (ps : List ProofReading)
+    → walkFrom c clean 0 0 [] ps .made ≡ requestsOf c (take (walkFrom c clean 0 0 [] ps .count) ps)
+walk-answers-always c clean ps =
     let w = written c clean 0 0 [] ps in
-    let z : walk c clean 0 0 [] ps .count ≡ w .0 = omega (arith, w .2) in
+    let z : walkFrom c clean 0 0 [] ps .count ≡ w .0 = omega (arith, w .2) in
     rw z (w .3)

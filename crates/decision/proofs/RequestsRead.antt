@@ -9,7 +9,6 @@ use lib.Dec.{eqb}
 use lib.ListN.{length, drop}
 use borrow.Author.Tests.{eqb-true}
 use Rattle.octets.specs.Le.{Bytes}
-use Rattle.octets.specs.Lists.{arrayOf}
 use Rattle.octets.proofs.Arrays.{array-whole}
 use Rattle.octets.proofs.LeLaws.{bytes-drop, bytes-take}
 use Rattle.protocol.specs.Policy.{isOperation, capabilityFor}
@@ -18,14 +17,14 @@ use Rattle.account_state.specs.Fields.{auxLengthOf, entryCountOf, entryLengthOf
 use Rattle.account_state.specs.Reading.{EntryReading, entryOf, entriesOf, stateReading, EntriesTyped}
 use Rattle.account_state.specs.State.{stateRows}
 use Rattle.account_state.proofs.Inverse.{Keys, state-typed, state-keys}
-use Rattle.account_witness.specs.Reading.{ProofReading}
+use Rattle.account_witness.specs.Reading.{ProofReading, witnessProofs}
 use Rattle.verifier_request.specs.Reading.{RequestTyped}
 use Rattle.verifier_request.specs.Writer as writer
 use Rattle.verifier_request.proofs.RequestTheorem.{request-accepted}
 use Rattle.scene_table.specs.Scene.{Cell}
-use Rattle.decision.specs.Proofs.{Context, contextFor, known, entryFor, capable, hasBit, requestLimitRows, authenticatorRows, proofRows, requestContent, requestOf}
+use Rattle.decision.specs.Proofs.{Context, contextFor, knownSlot, entryFor, capable, hasBit, requestLimitRows, authenticatorRows, proofRows, requestContent, requestOf}
 use Rattle.decision.specs.Requests.{EntryFits, EntriesFit, ContextFits, RequestRead, RequestsRead}
-use Rattle.decision.specs.Decision.{EachPasses, proofsOf, ProofsPass}
+use Rattle.decision.specs.Decision.{EachPasses, ProofsPass}
 
 -- the entries of an accepted state fit
 entries-fit : (n : ℕ) (e : List ℕ) → Bytes e → EntriesTyped (entriesOf n e) → Keys (entriesOf n e) → EntriesFit (entriesOf n e)
@@ -36,24 +35,24 @@ entries-fit (suc n) e b t k =
     (record { typed = t .0; key = k .0; aux = a }, entries-fit n (drop (entryLengthOf e) e) (bytes-drop (entryLengthOf e) e b) (t .1) (k .1))
 
 -- an accepted state and a digest of 32 bytes settle so
-pub state-fits : (state : List ℕ) (deps : List Cell) (digits : List ℕ) (operation : ℕ) (digest : List ℕ) (room : ℕ) → Bytes state
+pub state-context-fits : (state : List ℕ) (deps : List Cell) (digits : List ℕ) (operation : ℕ) (digest : List ℕ) (room : ℕ) → Bytes state
     → AllPass (stateRows state) → length digest ≡ 32 → ContextFits (contextFor state deps digits operation digest room)
 unfolding contextFor stateReading
-state-fits state deps digits operation digest room b h l =
+state-context-fits state deps digits operation digest room b h l =
     record {
       entries = entries-fit (entryCountOf state) (drop 32 state) (bytes-drop 32 state b) (state-typed state b h .entries) (state-keys state b h);
       digest = l;
     }
 
 -- the entry of a known slot is one of them
-known-fits : (slot : ℕ) (es : List EntryReading) → EntriesFit es → known slot es ≡ true
+known-fits : (slot : ℕ) (es : List EntryReading) → EntriesFit es → knownSlot slot es ≡ true
     → EntryFits (entryFor slot es) × (entryFor slot es .slot ≡ slot)
-unfolding known entryFor
+unfolding knownSlot entryFor
 known-fits slot [] f h = absurd (let z : _≡_ {A = ℕ} 0 1 = cc in omega arith)
 known-fits slot (e ∷ es) f h = go (eqb (e .slot) slot) refl h (known-fits slot es (f .1))
   where
-    go : (b : Bool) → eqb (e .slot) slot ≡ b → cond b true (known slot es) ≡ true
-        → (known slot es ≡ true → EntryFits (entryFor slot es) × (entryFor slot es .slot ≡ slot))
+    go : (b : Bool) → eqb (e .slot) slot ≡ b → cond b true (knownSlot slot es) ≡ true
+        → (knownSlot slot es ≡ true → EntryFits (entryFor slot es) × (entryFor slot es .slot ≡ slot))
         → EntryFits (cond b e (entryFor slot es)) × (cond b e (entryFor slot es) .slot ≡ slot)
     go true q h later = (f .0, eqb-true (e .slot) slot q)
     go false q h later = later h
@@ -72,7 +71,7 @@ capable-operation o capabilities h = go (eqb o 1) (eqb o 2) (eqb o 3) refl refl 
 -- the request of an entry whose rows pass is within the limits of the request writer
 pub request-limits : (operation : ℕ) (digest : List ℕ) (deps : List Cell) (e : EntryReading) (p : ProofReading) (left : ℕ)
     → AllPass (authenticatorRows operation deps e (length (p .bytes)) left) → AllPass (writer.requestWriterRows (requestContent operation digest e p))
-unfolding authenticatorRows requestLimitRows requestContent writer.requestWriterRows writer.writerLimitRows
+unfolding authenticatorRows requestLimitRows requestContent writer.requestWriterRows writer.requestWriterLimitRows
 request-limits operation digest deps e p left h =
     (capable-operation operation (e .capabilities) (h .0) .0, (h .1 .1 .1 .1 .0, (h .1 .1 .0, tt)))
 
@@ -102,5 +101,5 @@ requests-read c i used [] f pass = tt
 requests-read c i used (p ∷ ps) f pass = (request-read c used p f (pass .0), requests-read c (i + 1) (used + length (requestOf c p)) ps f (pass .2))
 
 -- so all requests of a witness lock whose proofs pass
-pub lock-requests-read : (c : Context) (lock : List ℕ) → ContextFits c → ProofsPass c lock → RequestsRead c (proofsOf lock)
-lock-requests-read c lock f h = requests-read c 0 0 (proofsOf lock) f (h .each)
+pub lock-requests-read : (c : Context) (lock : List ℕ) → ContextFits c → ProofsPass c lock → RequestsRead c (witnessProofs lock)
+lock-requests-read c lock f h = requests-read c 0 0 (witnessProofs lock) f (h .each)

@@ -24,15 +24,15 @@ use Rattle.account_state.specs.Fields.{auxLengthOf, entryCountOf, entryLengthOf
 use Rattle.account_state.specs.Reading.{EntryReading, entryOf, entriesOf}
 use Rattle.account_state.specs.State as state
 use Rattle.account_witness.specs.Fields.{proofCountOf, proofLengthAt}
-use Rattle.account_witness.specs.Reading.{ProofReading, proofReading}
+use Rattle.account_witness.specs.Reading.{ProofReading, proofGiven, proofSlots}
 use Rattle.account_witness.specs.Walk as witness
 use Rattle.account_witness.proofs.WalkLaws.{proof-holds}
+use Rattle.verifier_request.specs.Fields.{requestSize}
 use Rattle.verifier_request.specs.Writer.{requestTotal}
 use Rattle.verifier_request.proofs.Form.{length-request}
-use Rattle.decision.specs.Proofs.{Context, noEntry, entryFor, requestSize, requestLimitRows, authenticatorRows, proofRows, requestContent, requestOf, requestsOf}
-use Rattle.decision.specs.Walk.{WalkOutcome, walkOutcome, verdict, approvedWeight, lastRows, orElse, walk, proofsUntilFault, walkList, walkLock}
-use Rattle.decision.specs.Decision.{slots}
-use Rattle.decision.proofs.Listed.{listed-stops, listed-goes, listed-rising, Behind}
+use Rattle.decision.specs.Proofs.{Context, noEntry, entryFor, requestLimitRows, authenticatorRows, proofRows, requestContent, requestOf, requestsOf}
+use Rattle.decision.specs.Walk.{WalkOutcome, walkOutcome, verdict, approvedWeight, lastRows, unlessFailed, walkFrom, proofsUntilFault, walkList, walkLock}
+use Rattle.decision.proofs.Listed.{listed-stops, listed-goes, listed-rising, ListBehind}
 
 -- ---- what the requests of a list of proofs need
 
@@ -83,15 +83,15 @@ aux-named s (e ∷ es) = go (eqb (e .slot) s) refl (aux-named s es)
 module _ (c : Context) (d : length (c .digest) ≡ 32) where
   -- a request is 96 bytes, then aux and proof
   request-length : (p : ProofReading) → length (requestOf c p) ≡ requestSize (length (entryFor (p .slot) (c .entries) .aux)) (length (p .bytes))
-  unfolding requestOf requestContent requestTotal requestSize
+  unfolding requestOf requestContent requestTotal
   request-length p =
       length-request (requestContent (c .operation) (c .digest) (entryFor (p .slot) (c .entries)) p)
       (record { digest = d; key = length-array 32 (entryFor (p .slot) (c .entries) .key) })
 
   -- the requests of proofs whose slots rise: 96 bytes each, their proofs, and the aux of distinct entries
-  pub requests-length : (ps : List ProofReading) (least : ℕ) → Rising least (slots ps)
+  pub requests-length : (ps : List ProofReading) (least : ℕ) → Rising least (proofSlots ps)
       → length (requestsOf c ps) ≤ 96 * length ps + auxFrom least (c .entries) + proofsLength ps
-  unfolding requestsOf requestSize
+  unfolding requestsOf
   requests-length [] least r = omega arith
   requests-length (p ∷ ps) least r =
       let n = length-append (requestOf c p) (requestsOf c ps) in
@@ -138,8 +138,8 @@ rows-room c used p h =
 
 -- nor does a turn, where neither its rows nor what comes after them do
 turn-room : (k : Check) (i : ℕ) (made : List ℕ) (onward : WalkOutcome) → checkNumber k ≢ 5 → checkNumber (onward .found) ≢ 5
-    → checkNumber (orElse k i made onward .found) ≢ 5
-unfolding orElse
+    → checkNumber (unlessFailed k i made onward .found) ≢ 5
+unfolding unlessFailed
 turn-room Passed i made onward k o = o
 turn-room (Failed e) i made onward k o = k
 
@@ -151,8 +151,8 @@ end-room clean weight threshold =
 
 -- a walk whose buffer has room for the requests of all proofs that are left never gives 5
 pub walk-room : (c : Context) → length (c .digest) ≡ 32 → (clean : Bool) (i weight : ℕ) (made : List ℕ) (ps : List ProofReading)
-    → length made + length (requestsOf c ps) ≤ c .room → checkNumber (walk c clean i weight made ps .found) ≢ 5
-unfolding walk requestsOf
+    → length made + length (requestsOf c ps) ≤ c .room → checkNumber (walkFrom c clean i weight made ps .found) ≢ 5
+unfolding walkFrom requestsOf
 walk-room c d clean i weight made [] h = end-room clean weight (c .threshold)
 walk-room c d clean i weight made (p ∷ ps) h =
     let n = length-append (requestOf c p) (requestsOf c ps) in
@@ -176,19 +176,19 @@ module _ (lock : List ℕ) where
   listed-few zero at least = omega arith
   listed-few (suc n) at least = go (decide Passed (witness.proofLayoutRows lock at least)) refl (listed-few n _ _)
     where
-      go : (k : Check) → decide Passed (witness.proofLayoutRows lock at least) ≡ k → length (Behind lock n at least .proofs) ≤ n
+      go : (k : Check) → decide Passed (witness.proofLayoutRows lock at least) ≡ k → length (ListBehind lock n at least .proofs) ≤ n
           → length (proofsUntilFault lock (suc n) at least .proofs) ≤ suc n
       go Passed h rest = rw (listed-goes lock n at least h) (omega arith)
       go (Failed e) h rest = rw (listed-stops lock n at least e h) (omega arith)
 
-  -- their bytes stand in the lock behind the place where they begin
+  -- their bytes stand in the lock behind the offset where they begin
   pub listed-length : (n at least : ℕ) → proofsLength (proofsUntilFault lock n at least .proofs) ≤ length lock - at
-  unfolding proofsUntilFault proofReading witness.proofAt
+  unfolding proofsUntilFault proofGiven witness.proofAt
   listed-length zero at least = omega arith
   listed-length (suc n) at least = go (decide Passed (witness.proofLayoutRows lock at least)) refl (listed-length n _ _)
     where
       go : (k : Check) → decide Passed (witness.proofLayoutRows lock at least) ≡ k
-          → proofsLength (Behind lock n at least .proofs) ≤ length lock - (at + 8 + proofLengthAt lock at)
+          → proofsLength (ListBehind lock n at least .proofs) ≤ length lock - (at + 8 + proofLengthAt lock at)
           → proofsLength (proofsUntilFault lock (suc n) at least .proofs) ≤ length lock - at
       go Passed h rest =
           let z = proof-holds lock at least (passed-all-pass (witness.proofLayoutRows lock at least) h) .inside in

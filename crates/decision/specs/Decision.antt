@@ -8,15 +8,10 @@ use mathlib.Core.List.{List, [], _∷_, List·Memᴰ}
 use lib.ListN.{length, getD}
 use Rattle.octets.specs.Lists.{Rising}
 use Rattle.protocol.specs.Rows.{AllPass}
-use Rattle.account_witness.specs.Fields.{proofCountOf}
-use Rattle.account_witness.specs.Reading.{ProofReading, proofReadings}
-use Rattle.account_witness.specs.Walk.{proofsLayoutRows}
-use Rattle.decision.specs.Proofs.{Context, known, entryFor, capable, proofRows, requestOf}
+use Rattle.account_witness.specs.Reading.{ProofReading, witnessProofs, proofSlots}
+use Rattle.account_witness.specs.Walk.{witnessProofRows}
+use Rattle.decision.specs.Proofs.{Context, knownSlot, entryFor, capable, proofRows, requestOf}
 use Rattle.decision.specs.Walk.{verdict}
-
-abbrev pub slots : List ProofReading → List ℕ
-slots [] = []
-slots (p ∷ ps) = p .slot ∷ slots ps
 
 -- each proof's rows pass, from proof i on with `used` bytes of the answer written, and its verdict is not 2
 abbrev pub EachPasses : Context → ℕ → ℕ → List ProofReading → Type 0
@@ -24,24 +19,20 @@ EachPasses c i used [] = Unit {0}
 EachPasses c i used (p ∷ ps) =
     AllPass (proofRows c used p) × (verdict c i ≢ 2) × EachPasses c (i + 1) (used + length (requestOf c p)) ps
 
--- the proofs of a witness lock, as its one reading has them
-unfoldable pub proofsOf : List ℕ → List ProofReading
-proofsOf lock = proofReadings lock (proofCountOf lock) 16
-
 -- the rows of the proofs, all before the one for 28: each one's layout, "bytes after the last proof", and each one's own
 pub record ProofsPass (c : Context) (lock : List ℕ) : Type 0 where
-  pub layout : AllPass (proofsLayoutRows lock (proofCountOf lock) 16 0)
-  pub each : EachPasses c 0 0 (proofsOf lock)
+  pub layout : AllPass (witnessProofRows lock)
+  pub each : EachPasses c 0 0 (witnessProofs lock)
 
 -- 01: "A request is approved where DIGITS has 0 at its proof's place in the witness lock": the slot is one of the current state's,
 -- has the operation's capability, and has such a proof
 pub record Approved (c : Context) (ps : List ProofReading) (s : ℕ) : Type 0 where
-  pub inState : known s (c .entries) ≡ true
+  pub inState : knownSlot s (c .entries) ≡ true
   pub hasCapability : capable (c .operation) (entryFor s (c .entries) .capabilities) ≡ true
-  pub place : ℕ
-  pub isProof : place < length ps
-  pub itsSlot : getD (slots ps) place 0 ≡ s
-  pub isApproved : verdict c place ≡ 0
+  pub index : ℕ
+  pub isProof : index < length ps
+  pub itsSlot : getD (proofSlots ps) index 0 ≡ s
+  pub isApproved : verdict c index ≡ 0
 
 abbrev pub slotsWeight : Context → List ℕ → ℕ
 slotsWeight c [] = 0

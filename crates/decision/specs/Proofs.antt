@@ -1,5 +1,5 @@
 -- One proof: the rows that it passes before its request is made, and the request.
-use Prim.Native.Nat.{ℕ, _+_, _-_}
+use Prim.Native.Nat.{ℕ, _-_}
 use mathlib.Core.Bool.{Bool, true, false, cond}
 use mathlib.Core.List.{List, [], _∷_, _++_}
 use lib.ListN.{length, getD}
@@ -13,6 +13,7 @@ use Rattle.protocol.specs.declared.policy.OperationCapability.the-variants.{Cap
 use Rattle.account_state.specs.Fields.{spendThresholdOf, rotateThresholdOf, recoveryThresholdOf}
 use Rattle.account_state.specs.Reading.{EntryReading, stateEntries}
 use Rattle.account_witness.specs.Reading.{ProofReading}
+use Rattle.verifier_request.specs.Fields.{requestSize}
 use Rattle.verifier_request.specs.Reading.{RequestReading, requestWith, requestBytes}
 use Rattle.scene_table.specs.Scene.{Cell}
 use Rattle.cell_search.specs.declared.cells.CellField.{CellField}
@@ -49,9 +50,9 @@ contextFor state deps digits operation digest room =
     }
 
 -- the state has an entry for the slot, and which
-unfoldable pub known : ℕ → List EntryReading → Bool
-known slot [] = false
-known slot (e ∷ es) = cond (eqb (e .slot) slot) true (known slot es)
+unfoldable pub knownSlot : ℕ → List EntryReading → Bool
+knownSlot slot [] = false
+knownSlot slot (e ∷ es) = cond (eqb (e .slot) slot) true (knownSlot slot es)
 
 unfoldable pub noEntry : EntryReading
 noEntry =
@@ -76,10 +77,6 @@ verifierField hashType = cond (eqb hashType 0) DataHash TypeHash
 unfoldable pub verifiers : EntryReading → List Cell → List ℕ
 verifiers e deps = matches (verifierField (e .hashType)) (e .codeHash) deps
 
--- 01, Request: "96 bytes then aux and proof"
-unfoldable pub requestSize : ℕ → ℕ → ℕ
-requestSize aux proof = 96 + aux + proof
-
 -- 01, main.rs: "In the lock a request of above 69,728 bytes is 39, tested before aux above 4,096 (35); a proof above 65,536 is 35
 -- before either."; "answer buffer too short for this request", 5, where `left` bytes of it are left
 unfoldable pub requestLimitRows : ℕ → ℕ → ℕ → List Row
@@ -100,7 +97,7 @@ authenticatorRows operation deps e proof left =
 
 unfoldable pub proofRows : Context → ℕ → ProofReading → List Row
 proofRows c used p =
-    row (known (p .slot) (c .entries)) InvalidWitness
+    row (knownSlot (p .slot) (c .entries)) InvalidWitness
     ∷ authenticatorRows (c .operation) (c .deps) (entryFor (p .slot) (c .entries)) (length (p .bytes)) (c .room - used)
 
 -- the request: its profile is the first byte of aux. 01, Request: "digest, key (32 bytes each)": a key in its field of 32 bytes. A

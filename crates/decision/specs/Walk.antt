@@ -8,8 +8,8 @@ use Rattle.protocol.specs.Rows.{Row, row, decide}
 use Rattle.protocol.specs.declared.error.ProtocolError.the-variants.{InvalidWitness, VerifierFailure, ThresholdUnsatisfied}
 use Rattle.protocol.specs.declared.check.Check.{Check}
 use Rattle.protocol.specs.declared.check.Check.the-variants.{Passed, Failed}
-use Rattle.account_witness.specs.Fields.{proofCountOf, proofSlotAt, proofLengthAt}
-use Rattle.account_witness.specs.Reading.{ProofReading, proofReading}
+use Rattle.account_witness.specs.Fields.{proofCountOf, witnessHeaderLength, proofSlotAt, proofEndAt}
+use Rattle.account_witness.specs.Reading.{ProofReading, proofOf}
 use Rattle.account_witness.specs.Walk as witness
 use Rattle.scene_table.specs.Places.{verdictAt}
 use Rattle.decision.specs.Proofs.{Context, entryFor, proofRows, requestOf}
@@ -41,42 +41,42 @@ lastRows clean weight threshold =
     ∷ []
 
 -- a refusal ends the walk
-unfoldable pub orElse : Check → ℕ → List ℕ → WalkOutcome → WalkOutcome
-orElse Passed count made onward = onward
-orElse (Failed e) count made onward = walkOutcome (Failed e) count made
+unfoldable pub unlessFailed : Check → ℕ → List ℕ → WalkOutcome → WalkOutcome
+unlessFailed Passed count made onward = onward
+unlessFailed (Failed e) count made onward = walkOutcome (Failed e) count made
 
 -- from proof i on, with this approved weight and these bytes made. A verdict of 2 is 31, after its request was made
-unfoldable pub walk : Context → Bool → ℕ → ℕ → List ℕ → List ProofReading → WalkOutcome
-walk c clean i weight made [] = walkOutcome (decide Passed (lastRows clean weight (c .threshold))) i made
-walk c clean i weight made (p ∷ ps) =
-    orElse (decide Passed (proofRows c (length made) p)) i made
+unfoldable pub walkFrom : Context → Bool → ℕ → ℕ → List ℕ → List ProofReading → WalkOutcome
+walkFrom c clean i weight made [] = walkOutcome (decide Passed (lastRows clean weight (c .threshold))) i made
+walkFrom c clean i weight made (p ∷ ps) =
+    unlessFailed (decide Passed (proofRows c (length made) p)) i made
     (cond (eqb (verdict c i) 2) (walkOutcome (Failed VerifierFailure) (i + 1) (made ++ requestOf c p))
-    (walk c clean (i + 1) (weight + approvedWeight c i p) (made ++ requestOf c p) ps))
+    (walkFrom c clean (i + 1) (weight + approvedWeight c i p) (made ++ requestOf c p) ps))
 
 -- the proofs of a witness lock up to the first with a faulty layout; clean where there is none and no byte follows the last
 pub record ProofList : Type 0 where
   pub proofs : List ProofReading
   pub clean : Bool
 
-unfoldable pub orFault : Check → ProofList → ProofList
-orFault Passed ps = ps
-orFault (Failed e) ps = record { proofs = []; clean = false }
+unfoldable pub unlessFaulty : Check → ProofList → ProofList
+unlessFaulty Passed ps = ps
+unlessFaulty (Failed e) ps = record { proofs = []; clean = false }
 
 unfoldable pub proofsUntilFault : List ℕ → ℕ → ℕ → ℕ → ProofList
 proofsUntilFault lock zero at least = record { proofs = []; clean = eqb at (length lock) }
 proofsUntilFault lock (suc n) at least =
-    orFault (decide Passed (witness.proofLayoutRows lock at least))
+    unlessFaulty (decide Passed (witness.proofLayoutRows lock at least))
     (record {
-      proofs = proofReading lock (witness.proofAt lock at) ∷ proofsUntilFault lock n (at + 8 + proofLengthAt lock at) (proofSlotAt lock at + 1) .proofs;
-      clean = proofsUntilFault lock n (at + 8 + proofLengthAt lock at) (proofSlotAt lock at + 1) .clean;
+      proofs = proofOf lock at ∷ proofsUntilFault lock n (proofEndAt lock at) (proofSlotAt lock at + 1) .proofs;
+      clean = proofsUntilFault lock n (proofEndAt lock at) (proofSlotAt lock at + 1) .clean;
     })
 
 unfoldable pub walkList : Context → ProofList → WalkOutcome
-walkList c ps = walk c (ps .clean) 0 0 [] (ps .proofs)
+walkList c ps = walkFrom c (ps .clean) 0 0 [] (ps .proofs)
 
 -- those of a witness lock
 abbrev pub proofListOf : List ℕ → ProofList
-proofListOf lock = proofsUntilFault lock (proofCountOf lock) 16 0
+proofListOf lock = proofsUntilFault lock (proofCountOf lock) witnessHeaderLength 0
 
 -- the walk over them
 unfoldable pub walkLock : Context → List ℕ → WalkOutcome

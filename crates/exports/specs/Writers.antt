@@ -12,7 +12,7 @@ use Rattle.protocol.specs.declared.check.WriteAnswer.the-variants.{Refused}
 use Rattle.export_answers.specs.Lent.{sizeRow, sizesFault}
 use Rattle.export_answers.specs.Stored.{Writes}
 use Rattle.account_state_writer.specs.Writer.{stateFrom, stateWritten, stateStored}
-use Rattle.account_witness_writer.specs.Encode.{witnessWritten, witnessStored}
+use Rattle.account_witness_writer.specs.Writer.{witnessWritten, witnessStored}
 use Rattle.public_key_proof.specs.Reading.{PublicKeyProofReading}
 use Rattle.public_key_proof.specs.Writer.{publicKeyProofWritten, publicKeyProofStored}
 use Rattle.verifier_request.specs.Reading.{RequestReading}

@@ -12,7 +12,7 @@ use Rattle.verifier_request.specs.Reader.{requestNumber, readRequest}
 use Rattle.verifier_request.specs.Reading.{RequestReading, requestReading}
 use Rattle.verifier_request.specs.declared.reader.RequestAnswer.{RequestAnswer}
 use Rattle.verifier_request.specs.declared.reader.RequestAnswer.the-variants.{Request, Refused}
-use Rattle.held_request.specs.Held.{placesOf, heldReading}
+use Rattle.held_request.specs.Held.{requestPlacesOf, heldReading}
 use Rattle.held_request.proofs.HeldTheorem.{held-accepts, held-reading}
 use Rattle.export_answers.specs.Words.{wordBytes}
 use Rattle.export_answers.specs.Stored.{storedAfter, StoresPart}
@@ -20,8 +20,8 @@ use Rattle.export_answers.proofs.Table64.{length-words, words-fit}
 use Rattle.export_answers.proofs.Fits.{part-refused}
 
 -- the struct's refusal is the reader's number
-refusal-number : (k : RequestAnswer) → placesOf k .refusal ≡ requestNumber k
-unfolding placesOf
+refusal-number : (k : RequestAnswer) → requestPlacesOf k .refusal ≡ requestNumber k
+unfolding requestPlacesOf
 refusal-number (Request f) = refl
 refusal-number (Refused e) = refl
 
@@ -35,15 +35,15 @@ other-bytes number ne bytes others out len r after lenAfter h =
 
 -- what the struct's functions hand out is the reading's, where it is handed out at all
 pub handed : (s out : List ℕ) (len : ℕ) (of : RequestReading → List ℕ) (r : ℕ) (after : List ℕ) (lenAfter : ℕ)
-    → StoresPart (placesOf (readRequest s) .refusal) (of (heldReading s (placesOf (readRequest s)))) out len r after lenAfter
+    → StoresPart (requestPlacesOf (readRequest s) .refusal) (of (heldReading s (requestPlacesOf (readRequest s)))) out len r after lenAfter
     → StoresPart (requestNumber (readRequest s)) (of (requestReading s)) out len r after lenAfter
 handed s out len of r after lenAfter h = by-answer (readRequest s) refl
   where
     held : List ℕ
-    held = of (heldReading s (placesOf (readRequest s)))
+    held = of (heldReading s (requestPlacesOf (readRequest s)))
 
     numbered : StoresPart (requestNumber (readRequest s)) held out len r after lenAfter
-    numbered = subst (λ (n : ℕ). StoresPart n (of (heldReading s (placesOf (readRequest s)))) out len r after lenAfter) (refusal-number (readRequest s)) h
+    numbered = subst (λ (n : ℕ). StoresPart n (of (heldReading s (requestPlacesOf (readRequest s)))) out len r after lenAfter) (refusal-number (readRequest s)) h
 
     by-answer : (k : RequestAnswer) → readRequest s ≡ k → StoresPart (requestNumber (readRequest s)) (of (requestReading s)) out len r after lenAfter
     by-answer (Request f) e =

@@ -14,12 +14,12 @@ use held_request::verifier_profile_of;
 ghost use mathlib.Core.Path.{_≡_};
 ghost use Rattle.verifier_request.specs.Reader.{readRequest};
 ghost use Rattle.verifier_request.specs.Reading.{RequestReading};
-ghost use Rattle.held_request.specs.Held.{placesOf, heldReading};
+ghost use Rattle.held_request.specs.Held.{requestPlacesOf, heldReading};
 ghost use Rattle.exports_request.specs.Parts.{numberWords, StoresNumbers, StoresField};
 
 // The request's four numbers, as 64-bit words.
 fn number_words(request: &[u8]) -> [u8; 32]
-    ensures { λ r. ⌜ r ≡ numberWords (heldReading (now (request .entry)) (placesOf (readRequest (now (request .entry))))) ⌝ }
+    ensures { λ r. ⌜ r ≡ numberWords (heldReading (now (request .entry)) (requestPlacesOf (readRequest (now (request .entry))))) ⌝ }
 {
     let words = [
         algorithm_id_of(request) as u64,

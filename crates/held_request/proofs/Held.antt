@@ -63,8 +63,8 @@ stayed R = (stay-none B yes, tt)
 abbrev pub Said : Slot 1 → Type 1
 Said R = VerifierRequest → (κs : Lfts 1) → R .row κs .Denot → Type 0
 
-abbrev pub Says : {M : Type 1} (𝓤 : URA M) (R : Slot 1) → Said R → Clauses 𝓤 (Taken R)
-Says 𝓤 R φ κs a = record { ghost = Unit {0}; requires = λ _. emp 𝓤; ensures = λ _ r e. fact 𝓤 (φ (a .0) κs r) }
+abbrev pub HeldSays : {M : Type 1} (𝓤 : URA M) (R : Slot 1) → Said R → Clauses 𝓤 (Taken R)
+HeldSays 𝓤 R φ κs a = record { ghost = Unit {0}; requires = λ _. emp 𝓤; ensures = λ _ r e. fact 𝓤 (φ (a .0) κs r) }
 
 -- the machine values of the places
 abbrev pub inner : RequestPlaces → Vals
@@ -97,7 +97,7 @@ module _ {M : Type 1} (𝓤 : URA M) (H : Heap 𝓤) (A : Atoms 𝓤) (R : Slot 
   Entry κ q d = onEntry 𝓤 H A (Takes R) (κ, tt) (q, tt) (d, tt) (mach d ∷ [], tt)
 
   abbrev pub Post : Lft → Share → VerifierRequest → Val → SProp 𝓤
-  Post κ q d = walkOf 𝓤 H A (Taken R) (stayed R) (Says 𝓤 R φ) .post (((κ, tt), (q, tt), tt, (d, tt), (mach d ∷ [], tt)), tt)
+  Post κ q d = walkOf 𝓤 H A (Taken R) (stayed R) (HeldSays 𝓤 R φ) .post (((κ, tt), (q, tt), tt, (d, tt), (mach d ∷ [], tt)), tt)
 
   abbrev pub Walk : Tables 𝓤 H → Fn → Type 1
   Walk 𝓣 e =
@@ -111,16 +111,16 @@ module _ {M : Type 1} (𝓤 : URA M) (H : Heap 𝓤) (A : Atoms 𝓤) (R : Slot 
   exits W κ q d r u e =
       qed W (‵ (R .row (κ, tt) .own r (u ∷ [])) ∷ (‵ (flft κ q) ⊛ ‵ ftrue) ∷ ‵ (B (κ, tt) .own d (mach d ∷ [])) ∷ []) ∵
       suffices ! _
-      (ends-at 𝓤 H A (Taken R) (stayed R) (Says 𝓤 R φ) W (((κ, tt), (q, tt), tt, (d, tt), (mach d ∷ [], tt)), tt) u r (tt, tt) (tt, tt)) $
+      (ends-at 𝓤 H A (Taken R) (stayed R) (HeldSays 𝓤 R φ) W (((κ, tt), (q, tt), tt, (d, tt), (mach d ∷ [], tt)), tt) u r (tt, tt) (tt, tt)) $
       says ! e $
       move ! (1 ∷ []) $ frame ! $ nothing ! $ move ! (2 ∷ 0 ∷ []) $ fjoin ! $ frame ! $ done !
 
   meets : (W : Given 𝓤 H A) (𝓣 : Tables 𝓤 H) (e : Fn) → Walk 𝓣 e
-      → Meets 𝓤 H A (Takes R) (WpFn 𝓤 H (𝓣 .C) (𝓣 .Λ) e) (closing 𝓤 H A (Taken R) (Says 𝓤 R φ))
+      → Meets 𝓤 H A (Takes R) (WpFn 𝓤 H (𝓣 .C) (𝓣 .Λ) e) (closing 𝓤 H A (Taken R) (HeldSays 𝓤 R φ))
   meets W 𝓣 e walk =
-      walk-meets 𝓤 H A (Taken R) (stayed R) W (goes-none 𝓤 H A W 1 B yes (λ κs x f. refl), tt) (Says 𝓤 R φ)
+      walk-meets 𝓤 H A (Taken R) (stayed R) W (goes-none 𝓤 H A W 1 B yes (λ κs x f. refl), tt) (HeldSays 𝓤 R φ)
       (WpFn 𝓤 H (𝓣 .C) (𝓣 .Λ) e) (WpFn-mono 𝓤 H (W .laws) 𝓣 e)
-      (walked 𝓤 H A (Taken R) (stayed R) (Says 𝓤 R φ) (WpFn 𝓤 H (𝓣 .C) (𝓣 .Λ) e) (λ κs. (LL.vals (T.the-type (namedLft 1 0 tt κs)) (T′.the-laws (namedLft 1 0 tt κs)), tt)) (λ κs. (LL.tells (T.the-type (namedLft 1 0 tt κs)) (T′.the-laws (namedLft 1 0 tt κs)), tt))
+      (walked 𝓤 H A (Taken R) (stayed R) (HeldSays 𝓤 R φ) (WpFn 𝓤 H (𝓣 .C) (𝓣 .Λ) e) (λ κs. (LL.vals (T.the-type (namedLft 1 0 tt κs)) (T′.the-laws (namedLft 1 0 tt κs)), tt)) (λ κs. (LL.tells (T.the-type (namedLft 1 0 tt κs)) (T′.the-laws (namedLft 1 0 tt κs)), tt))
       (λ κs qs bounds a g are. via 𝓤 _ (fst∗ 𝓤 _ (emp 𝓤)) (walk (κs .0) (qs .0) (a .0) (LL.lawful (T.the-type (namedLft 1 0 tt κs)) (T′.the-laws (namedLft 1 0 tt κs)) 𝓤 H A W .typed (a .0) _ (are .0) .0))))
 
 -- the theorem of a function f of the environment γ, whose MIR is e
@@ -128,9 +128,9 @@ module _ {M : Type 1} (𝓤 : URA M) (H : Heap 𝓤) (𝓜 : Model 𝓤 H) (𝓖
     (R : Slot 1) (φ : Said R) (e : Fn) where
   pub taken : Closed 𝓤 H (tables 𝓤 H 𝓜 𝓡 γ .C) (tables 𝓤 H 𝓜 𝓡 γ .Λ) f e
       → Walk 𝓤 H (𝓖 .A) R φ (tablesOf 𝓤 H 𝓜 (tables 𝓤 H 𝓜 𝓡 γ)) e
-      → Meets 𝓤 H (𝓖 .A) (Takes R) (𝓡 .run (γ f)) (closing 𝓤 H (𝓖 .A) (Taken R) (Says 𝓤 R φ))
+      → Meets 𝓤 H (𝓖 .A) (Takes R) (𝓡 .run (γ f)) (closing 𝓤 H (𝓖 .A) (Taken R) (HeldSays 𝓤 R φ))
   unfolding tablesOf
   taken closed walk =
-      entered 𝓤 H (tripleOf 𝓤 H (𝓖 .A) (Takes R) (closing 𝓤 H (𝓖 .A) (Taken R) (Says 𝓤 R φ))) (tables 𝓤 H 𝓜 𝓡 γ .C)
+      entered 𝓤 H (tripleOf 𝓤 H (𝓖 .A) (Takes R) (closing 𝓤 H (𝓖 .A) (Taken R) (HeldSays 𝓤 R φ))) (tables 𝓤 H 𝓜 𝓡 γ .C)
       (tables 𝓤 H 𝓜 𝓡 γ .Λ) f e closed
       (meets 𝓤 H (𝓖 .A) R φ (givenOf 𝓤 H 𝓜 𝓖) (tablesOf 𝓤 H 𝓜 (tables 𝓤 H 𝓜 𝓡 γ)) e walk)

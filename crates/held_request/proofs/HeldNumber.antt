@@ -24,7 +24,7 @@ use denote.Triple.Spec.{Meets}
 use denote.Triple.Clauses.{closing}
 use Rattle.held_request.specs.declared.places.RequestPlaces.{RequestPlaces}
 use Rattle.held_request.proofs.VerifierRequest.Laws as T′
-use Rattle.held_request.proofs.Held.{B, Takes, Taken, Said, Says, At, inner, field-typed, becomes, mach, Walk, exits, taken}
+use Rattle.held_request.proofs.Held.{B, Takes, Taken, Said, HeldSays, At, inner, field-typed, becomes, mach, Walk, exits, taken}
 
 -- the MIR of such a function, at a field of any width
 abbrev pub numberFn : Width → ℕ → Fn
@@ -41,11 +41,11 @@ numberFn w k =
 abbrev pub R : Width → Slot 1
 R w = plain (λ κs. UInt w)
 
-abbrev pub Field : (w : Width) → (RequestPlaces → ℕ) → Said (R w)
-Field w π d κs r = r ≡ π (d .places)
+abbrev pub NumberOf : (w : Width) → (RequestPlaces → ℕ) → Said (R w)
+NumberOf w π d κs r = r ≡ π (d .places)
 
 walk : {M : Type 1} (𝓤 : URA M) (H : Heap 𝓤) (A : Atoms 𝓤) (W : Given 𝓤 H A) (w : Width) (k : ℕ) (π : RequestPlaces → ℕ)
-    → At (tyInt w) k (λ f. vint w (π f)) → (𝓣 : Tables 𝓤 H) → Walk 𝓤 H A (R w) (Field w π) 𝓣 (numberFn w k)
+    → At (tyInt w) k (λ f. vint w (π f)) → (𝓣 : Tables 𝓤 H) → Walk 𝓤 H A (R w) (NumberOf w π) 𝓣 (numberFn w k)
 walk 𝓤 H A W w k π at 𝓣 κ q d wt =
     let fits : WT (vint w (π (d .places))) = subst (λ (v : Val). WT v) (at .holds (d .places)) (field-typed (inner (d .places)) k (wt .1 .1 .0)) in
     qed W ((‵ (flft κ q) ⊛ ‵ ftrue) ∷ ‵ (owns (B (κ, tt) ∷ []) (d, tt) (mach d ∷ [], tt)) ∷ []) ∵ enter ! (𝓣 .C) (𝓣 .Λ)
@@ -57,12 +57,12 @@ walk 𝓤 H A W w k π at 𝓣 κ q d wt =
     -- [the token; what the struct owns]: what the number owns is made anew
     move ! (1 ∷ []) $ fsplit ! $ move ! (1 ∷ []) $ drop ! $ move ! (1 ∷ 0 ∷ []) $
     owned ! (UInt w) (Is (UInt w)) (uint-makes 𝓤 H A W w) (π (d .places)) _ (refl, fits .fits) $
-    by ! (exits 𝓤 H A (R w) (Field w π) W κ q d _ _ refl)))
+    by ! (exits 𝓤 H A (R w) (NumberOf w π) W κ q d _ _ refl)))
 
 module _ {M : Type 1} (𝓤 : URA M) (H : Heap 𝓤) (𝓜 : Model 𝓤 H) (𝓖 : GhostRules 𝓤 H) (𝓡 : Running 𝓤 H 𝓜) (γ : Env) (f : Name)
     (w : Width) (k : ℕ) (π : RequestPlaces → ℕ) (at : At (tyInt w) k (λ d. vint w (π d))) where
   pub number : Closed 𝓤 H (tables 𝓤 H 𝓜 𝓡 γ .C) (tables 𝓤 H 𝓜 𝓡 γ .Λ) f (numberFn w k)
-      → Meets 𝓤 H (𝓖 .A) (Takes (R w)) (𝓡 .run (γ f)) (closing 𝓤 H (𝓖 .A) (Taken (R w)) (Says 𝓤 (R w) (Field w π)))
+      → Meets 𝓤 H (𝓖 .A) (Takes (R w)) (𝓡 .run (γ f)) (closing 𝓤 H (𝓖 .A) (Taken (R w)) (HeldSays 𝓤 (R w) (NumberOf w π)))
   number closed =
-      taken 𝓤 H 𝓜 𝓖 𝓡 γ f (R w) (Field w π) (numberFn w k) closed
+      taken 𝓤 H 𝓜 𝓖 𝓡 γ f (R w) (NumberOf w π) (numberFn w k) closed
       (walk 𝓤 H (𝓖 .A) (givenOf 𝓤 H 𝓜 𝓖) w k π at (tablesOf 𝓤 H 𝓜 (tables 𝓤 H 𝓜 𝓡 γ)))

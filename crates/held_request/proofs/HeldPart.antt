@@ -51,7 +51,7 @@ use Rattle.held_request.specs.declared.VerifierRequest.{VerifierRequest}
 use Rattle.held_request.proofs.VerifierRequest as T
 use Rattle.held_request.proofs.VerifierRequest.Laws as T′
 use Rattle.held_request.proofs.Calls.{Fun1, Fact1, Stated, calls-stated}
-use Rattle.held_request.proofs.Held.{B, Takes, Taken, Said, Says, At, inner, field-typed, becomes, mach, Entry, Post, exits, taken}
+use Rattle.held_request.proofs.Held.{B, Takes, Taken, Said, HeldSays, At, inner, field-typed, becomes, mach, Entry, Post, exits, taken}
 
 -- the MIR of such a function
 abbrev pub partFn : ℕ → Fn
@@ -156,7 +156,7 @@ module _ {M : Type 1} (𝓤 : URA M) (H : Heap 𝓤) (A : Atoms 𝓤) (W : Given
 module _ {M : Type 1} (𝓤 : URA M) (H : Heap 𝓤) (𝓜 : Model 𝓤 H) (𝓖 : GhostRules 𝓤 H) (𝓡 : Running 𝓤 H 𝓜) (γ : Env) (f : Name)
     (k : ℕ) (π : RequestPlaces → Place) (at : At P′.mir k (λ d. P′.lowered (π d))) where
   pub its-part : Closed 𝓤 H (tables 𝓤 H 𝓜 𝓡 γ .C) (tables 𝓤 H 𝓜 𝓡 γ .Λ) f (partFn k) → γ #part ≡ part-def.routine
-      → Meets 𝓤 H (𝓖 .A) (Takes R) (𝓡 .run (γ f)) (closing 𝓤 H (𝓖 .A) (Taken R) (Says 𝓤 R (PartOf π)))
+      → Meets 𝓤 H (𝓖 .A) (Takes R) (𝓡 .run (γ f)) (closing 𝓤 H (𝓖 .A) (Taken R) (HeldSays 𝓤 R (PartOf π)))
   unfolding tablesOf
   its-part closed calls =
       taken 𝓤 H 𝓜 𝓖 𝓡 γ f R (PartOf π) (partFn k) closed

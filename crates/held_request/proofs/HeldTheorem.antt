@@ -25,34 +25,34 @@ use Rattle.verifier_request.specs.Reading.{RequestReading, RequestTyped, reques
 use Rattle.verifier_request.specs.Writer.{requestWritten, requestStored}
 use Rattle.verifier_request.proofs.RequestTheorem.{request-accepts, request-given, request-theorem}
 use Rattle.held_request.specs.declared.places.RequestPlaces.{RequestPlaces}
-use Rattle.held_request.specs.Held.{placesOf, heldReading, isFor}
+use Rattle.held_request.specs.Held.{requestPlacesOf, heldReading, isFor}
 
 -- what was found in s
 abbrev found : List ℕ → RequestPlaces
-found s = placesOf (readRequest s)
+found s = requestPlacesOf (readRequest s)
 
 -- the functions hand out what the fields of the answer say
 held-given : (s : List ℕ) (f : RequestFields) → readRequest s ≡ Request f → heldReading s (found s) ≡ requestGiven s f
-unfolding placesOf heldReading bytesAt requestGiven
+unfolding requestPlacesOf heldReading bytesAt requestGiven
 held-given s f e = rw e
 
 -- an answer that is not refused has fields
-accepted : (s : List ℕ) (a : RequestAnswer) → readRequest s ≡ a → placesOf a .refusal ≡ 0 → readRequest s ≡ Request (requestFieldsOf s)
-unfolding placesOf
+accepted : (s : List ℕ) (a : RequestAnswer) → readRequest s ≡ a → requestPlacesOf a .refusal ≡ 0 → readRequest s ≡ Request (requestFieldsOf s)
+unfolding requestPlacesOf
 accepted s (Request f) e z = request-accepts s .1 (request-given s f e .0)
 accepted s (Refused x) e z = absurd (not-0 x z)
 
 -- not refused exactly where every check passes
 pub held-accepts : (s : List ℕ) → (found s .refusal ≡ 0) ↔ AllPass (requestRows s)
-unfolding placesOf
+unfolding requestPlacesOf
 held-accepts s = (λ z. request-accepts s .0 (accepted s (readRequest s) refl z), λ h. rw (request-accepts s .1 h))
 
 -- the number of what the checks find
 pub held-refusal : (s : List ℕ) → found s .refusal ≡ checkNumber (requestFault s)
-unfolding placesOf readRequest requestAnswer
+unfolding requestPlacesOf readRequest requestAnswer
 held-refusal s = by-check (requestFault s)
   where
-    by-check : (k : Check) → placesOf (requestAnswer k (requestFieldsOf s)) .refusal ≡ checkNumber k
+    by-check : (k : Check) → requestPlacesOf (requestAnswer k (requestFieldsOf s)) .refusal ≡ checkNumber k
     by-check Passed = refl
     by-check (Failed e) = refl
 

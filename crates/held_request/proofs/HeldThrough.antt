@@ -191,9 +191,9 @@ module _ {M : Type 1} (𝓤 : URA M) (H : Heap 𝓤) (𝓜 : Model 𝓤 H) (𝓖
       (cited 𝓤 H (Stated 𝓤 H (𝓖 .A) (plain B ∷ []) (yes, tt) R (Of R φ)) 𝓜 𝓡 γ g g-runs calls-g g-met))
 
   -- where G gives a number of the places
-  pub through-number : (w : Width) (π : RequestPlaces → ℕ) → Through (number.R w) (number.Field w π) (tyInt w)
+  pub through-number : (w : Width) (π : RequestPlaces → ℕ) → Through (number.R w) (number.NumberOf w π) (tyInt w)
   through-number w π =
-      through (number.R w) (number.Field w π) (tyInt w) (λ κs r u is. uint-lawful 𝓤 H (𝓖 .A) (givenOf 𝓤 H 𝓜 𝓖) w .typed r _ is .0)
+      through (number.R w) (number.NumberOf w π) (tyInt w) (λ κs r u is. uint-lawful 𝓤 H (𝓖 .A) (givenOf 𝓤 H 𝓜 𝓖) w .typed r _ is .0)
 
   -- where G gives the part at a place
   pub through-part : (π : RequestPlaces → Place) → Through part.R (part.PartOf π) (sliceTy (tyRef (named 0) imm (tyInt w8)))

@@ -50,13 +50,13 @@ refusedPlaces number =
       proof = nowhere;
     }
 
-unfoldable pub placesOf : RequestAnswer → RequestPlaces
-placesOf (Request f) = readPlaces f
-placesOf (Refused e) = refusedPlaces (errorNumber e)
+unfoldable pub requestPlacesOf : RequestAnswer → RequestPlaces
+requestPlacesOf (Request f) = readPlaces f
+requestPlacesOf (Refused e) = refusedPlaces (errorNumber e)
 
 -- the struct that the reader hands out for these bytes
 abbrev pub parsed : RefT (List ℕ) → VerifierRequest
-parsed s = record { request = s; places = placesOf (readRequest (now s)) }
+parsed s = record { request = s; places = requestPlacesOf (readRequest (now s)) }
 
 -- what its functions hand out, together
 unfoldable pub heldReading : List ℕ → RequestPlaces → RequestReading
@@ -74,5 +74,5 @@ heldReading s p =
 -- the bytes are a request for this digest: nothing was refused, and the digest found is this one
 unfoldable pub isFor : List ℕ → List ℕ → Bool
 isFor s digest =
-    let found = placesOf (readRequest s) in
+    let found = requestPlacesOf (readRequest s) in
     eqb (found .refusal) 0 && same (bytesAt s (found .«authorization_digest»)) digest

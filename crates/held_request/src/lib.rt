@@ -9,7 +9,7 @@ use octets::same_bytes;
 ghost use mathlib.Core.Path.{_≡_};
 ghost use Rattle.octets.specs.Places.{bytesAt};
 ghost use Rattle.verifier_request.specs.Reader.{readRequest};
-ghost use Rattle.held_request.specs.Held.{placesOf, parsed, isFor};
+ghost use Rattle.held_request.specs.Held.{requestPlacesOf, parsed, isFor};
 
 pub struct VerifierRequest<'a> {
     pub request: &'a [u8],
@@ -85,57 +85,57 @@ impl<'a> VerifierRequest<'a> {
 
 // 0 where these bytes are a request, else the refusal's number.
 pub fn refusal_of(request: &[u8]) -> u8
-    ensures { λ r. ⌜ r ≡ placesOf (readRequest (now (request .entry))) .refusal ⌝ }
+    ensures { λ r. ⌜ r ≡ requestPlacesOf (readRequest (now (request .entry))) .refusal ⌝ }
 {
     VerifierRequest::parse(request).refusal()
 }
 
 // The numbers of the request in these bytes; 0 where it is refused.
 pub fn algorithm_id_of(request: &[u8]) -> u16
-    ensures { λ r. ⌜ r ≡ placesOf (readRequest (now (request .entry))) .«algorithm_id» ⌝ }
+    ensures { λ r. ⌜ r ≡ requestPlacesOf (readRequest (now (request .entry))) .«algorithm_id» ⌝ }
 {
     VerifierRequest::parse(request).algorithm_id()
 }
 
 pub fn slot_of(request: &[u8]) -> u16
-    ensures { λ r. ⌜ r ≡ placesOf (readRequest (now (request .entry))) .slot ⌝ }
+    ensures { λ r. ⌜ r ≡ requestPlacesOf (readRequest (now (request .entry))) .slot ⌝ }
 {
     VerifierRequest::parse(request).slot()
 }
 
 pub fn operation_of(request: &[u8]) -> u8
-    ensures { λ r. ⌜ r ≡ placesOf (readRequest (now (request .entry))) .operation ⌝ }
+    ensures { λ r. ⌜ r ≡ requestPlacesOf (readRequest (now (request .entry))) .operation ⌝ }
 {
     VerifierRequest::parse(request).operation()
 }
 
 pub fn verifier_profile_of(request: &[u8]) -> u8
-    ensures { λ r. ⌜ r ≡ placesOf (readRequest (now (request .entry))) .«verifier_profile» ⌝ }
+    ensures { λ r. ⌜ r ≡ requestPlacesOf (readRequest (now (request .entry))) .«verifier_profile» ⌝ }
 {
     VerifierRequest::parse(request).verifier_profile()
 }
 
 // Its parts; no byte where it is refused.
 pub fn authorization_digest_of(request: &[u8]) -> &[u8]
-    ensures { λ r. ⌜ now r ≡ bytesAt (now (request .entry)) (placesOf (readRequest (now (request .entry))) .«authorization_digest») ⌝ }
+    ensures { λ r. ⌜ now r ≡ bytesAt (now (request .entry)) (requestPlacesOf (readRequest (now (request .entry))) .«authorization_digest») ⌝ }
 {
     VerifierRequest::parse(request).authorization_digest()
 }
 
 pub fn key_id_of(request: &[u8]) -> &[u8]
-    ensures { λ r. ⌜ now r ≡ bytesAt (now (request .entry)) (placesOf (readRequest (now (request .entry))) .«key_id») ⌝ }
+    ensures { λ r. ⌜ now r ≡ bytesAt (now (request .entry)) (requestPlacesOf (readRequest (now (request .entry))) .«key_id») ⌝ }
 {
     VerifierRequest::parse(request).key_id()
 }
 
 pub fn aux_of(request: &[u8]) -> &[u8]
-    ensures { λ r. ⌜ now r ≡ bytesAt (now (request .entry)) (placesOf (readRequest (now (request .entry))) .aux) ⌝ }
+    ensures { λ r. ⌜ now r ≡ bytesAt (now (request .entry)) (requestPlacesOf (readRequest (now (request .entry))) .aux) ⌝ }
 {
     VerifierRequest::parse(request).aux()
 }
 
 pub fn proof_of(request: &[u8]) -> &[u8]
-    ensures { λ r. ⌜ now r ≡ bytesAt (now (request .entry)) (placesOf (readRequest (now (request .entry))) .proof) ⌝ }
+    ensures { λ r. ⌜ now r ≡ bytesAt (now (request .entry)) (requestPlacesOf (readRequest (now (request .entry))) .proof) ⌝ }
 {
     VerifierRequest::parse(request).proof()
 }

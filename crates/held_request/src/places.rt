@@ -6,7 +6,7 @@ use verifier_request::RequestFields;
 use verifier_request::parse_verifier_request;
 ghost use mathlib.Core.Path.{_≡_};
 ghost use Rattle.verifier_request.specs.Reader.{readRequest};
-ghost use Rattle.held_request.specs.Held.{refusedPlaces, readPlaces, placesOf};
+ghost use Rattle.held_request.specs.Held.{refusedPlaces, readPlaces, requestPlacesOf};
 
 // `refusal` is 0, or the refusal's number; then all else is 0 and the places are empty.
 pub struct RequestPlaces {
@@ -68,7 +68,7 @@ fn places_at(fields: RequestFields) -> RequestPlaces
 
 // What was read, or the refusal.
 pub fn read_places(request: &[u8]) -> RequestPlaces
-    ensures { λ r. ⌜ r ≡ placesOf (readRequest (now (request .entry))) ⌝ }
+    ensures { λ r. ⌜ r ≡ requestPlacesOf (readRequest (now (request .entry))) ⌝ }
 {
     match parse_verifier_request(request) {
         RequestAnswer::Refused(error) => refused_places(error_number(error)),

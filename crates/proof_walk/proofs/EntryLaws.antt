@@ -15,14 +15,14 @@ use Rattle.protocol.specs.declared.error.ProtocolError.the-variants.{InvalidOpe
 use Rattle.protocol.specs.declared.policy.OperationCapability.the-variants.{Capability, Refused}
 use Rattle.account_state.specs.Fields.{entryLengthOf, entrySlotOf}
 use Rattle.account_state.specs.Reading.{entryOf, entriesOf, stateEntries}
-use Rattle.decision.specs.Proofs.{known, entryFor, noEntry}
+use Rattle.decision.specs.Proofs.{knownSlot, entryFor, noEntry}
 use Rattle.proof_walk.specs.Steps.{FoundIs}
 use Rattle.proof_walk.specs.declared.authenticator.Found.the-variants.{At, Missing}
 
 -- the search stands at `at` with `left` entries to look at: what they say is what all say
 pub record Seeking (state : List ℕ) (slot at left : ℕ) : Type 0 where
   pub small : at + 65535 * left ≤ 16711457
-  pub knows : known slot (stateEntries state) ≡ known slot (entriesOf left (drop at state))
+  pub knows : knownSlot slot (stateEntries state) ≡ knownSlot slot (entriesOf left (drop at state))
   pub finds : entryFor slot (stateEntries state) ≡ entryFor slot (entriesOf left (drop at state))
 
 -- the entry at the front, and those behind it
@@ -32,7 +32,7 @@ entries-first e left h = let l : left ≡ suc (left - 1) = omega arith in ap (λ
 
 module _ {state : List ℕ} {slot at left : ℕ} (z : Seeking state slot at left) where
   pub seek-hit : 0 < left → entrySlotOf (drop at state) ≡ slot → FoundIs (stateEntries state) state slot (At at)
-  unfolding known entryFor entryOf
+  unfolding knownSlot entryFor entryOf
   seek-hit h e =
       record {
         itsKnown = sym (z .knows ∙ rw (entries-first (drop at state) left h, eq-eqb (entrySlotOf (drop at state)) slot e));
@@ -41,7 +41,7 @@ module _ {state : List ℕ} {slot at left : ℕ} (z : Seeking state slot at left
 
   pub seek-next : 0 < left → (entrySlotOf (drop at state) ≡ slot → ⊥) → (n : ℕ) → n ≡ entryLengthOf (drop at state) → n ≤ 65535
       → Seeking state slot (at + n) (left - 1)
-  unfolding known entryFor entryOf
+  unfolding knownSlot entryFor entryOf
   seek-next h e n k m =
       record {
         small = omega arith;
@@ -50,7 +50,7 @@ module _ {state : List ℕ} {slot at left : ℕ} (z : Seeking state slot at left
       }
 
   pub seek-none : left ≡ 0 → FoundIs (stateEntries state) state slot Missing
-  unfolding known entryFor entriesOf entryOf noEntry numberAt fromLe
+  unfolding knownSlot entryFor entriesOf entryOf noEntry numberAt fromLe
   seek-none h = record { itsKnown = sym (z .knows ∙ rw h); itsEntry = sym (z .finds ∙ rw h) }
 
 -- an operation's capability is a bit

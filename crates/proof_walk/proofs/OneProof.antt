@@ -14,15 +14,15 @@ use Rattle.protocol.specs.declared.error.ProtocolError.the-variants.{InvalidWit
 use Rattle.protocol.specs.declared.check.Check.{Check}
 use Rattle.protocol.specs.declared.check.Check.the-variants.{Passed, Failed}
 use Rattle.protocol.proofs.AllPass.{failed-passed, failed-first}
-use Rattle.account_witness.specs.Reading.{proofReading}
+use Rattle.account_witness.specs.Reading.{proofGiven, proofOf}
 use Rattle.account_witness.specs.Walk as witness
 use Rattle.account_witness.specs.declared.walk.Proof.{Proof}
 use Rattle.account_witness.specs.declared.walk.ProofCursor.{ProofCursor}
 use Rattle.account_witness.specs.declared.walk.ProofStep.the-variants as proof-step
-use Rattle.account_witness.proofs.WalkLaws.{step-next, step-refused}
+use Rattle.account_witness.proofs.WalkLaws.{proof-step-next, proof-step-refused}
 use Rattle.decision.specs.Proofs.{Context, entryFor, proofRows}
 use Rattle.decision.specs.Walk.{verdict, approvedWeight}
-use Rattle.proof_walk.specs.Steps.{proofOf, RequestStepIs, Made, readAt, proofCheck, verdictOutcome, Went, ProofOutcomeIs}
+use Rattle.proof_walk.specs.Steps.{proofWith, RequestStepIs, proofCheck, verdictOutcome, ProofWalked, ProofOutcomeIs}
 use Rattle.proof_walk.specs.declared.request.RequestStep.the-variants as step
 use Rattle.proof_walk.specs.declared.walk.ProofOutcome.the-variants as outcome
 
@@ -57,8 +57,8 @@ layout-error lock at least e h =
 
 -- the turn by the verdict on its request
 pub outcome-by-verdict : (c : Context) (lock : List ℕ) (cursor : ProofCursor) (i : ℕ) (out after : List ℕ) (v len weight : ℕ) (next : ProofCursor)
-    → v ≡ verdict c i → Went c lock cursor out after len
-    → weight ≡ entryFor (readAt lock (cursor .offset) .slot) (c .entries) .weight
+    → v ≡ verdict c i → ProofWalked c lock cursor out after len
+    → weight ≡ entryFor (proofOf lock (cursor .offset) .slot) (c .entries) .weight
     → next ≡ witness.proofCursorBehind lock (cursor .offset)
     → ProofOutcomeIs c lock cursor i out after (verdictOutcome v len weight next)
 unfolding verdictOutcome approvedWeight
@@ -72,28 +72,28 @@ outcome-by-verdict c lock cursor i out after v len weight next k w wt n = go (eq
 module _ (c : Context) (lock : List ℕ) (cursor : ProofCursor) where
   pub turn-faulty : (e : ProtocolError) → witness.proofStep lock cursor ≡ proof-step.Refused e → proofCheck c lock cursor ≡ Failed e
   unfolding proofCheck _then_
-  turn-faulty e h = rw (step-refused lock cursor e h)
+  turn-faulty e h = rw (proof-step-refused lock cursor e h)
 
   -- a proof was read
   module _ (p : Proof) (next : ProofCursor) (h : witness.proofStep lock cursor ≡ proof-step.Next p next) where
-    pub turn-proof : readAt lock (cursor .offset) ≡ proofOf (p .slot) (take (p .len) (drop (p .start) lock))
-    unfolding readAt proofReading
-    turn-proof = rw (step-next lock cursor p next h .1)
+    pub turn-proof : proofOf lock (cursor .offset) ≡ proofWith (p .slot) (take (p .len) (drop (p .start) lock))
+    unfolding proofGiven
+    turn-proof = rw (proof-step-next lock cursor p next h .1)
 
     pub turn-next : next ≡ witness.proofCursorBehind lock (cursor .offset)
-    turn-next = sym (step-next lock cursor p next h .2)
+    turn-next = sym (proof-step-next lock cursor p next h .2)
 
-    pub turn-rows : proofCheck c lock cursor ≡ decide Passed (proofRows c 0 (readAt lock (cursor .offset)))
+    pub turn-rows : proofCheck c lock cursor ≡ decide Passed (proofRows c 0 (proofOf lock (cursor .offset)))
     unfolding proofCheck _then_
-    turn-rows = rw (step-next lock cursor p next h .0)
+    turn-rows = rw (proof-step-next lock cursor p next h .0)
 
     -- and its step was made from these bytes
     module _ (i : ℕ) (bytes : List ℕ) (b : bytes ≡ take (p .len) (drop (p .start) lock)) (out after : List ℕ) where
-      pub turn-refused : (e : ProtocolError) → RequestStepIs c (proofOf (p .slot) bytes) out after (step.Refused e)
+      pub turn-refused : (e : ProtocolError) → RequestStepIs c (proofWith (p .slot) bytes) out after (step.Refused e)
           → ProofOutcomeIs c lock cursor i out after (outcome.Refused e)
       turn-refused e s = (turn-rows ∙ rw (turn-proof, ← b) (s .0), s .1)
 
-      pub turn-made : (v len weight : ℕ) → v ≡ verdict c i → RequestStepIs c (proofOf (p .slot) bytes) out after (step.Made len weight)
+      pub turn-made : (v len weight : ℕ) → v ≡ verdict c i → RequestStepIs c (proofWith (p .slot) bytes) out after (step.Made len weight)
           → ProofOutcomeIs c lock cursor i out after (verdictOutcome v len weight next)
       turn-made v len weight k s =
           outcome-by-verdict c lock cursor i out after v len weight next k
@@ -104,14 +104,14 @@ module _ (c : Context) (lock : List ℕ) (cursor : ProofCursor) where
 -- what a turn's check says of the layout and of the rows
 pub turn-split : (c : Context) (lock : List ℕ) (cursor : ProofCursor) (e : ProtocolError) → proofCheck c lock cursor ≡ Failed e
     → let layout = decide Passed (witness.proofLayoutRows lock (cursor .offset) (cursor .least)) in
-    (layout ≡ Failed e) ⊎ ((layout ≡ Passed) × (decide Passed (proofRows c 0 (readAt lock (cursor .offset))) ≡ Failed e))
+    (layout ≡ Failed e) ⊎ ((layout ≡ Passed) × (decide Passed (proofRows c 0 (proofOf lock (cursor .offset))) ≡ Failed e))
 unfolding proofCheck
 turn-split c lock cursor e h =
-    then-failed (decide Passed (witness.proofLayoutRows lock (cursor .offset) (cursor .least))) (decide Passed (proofRows c 0 (readAt lock (cursor .offset)))) e h
+    then-failed (decide Passed (witness.proofLayoutRows lock (cursor .offset) (cursor .least))) (decide Passed (proofRows c 0 (proofOf lock (cursor .offset)))) e h
 
 pub turn-both : (c : Context) (lock : List ℕ) (cursor : ProofCursor) → proofCheck c lock cursor ≡ Passed
     → (decide Passed (witness.proofLayoutRows lock (cursor .offset) (cursor .least)) ≡ Passed)
-    × (decide Passed (proofRows c 0 (readAt lock (cursor .offset))) ≡ Passed)
+    × (decide Passed (proofRows c 0 (proofOf lock (cursor .offset))) ≡ Passed)
 unfolding proofCheck
 turn-both c lock cursor h =
-    then-passed (decide Passed (witness.proofLayoutRows lock (cursor .offset) (cursor .least))) (decide Passed (proofRows c 0 (readAt lock (cursor .offset)))) h
+    then-passed (decide Passed (witness.proofLayoutRows lock (cursor .offset) (cursor .least))) (decide Passed (proofRows c 0 (proofOf lock (cursor .offset)))) h

@@ -10,7 +10,7 @@ use Rattle.scene_table.specs.Scene.{Cell}
 use Rattle.scene_table.specs.Lent.{sceneIn}
 use Rattle.decision.specs.Proofs.{Context, contextFor}
 use Rattle.decision.specs.Walk.{WalkOutcome, walkOutcome, walkLock}
-use Rattle.proof_walk.specs.declared.walk.Walked.{Walked}
+use Rattle.proof_walk.specs.declared.walk.ProofWalkAnswer.{ProofWalkAnswer}
 
 -- the deps of the lent scene
 unfoldable pub sceneDeps : List ℕ → List ℕ → List Cell
@@ -27,5 +27,5 @@ unfoldable pub walkProofs : Context → List ℕ → WalkOutcome
 walkProofs c lock = cond (isOperation (c .operation)) (walkLock c lock) (walkOutcome (Failed InvalidOperation) 0 [])
 
 -- what the walk answers of its outcome
-unfoldable pub walkedOf : WalkOutcome → Walked
-walkedOf o = record { found = o .found; count = o .count; length = length (o .made) }
+unfoldable pub proofWalkAnswer : WalkOutcome → ProofWalkAnswer
+proofWalkAnswer o = record { found = o .found; count = o .count; length = length (o .made) }

@@ -12,12 +12,11 @@ use Rattle.protocol.specs.declared.error.ProtocolError.the-variants.{InvalidWit
 use Rattle.protocol.specs.declared.check.Check.{Check}
 use Rattle.protocol.specs.declared.check.Check.the-variants as check
 use Rattle.account_state.specs.Reading.{EntryReading, entryOf}
-use Rattle.account_witness.specs.Reading.{ProofReading, proofReading}
+use Rattle.account_witness.specs.Reading.{ProofReading, proofOf}
 use Rattle.account_witness.specs.Walk as witness
 use Rattle.account_witness.specs.declared.walk.ProofCursor.{ProofCursor}
-use Rattle.verifier_request.specs.Reading.{requestBytes}
 use Rattle.scene_table.specs.Scene.{Cell}
-use Rattle.decision.specs.Proofs.{Context, known, entryFor, authenticatorRows, proofRows, requestContent, requestOf}
+use Rattle.decision.specs.Proofs.{Context, knownSlot, entryFor, authenticatorRows, proofRows, requestOf}
 use Rattle.decision.specs.Walk.{verdict, approvedWeight, answered}
 use Rattle.proof_walk.specs.declared.authenticator.Found.{Found}
 use Rattle.proof_walk.specs.declared.authenticator.Found.the-variants.{At, Missing}
@@ -39,23 +38,20 @@ entryIn state Missing = []
 
 -- what the search for a slot's entry finds is what the entries say
 pub record FoundIs (entries : List EntryReading) (state : List ℕ) (slot : ℕ) (found : Found) : Type 0 where
-  pub itsKnown : isKnown found ≡ known slot entries
+  pub itsKnown : isKnown found ≡ knownSlot slot entries
   pub itsEntry : entryOf (entryIn state found) ≡ entryFor slot entries
 
 -- ---- the request of one proof
 
-abbrev pub proofOf : ℕ → List ℕ → ProofReading
-proofOf slot bytes = record { slot = slot; bytes = bytes }
+abbrev pub proofWith : ℕ → List ℕ → ProofReading
+proofWith slot bytes = record { slot = slot; bytes = bytes }
 
 -- the rows by what was found of the entry
 unfoldable pub foundRows : Bool → ℕ → List Cell → EntryReading → ℕ → ℕ → List Row
 foundRows isKnown operation deps e proof left = row isKnown InvalidWitness ∷ authenticatorRows operation deps e proof left
 
-unfoldable pub requestFor : ℕ → List ℕ → EntryReading → ProofReading → List ℕ
-requestFor operation digest e p = requestBytes (requestContent operation digest e p)
-
 -- the rows pass, and the request stands at the front of what was lent
-pub record Made (c : Context) (p : ProofReading) (out after : List ℕ) (len : ℕ) : Type 0 where
+pub record RequestMade (c : Context) (p : ProofReading) (out after : List ℕ) (len : ℕ) : Type 0 where
   pub passed : decide check.Passed (proofRows c 0 p) ≡ check.Passed
   pub wrote : after ≡ answered out (requestOf c p)
   pub long : len ≡ length (requestOf c p)
@@ -64,19 +60,15 @@ pub record Made (c : Context) (p : ProofReading) (out after : List ℕ) (len : �
 -- what a step comes to: a refusal, which writes nothing, or a request and the weight of its slot
 abbrev pub RequestStepIs : Context → ProofReading → List ℕ → List ℕ → RequestStep → Type 0
 RequestStepIs c p out after (step.Refused e) = (decide check.Passed (proofRows c 0 p) ≡ check.Failed e) × (after ≡ out)
-RequestStepIs c p out after (step.Made len weight) = Made c p out after len × (weight ≡ entryFor (p .slot) (c .entries) .weight)
+RequestStepIs c p out after (step.Made len weight) = RequestMade c p out after len × (weight ≡ entryFor (p .slot) (c .entries) .weight)
 
 -- ---- one proof
-
--- the proof at a place of the witness lock
-unfoldable pub readAt : List ℕ → ℕ → ProofReading
-readAt lock at = proofReading lock (witness.proofAt lock at)
 
 -- its layout, then its rows
 unfoldable pub proofCheck : Context → List ℕ → ProofCursor → Check
 proofCheck c lock cursor =
     decide check.Passed (witness.proofLayoutRows lock (cursor .offset) (cursor .least))
-    then decide check.Passed (proofRows c 0 (readAt lock (cursor .offset)))
+    then decide check.Passed (proofRows c 0 (proofOf lock (cursor .offset)))
 
 -- the outcome by the verdict on its request: 0 approved, 1 refused, 2 failed
 unfoldable pub verdictOutcome : ℕ → ℕ → ℕ → ProofCursor → ProofOutcome
@@ -84,16 +76,16 @@ verdictOutcome verdict len weight next =
     cond (eqb verdict 2) (outcome.Failed len) (outcome.Onward len (cond (eqb verdict 0) weight 0) next)
 
 -- its request was made
-pub record Went (c : Context) (lock : List ℕ) (cursor : ProofCursor) (out after : List ℕ) (len : ℕ) : Type 0 where
+pub record ProofWalked (c : Context) (lock : List ℕ) (cursor : ProofCursor) (out after : List ℕ) (len : ℕ) : Type 0 where
   pub passed : proofCheck c lock cursor ≡ check.Passed
-  pub made : Made c (readAt lock (cursor .offset)) out after len
+  pub made : RequestMade c (proofOf lock (cursor .offset)) out after len
 
 -- what a proof comes to
 abbrev pub ProofOutcomeIs : Context → List ℕ → ProofCursor → ℕ → List ℕ → List ℕ → ProofOutcome → Type 0
 ProofOutcomeIs c lock cursor i out after (outcome.Refused e) = (proofCheck c lock cursor ≡ check.Failed e) × (after ≡ out)
-ProofOutcomeIs c lock cursor i out after (outcome.Failed len) = Went c lock cursor out after len × (verdict c i ≡ 2)
+ProofOutcomeIs c lock cursor i out after (outcome.Failed len) = ProofWalked c lock cursor out after len × (verdict c i ≡ 2)
 ProofOutcomeIs c lock cursor i out after (outcome.Onward len weight next) =
-    Went c lock cursor out after len
+    ProofWalked c lock cursor out after len
     × (verdict c i ≢ 2)
-    × (weight ≡ approvedWeight c i (readAt lock (cursor .offset)))
+    × (weight ≡ approvedWeight c i (proofOf lock (cursor .offset)))
     × (next ≡ witness.proofCursorBehind lock (cursor .offset))

@@ -1,17 +1,18 @@
 // The authenticator entries of the current state, by slot.
-use octets::array_32;
-use octets::part;
+use account_state::entry_count_of;
+use account_state::entry_length_of;
+use account_state::entry_slot_of;
+use account_state::recovery_threshold_of;
+use account_state::rotate_threshold_of;
+use account_state::spend_threshold_of;
 use octets::rest;
-use octets::u8_at;
-use octets::u16_at;
 use protocol::ACCOUNT_STATE_HEADER_LEN;
 use protocol::OP_ROTATE;
 use protocol::OP_SPEND;
 use protocol::OperationCapability;
 use protocol::capability_for_operation;
 ghost use mathlib.Core.Path.{_≡_};
-ghost use Rattle.octets.specs.Lists.{arrayOf};
-ghost use Rattle.account_state.specs.Reading.{entryOf, stateEntries};
+ghost use Rattle.account_state.specs.Reading.{stateEntries};
 ghost use Rattle.decision.specs.Proofs.{thresholdOf, capable};
 ghost use Rattle.proof_walk.specs.Steps.{FoundIs, isKnown, entryIn};
 
@@ -25,13 +26,13 @@ pub(crate) fn find_authenticator(state: &[u8], slot: u16) -> Found
     ensures { λ r. ⌜ FoundIs (stateEntries (now (state .entry))) (now (state .entry)) slot r ⌝ }
 {
     let mut at = ACCOUNT_STATE_HEADER_LEN;
-    let mut left = u8_at(state, 22);
+    let mut left = entry_count_of(state);
     while 0 < left {
         let entry = rest(state, at);
-        if u16_at(entry, 2) == slot {
+        if entry_slot_of(entry) == slot {
             return Found::At(at);
         }
-        at += u16_at(entry, 0) as usize;
+        at += entry_length_of(entry) as usize;
         left -= 1;
     }
     Found::Missing
@@ -56,21 +57,6 @@ pub(crate) fn entry_bytes(state: &[u8], found: Found) -> &[u8]
     }
 }
 
-// The key of the entry at the front of the bytes, in its field of 32 bytes.
-pub(crate) fn key_id(entry: &[u8]) -> [u8; 32]
-    ensures { λ r. ⌜ r ≡ arrayOf 32 (entryOf (now (entry .entry)) .key) ⌝ }
-{
-    array_32(part(entry, 48, u16_at(entry, 44) as usize))
-}
-
-// The aux of the entry at the front of the bytes.
-pub(crate) fn aux(entry: &[u8]) -> &[u8]
-    ensures { λ r. ⌜ now r ≡ entryOf (now (entry .entry)) .aux ⌝ }
-{
-    let start = 48 + u16_at(entry, 44) as usize;
-    part(entry, start, u16_at(entry, 46) as usize)
-}
-
 // Whether the capabilities have the bit that the operation needs.
 pub(crate) fn is_capable(operation: u8, capabilities: u16) -> bool
     ensures { λ r. ⌜ r ≡ capable operation capabilities ⌝ }
@@ -86,8 +72,8 @@ pub(crate) fn threshold(state: &[u8], operation: u8) -> u16
     ensures { λ r. ⌜ r ≡ thresholdOf operation (now (state .entry)) ⌝ }
 {
     match operation {
-        OP_SPEND => u16_at(state, 16),
-        OP_ROTATE => u16_at(state, 18),
-        _ => u16_at(state, 20),
+        OP_SPEND => spend_threshold_of(state),
+        OP_ROTATE => rotate_threshold_of(state),
+        _ => recovery_threshold_of(state),
     }
 }

@@ -3,5 +3,5 @@ mod authenticator; // authenticator.rt
 mod request; // request.rt
 mod walk; // walk.rt
 
-pub use self::walk::Walked;
+pub use self::walk::ProofWalkAnswer;
 pub use self::walk::walk_proofs;

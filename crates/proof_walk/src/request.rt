@@ -1,18 +1,21 @@
 // One proof: the rows that it passes before its request is made, and the request.
-use crate::authenticator::aux;
 use crate::authenticator::entry_bytes;
 use crate::authenticator::find_authenticator;
 use crate::authenticator::is_capable;
 use crate::authenticator::is_known;
-use crate::authenticator::key_id;
+use account_state::algorithm_of;
+use account_state::aux_of;
+use account_state::capabilities_of;
+use account_state::code_hash_of;
+use account_state::hash_type_of;
+use account_state::key_of;
+use account_state::weight_of;
 use cell_search::CellField;
-use cell_search::Search;
 use cell_search::Source;
 use cell_search::search_cells;
+use octets::array_32;
 use octets::fits;
-use octets::part;
 use octets::u8_at;
-use octets::u16_at;
 use protocol::Check;
 use protocol::ProtocolError;
 use protocol::VERIFIER_MAX_AUX_LEN;
@@ -30,7 +33,7 @@ ghost use Rattle.account_state.specs.Reading.{entryOf};
 ghost use Rattle.verifier_request.specs.Writer.{requestWritten, requestStored};
 ghost use Rattle.decision.specs.Proofs.{verifierField, verifiers, requestContent};
 ghost use Rattle.proof_walk.specs.Answer.{walkContext, sceneDeps};
-ghost use Rattle.proof_walk.specs.Steps.{foundRows, proofOf, RequestStepIs};
+ghost use Rattle.proof_walk.specs.Steps.{foundRows, proofWith, RequestStepIs};
 
 // A refusal, or the length of the request that was made and the weight of its slot.
 pub(crate) enum RequestStep {
@@ -52,13 +55,9 @@ fn verifier_field(hash_type: u8) -> CellField
 fn resolve_verifier(table: &[u32], store: &[u8], entry: &[u8]) -> bool
     ensures { λ r. ⌜ r ≡ eqb (length (verifiers (entryOf (now (entry .entry))) (sceneDeps (now (table .entry)) (now (store .entry))))) 1 ⌝ }
 {
-    let field = verifier_field(u8_at(entry, 10));
-    let hash = part(entry, 12, 32);
-    match search_cells(table, store, Source::CellDep, field, hash) {
-        Search::Missing => false,
-        Search::One(_) => true,
-        Search::Several => false,
-    }
+    let field = verifier_field(hash_type_of(entry));
+    let hash = code_hash_of(entry);
+    search_cells(table, store, Source::CellDep, field, hash).is_one()
 }
 
 // The rows of a proof of `proof` bytes where `left` bytes of the answer buffer are left.
@@ -71,15 +70,16 @@ fn check_request(
     proof: usize,
     left: usize,
 ) -> Check
-    ensures { λ r. ⌜ r ≡ decide Passed (foundRows known operation (sceneDeps (now (table .entry)) (now (store .entry))) (entryOf (now (entry .entry))) proof left) ⌝ }
+    ensures { λ r. ⌜ r ≡ decide Passed
+        (foundRows known operation (sceneDeps (now (table .entry)) (now (store .entry))) (entryOf (now (entry .entry))) proof left) ⌝ }
 {
-    let aux = aux(entry).len();
+    let aux = aux_of(entry).len();
     let invalid = ProtocolError::InvalidRequest;
     let head = VERIFIER_REQUEST_HEADER_LEN + aux;
     Check::Passed
         .require(known, ProtocolError::InvalidWitness)
         .require(
-            is_capable(operation, u16_at(entry, 6)),
+            is_capable(operation, capabilities_of(entry)),
             ProtocolError::InvalidCapability,
         )
         .require(
@@ -104,17 +104,21 @@ fn encode_request(
     proof: &[u8],
     out: &mut [u8],
 ) -> WriteAnswer
-    ensures { λ r. ⌜ r ≡ requestWritten (requestContent operation digest (entryOf (now (entry .entry))) (proofOf slot (now (proof .entry)))) (now (out .entry)) ⌝ }
-    ensures { λ _. ⌜ now (out .exit) ≡ requestStored (requestContent operation digest (entryOf (now (entry .entry))) (proofOf slot (now (proof .entry)))) (now (out .entry)) ⌝ }
+    ensures { λ r. ⌜ r ≡ requestWritten
+        (requestContent operation digest (entryOf (now (entry .entry))) (proofWith slot (now (proof .entry))))
+        (now (out .entry)) ⌝ }
+    ensures { λ _. ⌜ now (out .exit) ≡ requestStored
+        (requestContent operation digest (entryOf (now (entry .entry))) (proofWith slot (now (proof .entry))))
+        (now (out .entry)) ⌝ }
 {
-    let aux = aux(entry);
+    let aux = aux_of(entry);
     encode_verifier_request(
-        u16_at(entry, 4),
+        algorithm_of(entry),
         slot,
         operation,
         u8_at(aux, 0),
         digest,
-        key_id(entry),
+        array_32(key_of(entry)),
         aux,
         proof,
         out,
@@ -132,7 +136,9 @@ pub(crate) fn make_request(
     proof: &[u8],
     out: &mut [u8],
 ) -> RequestStep
-    ensures { λ r. ⌜ RequestStepIs (walkContext (now (table .entry)) (now (store .entry)) (now (state .entry)) operation digest (length (now (out .entry)))) (proofOf slot (now (proof .entry))) (now (out .entry)) (now (out .exit)) r ⌝ }
+    ensures { λ r. ⌜ RequestStepIs
+        (walkContext (now (table .entry)) (now (store .entry)) (now (state .entry)) operation digest (length (now (out .entry))))
+        (proofWith slot (now (proof .entry))) (now (out .entry)) (now (out .exit)) r ⌝ }
 {
     let found = find_authenticator(state, slot);
     let entry = entry_bytes(state, found);
@@ -149,7 +155,7 @@ pub(crate) fn make_request(
         Check::Failed(error) => RequestStep::Refused(error),
         Check::Passed => match encode_request(entry, slot, operation, digest, proof, out) {
             WriteAnswer::Refused(error) => RequestStep::Refused(error),
-            WriteAnswer::Written(len) => RequestStep::Made(len, u16_at(entry, 8)),
+            WriteAnswer::Written(len) => RequestStep::Made(len, weight_of(entry)),
         },
     }
 }

@@ -6,8 +6,8 @@ use account_witness::ProofCursor;
 use account_witness::ProofStep;
 use account_witness::first_proof;
 use account_witness::next_proof;
+use account_witness::proof_count_of;
 use octets::part;
-use octets::u8_at;
 use protocol::Check;
 use protocol::ProtocolError;
 use protocol::is_operation;
@@ -18,11 +18,11 @@ ghost use lib.ListN.{length};
 ghost use Rattle.protocol.specs.Rows.{decide};
 ghost use Rattle.decision.specs.Proofs.{thresholdOf};
 ghost use Rattle.decision.specs.Walk.{walkLock, answered, lastRows};
-ghost use Rattle.proof_walk.specs.Answer.{walkContext, walkProofs, walkedOf};
+ghost use Rattle.proof_walk.specs.Answer.{walkContext, walkProofs, proofWalkAnswer};
 ghost use Rattle.proof_walk.specs.Steps.{verdictOutcome, ProofOutcomeIs};
 
 // What the walk answers: what the checks found, how many requests were made, and how many bytes they take.
-pub struct Walked {
+pub struct ProofWalkAnswer {
     pub found: Check,
     pub count: usize,
     pub length: usize,
@@ -54,12 +54,14 @@ fn walk_proof(
     state: &[u8],
     lock: &[u8],
     cursor: ProofCursor,
-    place: u8,
+    index: u8,
     operation: u8,
     digest: [u8; 32],
     out: &mut [u8],
 ) -> ProofOutcome
-    ensures { λ r. ⌜ ProofOutcomeIs (walkContext (now (table .entry)) (now (store .entry)) (now (state .entry)) operation digest (length (now (out .entry)))) (now (lock .entry)) cursor place (now (out .entry)) (now (out .exit)) r ⌝ }
+    ensures { λ r. ⌜ ProofOutcomeIs
+        (walkContext (now (table .entry)) (now (store .entry)) (now (state .entry)) operation digest (length (now (out .entry))))
+        (now (lock .entry)) cursor index (now (out .entry)) (now (out .exit)) r ⌝ }
 {
     match next_proof(lock, cursor) {
         ProofStep::Refused(error) => ProofOutcome::Refused(error),
@@ -69,7 +71,7 @@ fn walk_proof(
             match make_request(table, store, state, operation, digest, slot, bytes, out) {
                 RequestStep::Refused(error) => ProofOutcome::Refused(error),
                 RequestStep::Made(len, weight) => apply_verdict(
-                    verdict(table, place as u32),
+                    verdict(table, index as u32),
                     len,
                     weight,
                     next,
@@ -91,10 +93,10 @@ fn check_end(state: &[u8], lock: &[u8], operation: u8, offset: usize, weight: u3
 }
 
 // The answer where `count` requests of `length` bytes were made.
-fn answer_of(found: Check, count: u8, length: usize) -> Walked
+fn answer_of(found: Check, count: u8, length: usize) -> ProofWalkAnswer
     ensures { λ r. ⌜ r ≡ record { found = found; count = count; length = length } ⌝ }
 {
-    Walked {
+    ProofWalkAnswer {
         found,
         count: count as usize,
         length,
@@ -110,11 +112,15 @@ fn walk_lock(
     operation: u8,
     digest: [u8; 32],
     answer: &mut [u8],
-) -> Walked
-    ensures { λ r. ⌜ r ≡ walkedOf (walkLock (walkContext (now (table .entry)) (now (store .entry)) (now (state .entry)) operation digest (length (now (answer .entry)))) (now (lock .entry))) ⌝ }
-    ensures { λ _. ⌜ now (answer .exit) ≡ answered (now (answer .entry)) (walkLock (walkContext (now (table .entry)) (now (store .entry)) (now (state .entry)) operation digest (length (now (answer .entry)))) (now (lock .entry)) .made) ⌝ }
+) -> ProofWalkAnswer
+    ensures { λ r. ⌜ r ≡ proofWalkAnswer (walkLock
+        (walkContext (now (table .entry)) (now (store .entry)) (now (state .entry)) operation digest (length (now (answer .entry))))
+        (now (lock .entry))) ⌝ }
+    ensures { λ _. ⌜ now (answer .exit) ≡ answered (now (answer .entry)) (walkLock
+        (walkContext (now (table .entry)) (now (store .entry)) (now (state .entry)) operation digest (length (now (answer .entry))))
+        (now (lock .entry)) .made) ⌝ }
 {
-    let count = u8_at(lock, 6);
+    let count = proof_count_of(lock);
     let mut cursor = first_proof();
     let mut weight: u32 = 0;
     let mut total: usize = 0;
@@ -149,9 +155,13 @@ pub fn walk_proofs(
     operation: u8,
     digest: [u8; 32],
     answer: &mut [u8],
-) -> Walked
-    ensures { λ r. ⌜ r ≡ walkedOf (walkProofs (walkContext (now (table .entry)) (now (store .entry)) (now (state .entry)) operation digest (length (now (answer .entry)))) (now (lock .entry))) ⌝ }
-    ensures { λ _. ⌜ now (answer .exit) ≡ answered (now (answer .entry)) (walkProofs (walkContext (now (table .entry)) (now (store .entry)) (now (state .entry)) operation digest (length (now (answer .entry)))) (now (lock .entry)) .made) ⌝ }
+) -> ProofWalkAnswer
+    ensures { λ r. ⌜ r ≡ proofWalkAnswer (walkProofs
+        (walkContext (now (table .entry)) (now (store .entry)) (now (state .entry)) operation digest (length (now (answer .entry))))
+        (now (lock .entry))) ⌝ }
+    ensures { λ _. ⌜ now (answer .exit) ≡ answered (now (answer .entry)) (walkProofs
+        (walkContext (now (table .entry)) (now (store .entry)) (now (state .entry)) operation digest (length (now (answer .entry))))
+        (now (lock .entry)) .made) ⌝ }
 {
     if is_operation(operation) {
         walk_lock(table, store, state, lock, operation, digest, answer)

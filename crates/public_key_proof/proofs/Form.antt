@@ -13,29 +13,29 @@ use Rattle.public_key_proof.specs.Reading.{PublicKeyProofReading, public
 use Rattle.public_key_proof.specs.Writer.{publicKeyProofTotal}
 
 module _ (r : PublicKeyProofReading) where
-  abbrev pub Head : List ℕ
-  Head = layoutBytes (publicKeyProofHead r)
+  abbrev pub publicKeyProofHeadBytes : List ℕ
+  publicKeyProofHeadBytes = layoutBytes (publicKeyProofHead r)
 
-  pub length-head : length Head ≡ 5
+  pub length-public-key-proof-head : length publicKeyProofHeadBytes ≡ 5
   unfolding publicKeyProofHead
-  length-head = length-numbers (publicKeyProofHead r)
+  length-public-key-proof-head = length-numbers (publicKeyProofHead r)
 
-  pub before-signature : length (Head ++ r .publicKey) ≡ 5 + length (r .publicKey)
-  before-signature = simp (length-append, length-head)
+  pub before-signature : length (publicKeyProofHeadBytes ++ r .publicKey) ≡ 5 + length (r .publicKey)
+  before-signature = simp (length-append, length-public-key-proof-head)
 
-  pub length-proof : length (publicKeyProofBytes r) ≡ publicKeyProofTotal r
+  pub length-public-key-proof : length (publicKeyProofBytes r) ≡ publicKeyProofTotal r
   unfolding publicKeyProofBytes publicKeyProofTotal
-  length-proof = simp (length-append, length-head)
+  length-public-key-proof = simp (length-append, length-public-key-proof-head)
 
   -- the parts stored one behind another
-  pub parts-stored : (l : List ℕ)
+  pub public-key-proof-parts-stored : (l : List ℕ)
       → sets (sets (storeNumbers l 0 (publicKeyProofHead r)) 5 (r .publicKey)) (5 + length (r .publicKey)) (r .signature) ≡ sets l 0 (publicKeyProofBytes r)
   unfolding publicKeyProofBytes
-  parts-stored l =
-      let h : length Head ≡ 5 = length-head in
-      let e : length (Head ++ r .publicKey) ≡ 5 + length (r .publicKey) = before-signature in
+  public-key-proof-parts-stored l =
+      let h : length publicKeyProofHeadBytes ≡ 5 = length-public-key-proof-head in
+      let e : length (publicKeyProofHeadBytes ++ r .publicKey) ≡ 5 + length (r .publicKey) = before-signature in
       rw (
         numbers-stored l 0 (publicKeyProofHead r),
-        sets-append l 0 Head (r .publicKey) 5 (omega arith),
-        sets-append l 0 (Head ++ r .publicKey) (r .signature) (5 + length (r .publicKey)) (omega arith),
+        sets-append l 0 publicKeyProofHeadBytes (r .publicKey) 5 (omega arith),
+        sets-append l 0 (publicKeyProofHeadBytes ++ r .publicKey) (r .signature) (5 + length (r .publicKey)) (omega arith),
       )

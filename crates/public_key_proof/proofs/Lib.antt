@@ -1,3 +1,3 @@
 pub mod Form
 pub mod Inverse
-pub mod ProofTheorem
+pub mod PublicKeyProofTheorem

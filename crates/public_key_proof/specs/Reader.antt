@@ -24,13 +24,17 @@ publicKeyLengthOf s = numberAt s 1 2
 abbrev pub signatureLengthOf : List ℕ → ℕ
 signatureLengthOf s = numberAt s 3 2
 
+-- where the key begins, behind them
+abbrev pub publicKeyOffset : ℕ
+publicKeyOffset = 5
+
 unfoldable pub publicKeyProofRows : List ℕ → List Row
 publicKeyProofRows s =
-    row (leb 5 (length s)) InvalidProof
+    row (leb publicKeyOffset (length s)) InvalidProof
     ∷ row (eqb (publicKeyProofVersionOf s) 1) InvalidProof
     ∷ row (ltb 0 (publicKeyLengthOf s)) InvalidProof
     ∷ row (ltb 0 (signatureLengthOf s)) InvalidProof
-    ∷ row (eqb (5 + publicKeyLengthOf s + signatureLengthOf s) (length s)) InvalidProof
+    ∷ row (eqb (publicKeyOffset + publicKeyLengthOf s + signatureLengthOf s) (length s)) InvalidProof
     ∷ []
 
 unfoldable pub publicKeyProofFault : List ℕ → Check
@@ -40,9 +44,9 @@ publicKeyProofFault s = decide Passed (publicKeyProofRows s)
 unfoldable pub publicKeyProofPlaces : List ℕ → PublicKeyProof
 publicKeyProofPlaces s =
     record {
-      «public_key» = 5;
+      «public_key» = publicKeyOffset;
       «public_key_len» = publicKeyLengthOf s;
-      signature = 5 + publicKeyLengthOf s;
+      signature = publicKeyOffset + publicKeyLengthOf s;
       «signature_len» = signatureLengthOf s;
     }
 

@@ -9,6 +9,7 @@ use Rattle.protocol.specs.Write.{writeFault, writeAnswer, afterWrite}
 use Rattle.protocol.specs.declared.error.ProtocolError.the-variants.{InvalidProof, LengthOverflow}
 use Rattle.protocol.specs.declared.check.Check.{Check}
 use Rattle.protocol.specs.declared.check.WriteAnswer.{WriteAnswer}
+use Rattle.public_key_proof.specs.Reader.{publicKeyOffset}
 use Rattle.public_key_proof.specs.Reading.{PublicKeyProofReading, publicKeyProofBytes}
 
 -- 01, Public-key proof: "both not 0"; host: "The public-key proof writer gives 39 where a part exceeds 65,535 bytes." The Rust
@@ -23,16 +24,16 @@ publicKeyProofWriterRows r =
 
 -- the length of the written form
 unfoldable pub publicKeyProofTotal : PublicKeyProofReading → ℕ
-publicKeyProofTotal r = 5 + length (r .publicKey) + length (r .signature)
+publicKeyProofTotal r = publicKeyOffset + length (r .publicKey) + length (r .signature)
 
 -- what the writer's checks find, for a buffer of `room` bytes
-unfoldable pub publicKeyProofRoom : PublicKeyProofReading → ℕ → Check
-publicKeyProofRoom r room = writeFault (publicKeyProofWriterRows r) (publicKeyProofTotal r) room
+unfoldable pub publicKeyProofWriterFault : PublicKeyProofReading → ℕ → Check
+publicKeyProofWriterFault r room = writeFault (publicKeyProofWriterRows r) (publicKeyProofTotal r) room
 
 -- the writer's answer
 unfoldable pub publicKeyProofWritten : PublicKeyProofReading → List ℕ → WriteAnswer
-publicKeyProofWritten r out = writeAnswer (publicKeyProofRoom r (length out)) (publicKeyProofTotal r)
+publicKeyProofWritten r out = writeAnswer (publicKeyProofWriterFault r (length out)) (publicKeyProofTotal r)
 
 -- and the buffer afterwards
 unfoldable pub publicKeyProofStored : PublicKeyProofReading → List ℕ → List ℕ
-publicKeyProofStored r out = afterWrite (publicKeyProofRoom r (length out)) (publicKeyProofBytes r) out
+publicKeyProofStored r out = afterWrite (publicKeyProofWriterFault r (length out)) (publicKeyProofBytes r) out

@@ -1,6 +1,8 @@
 // The reader of a public-key proof.
-use octets::u8_at;
-use octets::u16_at;
+use crate::fields::public_key_length_of;
+use crate::fields::public_key_proof_version_of;
+use crate::fields::signature_length_of;
+use crate::offsets::PUBLIC_KEY_OFFSET;
 use protocol::Check;
 use protocol::ProtocolError;
 ghost use mathlib.Core.Path.{_≡_};
@@ -23,25 +25,28 @@ fn check_proof(proof: &[u8]) -> Check
     ensures { λ r. ⌜ r ≡ publicKeyProofFault (now (proof .entry)) ⌝ }
 {
     let invalid = ProtocolError::InvalidProof;
-    let public_key_len = u16_at(proof, 1) as usize;
-    let signature_len = u16_at(proof, 3) as usize;
+    let public_key_len = public_key_length_of(proof) as usize;
+    let signature_len = signature_length_of(proof) as usize;
     Check::Passed
-        .require(5 <= proof.len(), invalid)
-        .require(u8_at(proof, 0) == 1, invalid)
+        .require(PUBLIC_KEY_OFFSET <= proof.len(), invalid)
+        .require(public_key_proof_version_of(proof) == 1, invalid)
         .require(0 < public_key_len, invalid)
         .require(0 < signature_len, invalid)
-        .require(5 + public_key_len + signature_len == proof.len(), invalid)
+        .require(
+            PUBLIC_KEY_OFFSET + public_key_len + signature_len == proof.len(),
+            invalid,
+        )
 }
 
 fn places_at(proof: &[u8]) -> PublicKeyProof
     ensures { λ r. ⌜ r ≡ publicKeyProofPlaces (now (proof .entry)) ⌝ }
 {
-    let public_key_len = u16_at(proof, 1) as usize;
+    let public_key_len = public_key_length_of(proof) as usize;
     PublicKeyProof {
-        public_key: 5,
+        public_key: PUBLIC_KEY_OFFSET,
         public_key_len: public_key_len,
-        signature: 5 + public_key_len,
-        signature_len: u16_at(proof, 3) as usize,
+        signature: PUBLIC_KEY_OFFSET + public_key_len,
+        signature_len: signature_length_of(proof) as usize,
     }
 }
 

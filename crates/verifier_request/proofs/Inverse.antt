@@ -18,15 +18,15 @@ use Rattle.protocol.specs.Policy.{isOperation}
 use Rattle.protocol.specs.Rows.{AllPass}
 use Rattle.protocol.proofs.AllPass.{all-pass-append}
 use Rattle.verifier_request.specs.Fields.{requestAbiOf, requestAlgorithmOf, requestAuxLengthOf, requestHeaderLengthOf, requestLastZerosOf, requestMagicOf, requestOperationOf, requestProfileOf, requestProofLengthOf, requestReservedOf, requestSlotOf, requestZerosOf}
-use Rattle.verifier_request.specs.Reader.{verifierMagic, requestHeaderRows, requestFieldRows, requestRows, requestFieldsOf}
+use Rattle.verifier_request.specs.Reader.{requestMagic, requestHeaderRows, requestFieldRows, requestRows, requestFieldsOf}
 use Rattle.verifier_request.specs.Reading.{RequestReading, RequestTyped, requestGiven, requestReading, requestHead, requestLengths, requestBytes}
-use Rattle.verifier_request.specs.Writer.{writerLimitRows, requestWriterRows, requestTotal}
-use Rattle.verifier_request.proofs.Form.{Sized, typed-sized, Head, Lengths, length-head, before-key, before-lengths, before-aux, before-proof, length-request}
+use Rattle.verifier_request.specs.Writer.{requestWriterLimitRows, requestWriterRows, requestTotal}
+use Rattle.verifier_request.proofs.Form.{RequestSized, request-typed-sized, requestHeadBytes, requestLengthBytes, length-request-head, before-key, before-lengths, before-aux, before-proof, length-request}
 
 -- what the rows say of a request that passes them; that it has at most 69,728 bytes follows
-pub record Passes (s : List ℕ) : Type 0 where
+pub record RequestPasses (s : List ℕ) : Type 0 where
   pub header : 96 ≤ length s
-  pub magic : requestMagicOf s ≡ verifierMagic
+  pub magic : requestMagicOf s ≡ requestMagic
   pub abi : requestAbiOf s ≡ 1
   pub flags : requestReservedOf s ≡ 0
   pub headerLen : requestHeaderLengthOf s ≡ 96
@@ -37,9 +37,9 @@ pub record Passes (s : List ℕ) : Type 0 where
   pub proof : requestProofLengthOf s ≤ 65536
   pub sum : 96 + requestAuxLengthOf s + requestProofLengthOf s ≡ length s
 
-pub passes : (s : List ℕ) → AllPass (requestRows s) → Passes s
+pub request-passes : (s : List ℕ) → AllPass (requestRows s) → RequestPasses s
 unfolding requestRows requestHeaderRows requestFieldRows
-passes s h =
+request-passes s h =
     let k = h .1 .1 .1 .1 .1 .1 in
     record {
       header = leb-true _ _ (h .0);
@@ -55,16 +55,16 @@ passes s h =
       sum = eqb-true _ _ (k .1 .1 .1 .1 .1 .0);
     }
 
-pub passes-hold : (s : List ℕ) → Passes s → AllPass (requestRows s)
+pub request-passes-hold : (s : List ℕ) → RequestPasses s → AllPass (requestRows s)
 unfolding requestRows requestHeaderRows requestFieldRows
-passes-hold s z =
+request-passes-hold s z =
     let most : length s ≤ 69728 = omega arith in
     all-pass-append (requestHeaderRows s) (requestFieldRows s)
     (le-leb _ _ (z .header), (le-leb _ _ most, (eq-eqb _ _ (z .magic), (eq-eqb _ _ (z .abi), (eq-eqb _ _ (z .flags), (eq-eqb _ _ (z .headerLen), tt))))))
     (z .operation, (eq-eqb _ _ (z .zeros), (eq-eqb _ _ (z .lastZeros), (le-leb _ _ (z .aux), (le-leb _ _ (z .proof), (eq-eqb _ _ (z .sum), tt))))))
 
 -- From the bytes to the reading and back.
-module _ (s : List ℕ) (b : Bytes s) (z : Passes s) where
+module _ (s : List ℕ) (b : Bytes s) (z : RequestPasses s) where
   head-back : layoutBytes (requestHead (requestAlgorithmOf s) (requestSlotOf s) (requestOperationOf s) (requestProfileOf s)) ≡ take 16 s
   unfolding requestHead layoutAt
   head-back =
@@ -82,9 +82,9 @@ module _ (s : List ℕ) (b : Bytes s) (z : Passes s) where
   length-proof = part-length s (96 + requestAuxLengthOf s) (requestProofLengthOf s) (omega arith)
 
   -- the request is the written form of its reading,
-  pub reading-written : requestBytes (requestReading s) ≡ s
+  pub request-back : requestBytes (requestReading s) ≡ s
   unfolding requestBytes requestReading requestGiven requestFieldsOf
-  reading-written =
+  request-back =
       let a = requestAuxLengthOf s in
       let p = requestProofLengthOf s in
       rw (
@@ -101,9 +101,9 @@ module _ (s : List ℕ) (b : Bytes s) (z : Passes s) where
       (take-all (96 + a + p) s (omega arith))
 
   -- whose fields are of their types,
-  pub reading-typed : RequestTyped (requestReading s)
+  pub request-typed : RequestTyped (requestReading s)
   unfolding requestReading requestGiven requestFieldsOf
-  reading-typed =
+  request-typed =
       record {
         algorithm = number-lt s 8 2 b;
         slot = number-lt s 10 2 b;
@@ -114,24 +114,24 @@ module _ (s : List ℕ) (b : Bytes s) (z : Passes s) where
       }
 
   -- which is within the writer's limits,
-  pub reading-limits : AllPass (requestWriterRows (requestReading s))
-  unfolding requestWriterRows writerLimitRows requestReading requestGiven requestFieldsOf
-  reading-limits = rw (length-aux, length-proof) (z .operation, (le-leb _ _ (z .aux), (le-leb _ _ (z .proof), tt)))
+  pub request-reading-limits : AllPass (requestWriterRows (requestReading s))
+  unfolding requestWriterRows requestWriterLimitRows requestReading requestGiven requestFieldsOf
+  request-reading-limits = rw (length-aux, length-proof) (z .operation, (le-leb _ _ (z .aux), (le-leb _ _ (z .proof), tt)))
 
   -- and whose written form is as long as the request
-  pub reading-total : requestTotal (requestReading s) ≡ length s
+  pub request-reading-total : requestTotal (requestReading s) ≡ length s
   unfolding requestTotal requestReading requestGiven requestFieldsOf
-  reading-total = rw (length-aux, length-proof) (z .sum)
+  request-reading-total = rw (length-aux, length-proof) (z .sum)
 
 -- From a reading to the bytes and back, where the parts' lengths fit their fields.
 module _ (r : RequestReading) (t : RequestTyped r) (small : requestTotal r < 2 ^ 32) where
-  sized : Sized r
-  sized = typed-sized r t
+  sized : RequestSized r
+  sized = request-typed-sized r t
 
   head-read : layoutAt (4 ∷ 1 ∷ 1 ∷ 2 ∷ 2 ∷ 2 ∷ 1 ∷ 1 ∷ 2 ∷ []) (requestBytes r) 0 ≡ requestHead (r .algorithm) (r .slot) (r .operation) (r .profile)
   unfolding requestBytes requestHead
   head-read =
-      numbers-back (requestHead (r .algorithm) (r .slot) (r .operation) (r .profile)) (requestBytes r) [] (r .digest ++ (r .key ++ (Lengths r ++ (r .aux ++ r .proof)))) 0
+      numbers-back (requestHead (r .algorithm) (r .slot) (r .operation) (r .profile)) (requestBytes r) [] (r .digest ++ (r .key ++ (requestLengthBytes r ++ (r .aux ++ r .proof)))) 0
       (omega arith)
       (simp append-assoc)
       refl
@@ -139,7 +139,7 @@ module _ (r : RequestReading) (t : RequestTyped r) (small : requestTotal r < 2 ^
   lengths-read : layoutAt (4 ∷ 4 ∷ 8 ∷ []) (requestBytes r) 80 ≡ requestLengths (length (r .aux)) (length (r .proof))
   unfolding requestBytes requestLengths requestTotal
   lengths-read =
-      numbers-back (requestLengths (length (r .aux)) (length (r .proof))) (requestBytes r) (Head r ++ r .digest ++ r .key) (r .aux ++ r .proof) 80
+      numbers-back (requestLengths (length (r .aux)) (length (r .proof))) (requestBytes r) (requestHeadBytes r ++ r .digest ++ r .key) (r .aux ++ r .proof) 80
       (omega arith)
       (simp append-assoc)
       (before-lengths r sized)
@@ -147,30 +147,30 @@ module _ (r : RequestReading) (t : RequestTyped r) (small : requestTotal r < 2 ^
   digest-read : take 32 (drop 16 (requestBytes r)) ≡ r .digest
   unfolding requestBytes
   digest-read =
-      part-back (requestBytes r) (Head r) (r .digest) (r .key ++ (Lengths r ++ (r .aux ++ r .proof))) 16 32 (simp append-assoc) (length-head r) (t .digest)
+      part-back (requestBytes r) (requestHeadBytes r) (r .digest) (r .key ++ (requestLengthBytes r ++ (r .aux ++ r .proof))) 16 32 (simp append-assoc) (length-request-head r) (t .digest)
 
   key-read : take 32 (drop 48 (requestBytes r)) ≡ r .key
   unfolding requestBytes
   key-read =
-      part-back (requestBytes r) (Head r ++ r .digest) (r .key) (Lengths r ++ (r .aux ++ r .proof)) 48 32 (simp append-assoc) (before-key r sized) (t .key)
+      part-back (requestBytes r) (requestHeadBytes r ++ r .digest) (r .key) (requestLengthBytes r ++ (r .aux ++ r .proof)) 48 32 (simp append-assoc) (before-key r sized) (t .key)
 
   aux-read : take (length (r .aux)) (drop 96 (requestBytes r)) ≡ r .aux
   unfolding requestBytes
   aux-read =
-      part-back (requestBytes r) (Head r ++ r .digest ++ r .key ++ Lengths r) (r .aux) (r .proof) 96 _ (simp append-assoc) (before-aux r sized) refl
+      part-back (requestBytes r) (requestHeadBytes r ++ r .digest ++ r .key ++ requestLengthBytes r) (r .aux) (r .proof) 96 _ (simp append-assoc) (before-aux r sized) refl
 
   proof-read : take (length (r .proof)) (drop (96 + length (r .aux)) (requestBytes r)) ≡ r .proof
   unfolding requestBytes
   proof-read =
-      part-back (requestBytes r) (Head r ++ r .digest ++ r .key ++ Lengths r ++ r .aux) (r .proof) [] (96 + length (r .aux)) _
+      part-back (requestBytes r) (requestHeadBytes r ++ r .digest ++ r .key ++ requestLengthBytes r ++ r .aux) (r .proof) [] (96 + length (r .aux)) _
       (simp (append-assoc, append-nil))
       (before-proof r sized)
       refl
 
   -- the written form is read as the reading,
-  pub written-reading : requestReading (requestBytes r) ≡ r
+  pub request-written-read : requestReading (requestBytes r) ≡ r
   unfolding requestReading requestGiven requestFieldsOf requestHead requestLengths layoutAt
-  written-reading =
+  request-written-read =
       let e₁ : requestAlgorithmOf (requestBytes r) ≡ r .algorithm = ap (fieldValue 4) head-read in
       let e₂ : requestSlotOf (requestBytes r) ≡ r .slot = ap (fieldValue 5) head-read in
       let e₃ : requestOperationOf (requestBytes r) ≡ r .operation = ap (fieldValue 6) head-read in
@@ -180,9 +180,9 @@ module _ (r : RequestReading) (t : RequestTyped r) (small : requestTotal r < 2 ^
       rw (e₁, e₂, e₃, e₄, e₅, e₆, digest-read, key-read, aux-read, proof-read)
 
   -- and within the writer's limits it passes
-  pub written-passes : AllPass (requestWriterRows r) → Passes (requestBytes r)
-  unfolding requestWriterRows writerLimitRows requestTotal requestHead requestLengths layoutAt
-  written-passes h =
+  pub request-written-passes : AllPass (requestWriterRows r) → RequestPasses (requestBytes r)
+  unfolding requestWriterRows requestWriterLimitRows requestTotal requestHead requestLengths layoutAt
+  request-written-passes h =
       let a : length (r .aux) ≤ 4096 = leb-true _ _ (h .1 .0) in
       let p : length (r .proof) ≤ 65536 = leb-true _ _ (h .1 .1 .0) in
       let n : length (requestBytes r) ≡ 96 + length (r .aux) + length (r .proof) = length-request r sized in

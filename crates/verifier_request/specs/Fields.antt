@@ -1,5 +1,5 @@
 -- The fields of a request by their names, in the layout's order.
-use Prim.Native.Nat.{ℕ}
+use Prim.Native.Nat.{ℕ, _+_}
 use mathlib.Core.List.{List}
 use Rattle.octets.specs.Le.{numberAt}
 
@@ -32,7 +32,13 @@ requestProfileOf s = numberAt s 13 1
 abbrev pub requestZerosOf : List ℕ → ℕ
 requestZerosOf s = numberAt s 14 2
 
--- digest and key stand at 16 and 48
+-- where the digest and the key begin
+abbrev pub requestDigestOffset : ℕ
+requestDigestOffset = 16
+
+abbrev pub requestKeyOffset : ℕ
+requestKeyOffset = 48
+
 abbrev pub requestAuxLengthOf : List ℕ → ℕ
 requestAuxLengthOf s = numberAt s 80 4
 
@@ -41,3 +47,7 @@ requestProofLengthOf s = numberAt s 84 4
 
 abbrev pub requestLastZerosOf : List ℕ → ℕ
 requestLastZerosOf s = numberAt s 88 8
+
+-- the length of a request with these lengths of aux and proof
+abbrev pub requestSize : ℕ → ℕ → ℕ
+requestSize aux proof = 96 + aux + proof

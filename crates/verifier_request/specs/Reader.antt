@@ -10,21 +10,21 @@ use Rattle.protocol.specs.Rows.{Row, row, decide}
 use Rattle.protocol.specs.declared.error.ProtocolError.the-variants.{InvalidRequest, InvalidOperation, UnsupportedVersion}
 use Rattle.protocol.specs.declared.check.Check.{Check}
 use Rattle.protocol.specs.declared.check.Check.the-variants.{Passed, Failed}
-use Rattle.verifier_request.specs.Fields.{requestMagicOf, requestAbiOf, requestReservedOf, requestHeaderLengthOf, requestAlgorithmOf, requestSlotOf, requestOperationOf, requestProfileOf, requestZerosOf, requestAuxLengthOf, requestProofLengthOf, requestLastZerosOf}
+use Rattle.verifier_request.specs.Fields.{requestMagicOf, requestAbiOf, requestReservedOf, requestHeaderLengthOf, requestAlgorithmOf, requestSlotOf, requestOperationOf, requestProfileOf, requestZerosOf, requestDigestOffset, requestKeyOffset, requestAuxLengthOf, requestProofLengthOf, requestLastZerosOf, requestSize}
 use Rattle.verifier_request.specs.declared.reader.RequestFields.{RequestFields}
 use Rattle.verifier_request.specs.declared.reader.RequestAnswer.{RequestAnswer}
 use Rattle.verifier_request.specs.declared.reader.RequestAnswer.the-variants.{Request, Refused}
 
 -- `CKVR`, as a number
-abbrev pub verifierMagic : ℕ
-verifierMagic = 0x52564b43
+abbrev pub requestMagic : ℕ
+requestMagic = 0x52564b43
 
 -- 01, Request: "Order: length 96 to 69,728 (35), magic (35), ABI (32), byte 5 and header length (35)"
 unfoldable pub requestHeaderRows : List ℕ → List Row
 requestHeaderRows s =
     row (leb 96 (length s)) InvalidRequest
     ∷ row (leb (length s) 69728) InvalidRequest
-    ∷ row (eqb (requestMagicOf s) verifierMagic) InvalidRequest
+    ∷ row (eqb (requestMagicOf s) requestMagic) InvalidRequest
     ∷ row (eqb (requestAbiOf s) 1) UnsupportedVersion
     ∷ row (eqb (requestReservedOf s) 0) InvalidRequest
     ∷ row (eqb (requestHeaderLengthOf s) 96) InvalidRequest
@@ -38,7 +38,7 @@ requestFieldRows s =
     ∷ row (eqb (requestLastZerosOf s) 0) InvalidRequest
     ∷ row (leb (requestAuxLengthOf s) 4096) InvalidRequest
     ∷ row (leb (requestProofLengthOf s) 65536) InvalidRequest
-    ∷ row (eqb (96 + requestAuxLengthOf s + requestProofLengthOf s) (length s)) InvalidRequest
+    ∷ row (eqb (requestSize (requestAuxLengthOf s) (requestProofLengthOf s)) (length s)) InvalidRequest
     ∷ []
 
 unfoldable pub requestRows : List ℕ → List Row
@@ -55,8 +55,8 @@ requestFieldsOf s =
       slot = requestSlotOf s;
       operation = requestOperationOf s;
       «verifier_profile» = requestProfileOf s;
-      «authorization_digest» = 16;
-      «key_id» = 48;
+      «authorization_digest» = requestDigestOffset;
+      «key_id» = requestKeyOffset;
       aux = 96;
       «aux_len» = requestAuxLengthOf s;
       proof = 96 + requestAuxLengthOf s;

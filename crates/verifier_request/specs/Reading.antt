@@ -6,7 +6,7 @@ use mathlib.Core.List.{List, [], _∷_, _++_}
 use lib.ListN.{length, take, drop}
 use Rattle.octets.specs.Layout.{Field, layoutBytes}
 use Rattle.verifier_request.specs.declared.reader.RequestFields.{RequestFields}
-use Rattle.verifier_request.specs.Reader.{verifierMagic, requestFieldsOf}
+use Rattle.verifier_request.specs.Reader.{requestMagic, requestFieldsOf}
 
 pub record RequestReading : Type 0 where
   pub algorithm : ℕ
@@ -43,7 +43,7 @@ pub record RequestTyped (r : RequestReading) : Type 0 where
 -- bytes 0 to 15: "`CKVR`, 1, 0, 96 (u16), algorithm, slot (u16), operation, profile, two zeros"
 unfoldable pub requestHead : ℕ → ℕ → ℕ → ℕ → List Field
 requestHead algorithm slot operation profile =
-    record { width = 4; value = verifierMagic }
+    record { width = 4; value = requestMagic }
     ∷ record { width = 1; value = 1 }
     ∷ record { width = 1; value = 0 }
     ∷ record { width = 2; value = 96 }

@@ -1,8 +1,18 @@
 // The reader of a verifier request.
-use octets::u8_at;
-use octets::u16_at;
-use octets::u32_at;
-use octets::u64_at;
+use crate::fields::request_abi_of;
+use crate::fields::request_algorithm_of;
+use crate::fields::request_aux_length_of;
+use crate::fields::request_header_length_of;
+use crate::fields::request_last_zeros_of;
+use crate::fields::request_magic_of;
+use crate::fields::request_operation_of;
+use crate::fields::request_profile_of;
+use crate::fields::request_proof_length_of;
+use crate::fields::request_reserved_of;
+use crate::fields::request_slot_of;
+use crate::fields::request_zeros_of;
+use crate::offsets::DIGEST_OFFSET;
+use crate::offsets::KEY_OFFSET;
 use protocol::Check;
 use protocol::ProtocolError;
 use protocol::VERIFIER_ABI_V1;
@@ -44,14 +54,14 @@ fn check_head(request: &[u8]) -> Check
     Check::Passed
         .require(VERIFIER_REQUEST_HEADER_LEN <= request.len(), invalid)
         .require(request.len() <= VERIFIER_MAX_REQUEST_LEN, invalid)
-        .require(u32_at(request, 0) == VERIFIER_MAGIC, invalid)
+        .require(request_magic_of(request) == VERIFIER_MAGIC, invalid)
         .require(
-            u8_at(request, 4) == VERIFIER_ABI_V1,
+            request_abi_of(request) == VERIFIER_ABI_V1,
             ProtocolError::UnsupportedVersion,
         )
-        .require(u8_at(request, 5) == 0, invalid)
+        .require(request_reserved_of(request) == 0, invalid)
         .require(
-            u16_at(request, 6) as usize == VERIFIER_REQUEST_HEADER_LEN,
+            request_header_length_of(request) as usize == VERIFIER_REQUEST_HEADER_LEN,
             invalid,
         )
 }
@@ -61,15 +71,15 @@ fn check_fields(request: &[u8]) -> Check
     ensures { λ r. ⌜ r ≡ decide Passed (requestFieldRows (now (request .entry))) ⌝ }
 {
     let invalid = ProtocolError::InvalidRequest;
-    let aux_len = u32_at(request, 80) as usize;
-    let proof_len = u32_at(request, 84) as usize;
+    let aux_len = request_aux_length_of(request) as usize;
+    let proof_len = request_proof_length_of(request) as usize;
     Check::Passed
         .require(
-            is_operation(u8_at(request, 12)),
+            is_operation(request_operation_of(request)),
             ProtocolError::InvalidOperation,
         )
-        .require(u16_at(request, 14) == 0, invalid)
-        .require(u64_at(request, 88) == 0, invalid)
+        .require(request_zeros_of(request) == 0, invalid)
+        .require(request_last_zeros_of(request) == 0, invalid)
         .require(aux_len <= VERIFIER_MAX_AUX_LEN, invalid)
         .require(proof_len <= VERIFIER_MAX_PROOF_LEN, invalid)
         .require(
@@ -87,18 +97,18 @@ fn check_request(request: &[u8]) -> Check
 fn fields_at(request: &[u8]) -> RequestFields
     ensures { λ r. ⌜ r ≡ requestFieldsOf (now (request .entry)) ⌝ }
 {
-    let aux_len = u32_at(request, 80) as usize;
+    let aux_len = request_aux_length_of(request) as usize;
     RequestFields {
-        algorithm_id: u16_at(request, 8),
-        slot: u16_at(request, 10),
-        operation: u8_at(request, 12),
-        verifier_profile: u8_at(request, 13),
-        authorization_digest: 16,
-        key_id: 48,
+        algorithm_id: request_algorithm_of(request),
+        slot: request_slot_of(request),
+        operation: request_operation_of(request),
+        verifier_profile: request_profile_of(request),
+        authorization_digest: DIGEST_OFFSET,
+        key_id: KEY_OFFSET,
         aux: VERIFIER_REQUEST_HEADER_LEN,
         aux_len: aux_len,
         proof: VERIFIER_REQUEST_HEADER_LEN + aux_len,
-        proof_len: u32_at(request, 84) as usize,
+        proof_len: request_proof_length_of(request) as usize,
     }
 }
 

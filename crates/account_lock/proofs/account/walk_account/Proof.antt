@@ -4,7 +4,7 @@ use denote.Ref.{now}
 use Rattle.scene_table.specs.Lent.{sceneIn}
 use Rattle.decision.specs.Walk.{answered}
 use Rattle.account_lock.specs.Lock.{operation, digest, contextOf, walked, walkResult, answerOf}
-use Rattle.proof_walk.specs.Answer.{sceneDeps, walkContext, walkedOf}
+use Rattle.proof_walk.specs.Answer.{sceneDeps, walkContext, proofWalkAnswer}
 use Rattle.proof_walk.proofs.WalkLaws.{walk-known}
 use Rattle.account_lock.proofs.LockLaws.{named-authorized}
 use borrow.Author.Needs.{needs}
@@ -17,7 +17,7 @@ digest-of-requires c κs =
     rw (c .u8-at .ensures) (named-authorized _ _ (sceneIn (now (p .args .table)) (now (p .args .store))) (p .pre .named) (p .pre .others))
 
 returns : tie.Need-returns
-unfolding answerOf walkResult walked walkedOf walkContext sceneDeps contextOf digest operation
+unfolding answerOf walkResult walked proofWalkAnswer walkContext sceneDeps contextOf digest operation
 returns c =
     let p = c .before .before .before .before .before .before .before .before .before .before .before .before in
     let w = c .before .before in

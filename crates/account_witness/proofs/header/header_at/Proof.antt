@@ -6,7 +6,7 @@ use Rattle.account_witness.proofs.header.header_at.Tie as tie
 
 returns : tie.Need-returns
 unfolding witnessHeaderOf
-returns c = rw (c .u64-at .ensures, c .before .u8-at2 .ensures, c .before .before .u8-at .ensures)
+returns c = rw (c .witness-sequence-of .ensures, c .before .proof-count-of .ensures, c .before .before .operation-of .ensures)
 
 pub header-at-spec : {M : Type 1} → statement M
 header-at-spec =

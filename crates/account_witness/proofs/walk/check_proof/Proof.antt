@@ -11,16 +11,17 @@ returns : tie.Need-returns
 unfolding proofLayoutRows decide
 returns c =
     let c1 = c .before .before .before .before in
+    let c0 = c1 .before .before .before in
     rw (
-      row-passed _ _ (le-leb _ _ (c1 .before .before .before .before .before .pre)),
+      row-passed _ _ (le-leb _ _ (c0 .before .before .pre)),
       c .require4 .ensures,
       c .before .require3 .ensures,
       c .before .before .require2 .ensures,
       c .before .before .before .fits2 .ensures,
       c1 .require .ensures,
-      c1 .before .u16-at2 .ensures,
-      c1 .before .before .u32-at .ensures,
-      c1 .before .before .before .u16-at .ensures,
+      c1 .before .proof-reserved-at .ensures,
+      c1 .before .before .proof-length-at .ensures,
+      c0 .proof-slot-at .ensures,
     )
 
 pub check-proof-spec : {M : Type 1} → statement M
@@ -29,9 +30,7 @@ check-proof-spec =
     (tie.spec
     (λ c κs. search needs)
     (λ c. search needs)
-    (λ c. search needs)
     (λ c κs. search needs)
-    (λ c. search needs)
     (λ c. search needs)
     (λ c κs. search needs)
     (λ c κs. search needs)

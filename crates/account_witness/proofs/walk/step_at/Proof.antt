@@ -10,14 +10,14 @@ use borrow.Author.Needs.{needs}
 use Rattle.account_witness.proofs.walk.step_at.Statement.{statement}
 use Rattle.account_witness.proofs.walk.step_at.Tie as tie
 
-passed : (c : tie.After-u32-at) → let a = c .before .before .before .before .before .before .args in decide Passed (proofLayoutRows (a .witness .now) (a .offset) (a .least)) ≡ Passed
+passed : (c : tie.After-proof-length-at) → let a = c .before .before .before .before .before .before .args in decide Passed (proofLayoutRows (a .witness .now) (a .offset) (a .least)) ≡ Passed
 passed c = sym (c .before .before .before .before .check-proof .ensures) ∙ c .before .before .enum-told .given .1
 
 add-t13 : tie.Need-add-t13
 add-t13 c =
     let a = c .before .before .before .before .before .before .args in
     let z : ProofHolds (a .witness .now) (a .offset) (a .least) = proof-holds _ _ _ (passed-all-pass _ (passed c)) in
-    omega (arith, c .u32-at .ensures, z .inside)
+    omega (arith, c .proof-length-at .ensures, z .inside)
 
 returns : tie.Need-returns
 unfolding proofStep proofStepAnswer
@@ -25,7 +25,7 @@ returns c = rw (sym (c .before .before .before .check-proof .ensures) ∙ c .bef
 
 returns-2 : tie.Need-returns-2
 unfolding proofStep proofStepAnswer proofAt proofCursorBehind
-returns-2 c = rw (passed c, c .u32-at .ensures, c .before .u16-at .ensures)
+returns-2 c = rw (passed c, c .proof-length-at .ensures, c .before .proof-slot-at .ensures)
 
 pub step-at-spec : {M : Type 1} → statement M
 step-at-spec =
@@ -35,7 +35,6 @@ step-at-spec =
     (λ c. search needs)
     (λ c. search needs)
     (λ c κs. search needs)
-    (λ c. search needs)
     (λ c. search needs)
     (λ c κs. search needs)
     (λ c. search needs)

@@ -2,16 +2,17 @@
 use mathlib.Core.Path.{_≡_, refl, sym, _∙_}
 use Prim.Native.Nat.{_-_, _≤_}
 use borrow.Author.Tests.{le-leb, lt-leb}
+use lib.Dec.{leb}
 use lib.ListN.{length, drop, getD}
-use Rattle.account_witness_writer.specs.Encode.{filled}
-use Rattle.account_witness_writer.proofs.EncodeLaws.{filled-turn, filled-end}
+use Rattle.octets.specs.Lists.{every}
+use Rattle.account_witness_writer.proofs.WriterLaws.{filled-turn, filled-end}
 use borrow.Author.Needs.{needs}
 use native.Mathlib.Omega.{arith}
 use Rattle.account_witness_writer.proofs.check.all_filled.Statement.{statement}
 use Rattle.account_witness_writer.proofs.check.all_filled.Tie as tie
 
 abbrev Inv-loop : tie.InvT-loop
-Inv-loop lengths i₀ i = (i ≤ length lengths) × (filled (drop i lengths) ≡ filled lengths)
+Inv-loop lengths i₀ i = (i ≤ length lengths) × (every (leb 1) (drop i lengths) ≡ every (leb 1) lengths)
 
 abbrev μ-loop : tie.MeasureT-loop
 μ-loop lengths i₀ i = length lengths - i

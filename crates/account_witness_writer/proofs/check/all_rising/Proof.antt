@@ -3,15 +3,15 @@ use mathlib.Core.Path.{_≡_, refl, sym, _∙_}
 use Prim.Native.Nat.{_-_, _≤_}
 use borrow.Author.Tests.{le-leb, lt-leb}
 use lib.ListN.{length, drop, getD}
-use Rattle.account_witness_writer.specs.Encode.{rising}
-use Rattle.account_witness_writer.proofs.EncodeLaws.{rising-turn, rising-end}
+use Rattle.account_witness_writer.specs.Writer.{isRising}
+use Rattle.account_witness_writer.proofs.WriterLaws.{rising-turn, rising-end}
 use borrow.Author.Needs.{needs}
 use native.Mathlib.Omega.{arith}
 use Rattle.account_witness_writer.proofs.check.all_rising.Statement.{statement}
 use Rattle.account_witness_writer.proofs.check.all_rising.Tie as tie
 
 abbrev Inv-loop : tie.InvT-loop
-Inv-loop slots least₀ i₀ least i = (i ≤ length slots) × (rising least (drop i slots) ≡ rising 0 slots)
+Inv-loop slots least₀ i₀ least i = (i ≤ length slots) × (isRising least (drop i slots) ≡ isRising 0 slots)
 
 abbrev μ-loop : tie.MeasureT-loop
 μ-loop slots least₀ i₀ least i = length slots - i

@@ -1,13 +1,13 @@
 -- `account_witness_writer::check::check_encode` meets its contract: the rows, last to first. Assumes nothing.
 use Rattle.protocol.specs.Rows.{decide}
 use Rattle.protocol.specs.Write.{writeFault}
-use Rattle.account_witness_writer.specs.Encode.{lentRows, witnessWriterRows, encodeFault}
+use Rattle.account_witness_writer.specs.Writer.{lentProofRows, witnessWriterRows, witnessWriterFault}
 use borrow.Author.Needs.{needs}
 use Rattle.account_witness_writer.proofs.check.check_encode.Statement.{statement}
 use Rattle.account_witness_writer.proofs.check.check_encode.Tie as tie
 
 returns : tie.Need-returns
-unfolding encodeFault witnessWriterRows lentRows writeFault decide
+unfolding witnessWriterFault witnessWriterRows lentProofRows writeFault decide
 returns c =
     let c4 = c .before .before .before in
     rw (

@@ -1,12 +1,12 @@
 -- `account_witness_writer::check::check_lent` meets its contract: the rows, last to first. Assumes nothing.
 use Rattle.protocol.specs.Rows.{decide}
-use Rattle.account_witness_writer.specs.Encode.{lentRows}
+use Rattle.account_witness_writer.specs.Writer.{lentProofRows}
 use borrow.Author.Needs.{needs}
 use Rattle.account_witness_writer.proofs.check.check_lent.Statement.{statement}
 use Rattle.account_witness_writer.proofs.check.check_lent.Tie as tie
 
 returns : tie.Need-returns
-unfolding lentRows decide
+unfolding lentProofRows decide
 returns c =
     rw (c .require3 .ensures, c .before .all-rising .ensures, c .before .before .require2 .ensures, c .before .before .before .total-within .ensures, c .before .before .before .before .require .ensures, c .before .before .before .before .before .all-filled .ensures)
 

@@ -3,18 +3,18 @@ use mathlib.Core.Path.{_≡_, sym, _∙_}
 use lib.ListN.{length}
 use Rattle.protocol.specs.Write.{writeAnswer, afterWrite}
 use Rattle.protocol.specs.declared.check.Check.the-variants.{Passed}
-use Rattle.account_witness_writer.specs.Encode.{encodeFault, witnessWritten, witnessStored}
-use Rattle.account_witness_writer.proofs.EncodeLaws.{EncodeHolds, encode-holds, witness-stored}
+use Rattle.account_witness_writer.specs.Writer.{witnessWriterFault, witnessWritten, witnessStored}
+use Rattle.account_witness_writer.proofs.WriterLaws.{WitnessWriterHolds, witness-writer-holds, witness-stored}
 use borrow.Author.Needs.{needs}
 use native.Mathlib.Omega.{arith}
 use Rattle.account_witness_writer.proofs.encode.encode_witness.Statement.{statement}
 use Rattle.account_witness_writer.proofs.encode.encode_witness.Tie as tie
 
-passed : (c : tie.After-store-proofs-arg) → let a = c .before .before .before .before .before .before .before .before .before .before .before .before .args in encodeFault (a .operation) (a .slots .now) (a .lengths .now) (a .bytes .now) (length (a .out .now)) ≡ Passed
+passed : (c : tie.After-store-proofs-arg) → let a = c .before .before .before .before .before .before .before .before .before .before .before .before .args in witnessWriterFault (a .operation) (a .slots .now) (a .lengths .now) (a .bytes .now) (length (a .out .now)) ≡ Passed
 passed c = sym (c .before .before .before .before .before .before .before .check-encode .ensures) ∙ c .before .before .before .before .before .enum-told .given .1
 
-holds : (c : tie.After-store-proofs-arg) → let a = c .before .before .before .before .before .before .before .before .before .before .before .before .args in EncodeHolds (a .slots .now) (a .lengths .now) (a .bytes .now) (length (a .out .now))
-holds c = encode-holds _ _ _ _ _ (passed c)
+holds : (c : tie.After-store-proofs-arg) → let a = c .before .before .before .before .before .before .before .before .before .before .before .before .args in WitnessWriterHolds (a .slots .now) (a .lengths .now) (a .bytes .now) (length (a .out .now))
+holds c = witness-writer-holds _ _ _ _ _ (passed c)
 
 store-proofs-requires : tie.Need-store-proofs-requires
 store-proofs-requires c κs = let z = holds c in (z .counts, z .sums, z .most)

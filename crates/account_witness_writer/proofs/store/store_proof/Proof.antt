@@ -1,5 +1,5 @@
 -- `account_witness_writer::store::store_proof` meets its contract: its table, and its bytes behind it. Assumes nothing.
-use Rattle.account_witness_writer.proofs.EncodeLaws.{proof-stored}
+use Rattle.account_witness_writer.proofs.WriterLaws.{proof-stored}
 use borrow.Author.Needs.{needs}
 use Rattle.account_witness_writer.proofs.store.store_proof.Statement.{statement}
 use Rattle.account_witness_writer.proofs.store.store_proof.Tie as tie

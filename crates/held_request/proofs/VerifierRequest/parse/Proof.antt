@@ -38,7 +38,7 @@ use denote.Triple.Table.{entered, cited}
 use denote.Triple.Walked.{says, Stays, stay-none-slice, walkOf, goes-none-slice, Walks, ends-at, walked, walk-meets}
 use denote.Exit.{yes}
 use Rattle.verifier_request.specs.Reader.{readRequest}
-use Rattle.held_request.specs.Held.{placesOf}
+use Rattle.held_request.specs.Held.{requestPlacesOf}
 use Rattle.held_request.specs.declared.places.RequestPlaces.{RequestPlaces}
 use Rattle.held_request.specs.declared.VerifierRequest.{VerifierRequest}
 use Rattle.held_request.proofs.Calls.{Fact1, Stated, calls-stated}
@@ -69,7 +69,7 @@ abbrev R : Slot 1
 R = plain (λ κs. F.the-row)
 
 abbrev Read : Fact1 ps R
-Read κs a f = f ≡ placesOf (readRequest (now (a .0)))
+Read κs a f = f ≡ requestPlacesOf (readRequest (now (a .0)))
 
 module _ {M : Type 1} (𝓤 : URA M) (H : Heap 𝓤) (A : Atoms 𝓤) (W : Given 𝓤 H A) (mem : Memory → SProp 𝓤) (run : Routine → Fun 𝓤)
     (κ : Lft) (q : Share) (s : RefT (List ℕ)) where
@@ -100,7 +100,7 @@ module _ {M : Type 1} (𝓤 : URA M) (H : Heap 𝓤) (A : Atoms 𝓤) (W : Given
       use1 W (‵ Own ⊛ ‵ Own) (shr-slice-copy 𝓤 H A W (named 0) κ u8 .twice s (v ∷ [])) $ split ! $
       move ! (0 ∷ 3 ∷ []) $ fjoin ! $ move ! (3 ∷ 0 ∷ []) $ frame ! $ frame ! $ frame ! $ done !
 
-  exits : (f : RequestPlaces) → f ≡ placesOf (readRequest (now s))
+  exits : (f : RequestPlaces) → f ≡ requestPlacesOf (readRequest (now s))
       → ent 𝓤 (⋆ 𝓤 H A (‵ (F.the-row .own f (F′.lowered f ∷ [])) ∷ (‵ (flft κ q) ⊛ ‵ ftrue) ∷ (‵ Own ⊛ ‵ Own) ∷ []))
       (Post (T′.lowered (made f)))
   exits f e =

@@ -1,17 +1,17 @@
 -- `held_request::places::read_places` meets its contract, by the reader's answer. Assumes nothing.
 use mathlib.Core.Path.{sym, _∙_}
-use Rattle.held_request.specs.Held.{placesOf}
+use Rattle.held_request.specs.Held.{requestPlacesOf}
 use borrow.Author.Needs.{needs}
 use Rattle.held_request.proofs.places.read_places.Statement.{statement}
 use Rattle.held_request.proofs.places.read_places.Tie as tie
 
 returns : tie.Need-returns
-unfolding placesOf
+unfolding requestPlacesOf
 returns c =
     rw (c .refused-places .ensures, c .before .error-number .ensures, sym (c .before .before .before .before .before .parse-verifier-request .ensures) ∙ c .before .before .before .error .given .1)
 
 returns-2 : tie.Need-returns-2
-unfolding placesOf
+unfolding requestPlacesOf
 returns-2 c =
     rw (c .places-at .ensures, sym (c .before .before .before .before .parse-verifier-request .ensures) ∙ c .before .before .fields .given .1)
 

@@ -16,14 +16,14 @@ loop-holds : tie.Need-loop-holds Inv-loop μ-loop
 loop-holds c =
     record {
       small = omega arith;
-      knows = rw (c .u8-at .ensures);
-      finds = rw (c .u8-at .ensures);
+      knows = rw (c .entry-count-of .ensures);
+      finds = rw (c .entry-count-of .ensures);
     }
 
 returns : tie.Need-returns Inv-loop μ-loop
 returns c =
     let l = c .before .before .before .before in
-    seek-hit (l .loop .inv) (omega arith) (rw (c .before .before .rest .ensures) at (sym (c .before .u16-at .ensures) ∙ c .if1 .taken))
+    seek-hit (l .loop .inv) (omega arith) (rw (c .before .before .rest .ensures) at (sym (c .before .entry-slot-of .ensures) ∙ c .if1 .taken))
 
 add-at : tie.Need-add-at Inv-loop μ-loop
 add-at c = omega (arith, c .before .before .before .before .before .loop .inv .small)
@@ -33,9 +33,9 @@ loop-again c =
     let r = c .before .before .before in
     let l = r .before .before in
     seek-next (l .loop .inv) (omega arith)
-    (λ e. c .before .if1 .left (c .before .before .u16-at .ensures ∙ rw (r .rest .ensures) e))
+    (λ e. c .before .if1 .left (c .before .before .entry-slot-of .ensures ∙ rw (r .rest .ensures) e))
     _
-    (rw (r .rest .ensures) at (c .u16-at2 .ensures))
+    (rw (r .rest .ensures) at (c .entry-length-of .ensures))
     (omega arith)
 
 returns-2 : tie.Need-returns-2 Inv-loop μ-loop

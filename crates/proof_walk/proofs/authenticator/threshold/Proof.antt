@@ -7,15 +7,15 @@ use Rattle.proof_walk.proofs.authenticator.threshold.Tie as tie
 
 returns : tie.Need-returns
 unfolding thresholdOf
-returns c = rw (c .u16-at .ensures, c .before .match .keys1)
+returns c = rw (c .spend-threshold-of .ensures, c .before .match .keys1)
 
 returns-2 : tie.Need-returns-2
 unfolding thresholdOf
-returns-2 c = rw (c .u16-at2 .ensures, c .before .match .keys2)
+returns-2 c = rw (c .rotate-threshold-of .ensures, c .before .match .keys2)
 
 returns-3 : tie.Need-returns-3
 unfolding thresholdOf
-returns-3 c = rw (c .u16-at3 .ensures, ne-eqb _ 1 (c .before .match .rest .0 .1), ne-eqb _ 2 (c .before .match .rest .1))
+returns-3 c = rw (c .recovery-threshold-of .ensures, ne-eqb _ 1 (c .before .match .rest .0 .1), ne-eqb _ 2 (c .before .match .rest .1))
 
 pub threshold-spec : {M : Type 1} → statement M
 threshold-spec =

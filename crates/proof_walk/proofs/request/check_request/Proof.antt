@@ -1,14 +1,14 @@
 -- `proof_walk::request::check_request` meets its contract: the rows, last to first. Assumes nothing.
 use Rattle.protocol.specs.Rows.{decide}
 use Rattle.account_state.specs.Reading.{entryOf}
-use Rattle.decision.specs.Proofs.{requestSize, requestLimitRows, authenticatorRows}
+use Rattle.decision.specs.Proofs.{requestLimitRows, authenticatorRows}
 use Rattle.proof_walk.specs.Steps.{foundRows}
 use borrow.Author.Needs.{needs}
 use Rattle.proof_walk.proofs.request.check_request.Statement.{statement}
 use Rattle.proof_walk.proofs.request.check_request.Tie as tie
 
 returns : tie.Need-returns
-unfolding foundRows authenticatorRows requestLimitRows requestSize decide entryOf
+unfolding foundRows authenticatorRows requestLimitRows decide entryOf
 returns c =
     let c5 = c .before .before .before in
     let c3 = c5 .before .before .before in
@@ -24,9 +24,9 @@ returns c =
       c3 .before .resolve-verifier .ensures,
       c3 .before .before .require2 .ensures,
       c3 .before .before .before .is-capable .ensures,
-      c3 .before .before .before .before .u16-at .ensures,
+      c3 .before .before .before .before .capabilities-of .ensures,
       c1 .require .ensures,
-      c1 .before .aux .ensures,
+      c1 .before .aux-of .ensures,
     )
 
 pub check-request-spec : {M : Type 1} → statement M

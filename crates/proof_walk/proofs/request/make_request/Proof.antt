@@ -8,10 +8,11 @@ use Rattle.protocol.specs.declared.error.ProtocolError.{ProtocolError}
 use Rattle.protocol.specs.declared.check.Check.the-variants.{Passed}
 use Rattle.protocol.specs.declared.check.WriteAnswer.the-variants.{Written, Refused}
 use Rattle.account_state.specs.Reading.{entryOf}
-use Rattle.decision.specs.Proofs.{proofRows}
+use Rattle.verifier_request.specs.Reading.{requestBytes}
+use Rattle.decision.specs.Proofs.{proofRows, requestContent}
 use Rattle.decision.specs.Walk.{answered}
 use Rattle.proof_walk.specs.Answer.{sceneDeps, walkContext}
-use Rattle.proof_walk.specs.Steps.{proofOf, foundRows, requestFor}
+use Rattle.proof_walk.specs.Steps.{proofWith, foundRows}
 use Rattle.proof_walk.proofs.RequestLaws.{made-fits, made-written, made-stored, found-rows, found-request, found-weight}
 use borrow.Author.Needs.{needs}
 use Rattle.proof_walk.proofs.request.make_request.Statement.{statement}
@@ -28,7 +29,7 @@ written-length h = cc
 checked : (c : tie.After-check-request) →
     let a = c .before .before .before .before .before .before .before .before .before .args in
     c .check-request .result
-    ≡ decide Passed (proofRows (walkContext (a .table .now) (a .store .now) (a .state .now) (a .operation) (a .digest) (length (a .out .now))) 0 (proofOf (a .slot) (a .proof .now)))
+    ≡ decide Passed (proofRows (walkContext (a .table .now) (a .store .now) (a .state .now) (a .operation) (a .digest) (length (a .out .now))) 0 (proofWith (a .slot) (a .proof .now)))
 checked c =
     let a = c .before .before .before .before .before .before .before .before .before .args in
     let f = c .before .before .before .find-authenticator in
@@ -48,13 +49,13 @@ wrote : (d : tie.After-encode-request) →
     let k = d .before .before .before .before in
     let a = k .before .before .before .before .before .before .before .before .before .args in
     d .encode-request .result
-    ≡ Written (length (requestFor (a .operation) (a .digest) (entryOf (k .before .before .entry-bytes .result .now)) (proofOf (a .slot) (a .proof .now))))
+    ≡ Written (length (requestBytes (requestContent (a .operation) (a .digest) (entryOf (k .before .before .entry-bytes .result .now)) (proofWith (a .slot) (a .proof .now)))))
 wrote d =
     let k = d .before .before .before .before in
     let s = k .before .before .before .before .before .before .before .before .before in
     let a = s .args in
     d .encode-request .ensures .0
-    ∙ made-written _ (a .operation) (a .digest) _ (entryOf (k .before .before .entry-bytes .result .now)) (proofOf (a .slot) (a .proof .now)) (a .out .now) (omega (arith, s .good)) (rows (d .before .before))
+    ∙ made-written _ (a .operation) (a .digest) _ (entryOf (k .before .before .entry-bytes .result .now)) (proofWith (a .slot) (a .proof .now)) (a .out .now) (omega (arith, s .good)) (rows (d .before .before))
 
 returns : tie.Need-returns
 returns c = (sym (checked (c .before .before .before)) ∙ c .before .error .given .1, refl)
@@ -71,7 +72,7 @@ returns-3 c =
     let a = s .args in
     let f = k .before .before .before .find-authenticator in
     let e = k .before .before .entry-bytes in
-    let p = proofOf (a .slot) (a .proof .now) in
+    let p = proofWith (a .slot) (a .proof .now) in
     let n : length (a .digest) ≡ 32 = omega (arith, s .good) in
     let q = found-request (a .table .now) (a .store .now) (a .state .now) (a .operation) (a .digest) (length (a .out .now)) (a .slot) (a .proof .now) (f .result) (f .ensures) in
     let len = written-length (sym (c .before .before .len .given .1) ∙ wrote d) in (
@@ -81,7 +82,7 @@ returns-3 c =
         long = len ∙ rw (e .ensures) (ap length q);
         fits = omega (arith, len, made-fits _ (a .operation) (a .digest) _ (entryOf (e .result .now)) p (a .out .now) n (rows t));
       },
-      (rw (e .ensures) at (c .u16-at .ensures)) ∙ found-weight (a .table .now) (a .store .now) (a .state .now) (a .operation) (a .digest) (length (a .out .now)) (a .slot) (a .proof .now) (f .result) (f .ensures),
+      (rw (e .ensures) at (c .weight-of .ensures)) ∙ found-weight (a .table .now) (a .store .now) (a .state .now) (a .operation) (a .digest) (length (a .out .now)) (a .slot) (a .proof .now) (f .result) (f .ensures),
     )
 
 pub make-request-spec : {M : Type 1} → statement M

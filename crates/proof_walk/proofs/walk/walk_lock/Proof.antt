@@ -4,24 +4,25 @@ use Prim.Native.Nat.{ℕ, _-_}
 use native.Mathlib.Omega.{arith}
 use lib.ListN.{length}
 use Rattle.proof_walk.specs.Answer.{walkContext}
-use Rattle.proof_walk.specs.Steps.{ProofOutcomeIs, readAt}
+use Rattle.account_witness.specs.Reading.{proofOf}
+use Rattle.proof_walk.specs.Steps.{ProofOutcomeIs}
 use Rattle.proof_walk.specs.declared.walk.ProofOutcome.the-variants as outcome
 use Rattle.proof_walk.proofs.Answered.{lentOf, unwritten}
-use Rattle.proof_walk.proofs.WalkLaws.{Head, Wrote, head-first, finish, passed-all, stopped, written, failed, onward}
+use Rattle.proof_walk.proofs.WalkLaws.{WalkInvariant, RequestWritten, invariant-first, walk-answered, walk-ends, turn-stopped, turn-written, turn-failed, turn-onward}
 use borrow.Author.Needs.{needs}
 use Rattle.proof_walk.proofs.walk.walk_lock.Statement.{statement}
 use Rattle.proof_walk.proofs.walk.walk_lock.Tie as tie
 
 abbrev Inv-loop : tie.InvT-loop
 Inv-loop table store state lock operation digest answer₀ count cursor₀ weight₀ total₀ i₀ answer cursor weight total i =
-    Head (walkContext table store state operation digest (length answer₀)) lock count answer₀ answer cursor weight total i
+    WalkInvariant (walkContext table store state operation digest (length answer₀)) lock count answer₀ answer cursor weight total i
 
 abbrev μ-loop : tie.MeasureT-loop
 μ-loop table store state lock operation digest answer₀ count cursor₀ weight₀ total₀ i₀ answer cursor weight total i =
     count - i
 
 loop-holds : tie.Need-loop-holds Inv-loop μ-loop
-loop-holds c = rw (c .first-proof .ensures) (head-first _ _ _ _ (c .before .u8-at .ensures))
+loop-holds c = rw (c .first-proof .ensures) (invariant-first _ _ _ _ (c .before .proof-count-of .ensures))
 
 sub-out : tie.Need-sub-out Inv-loop μ-loop
 sub-out c = omega (arith, c .before .loop .inv .fits, c .before .loop .inv .kept)
@@ -60,19 +61,19 @@ abbrev Written : (k : tie.After-walk-proof Inv-loop μ-loop) → ℕ → Type 0
 Written k len =
     let l = k .before .before .before .loop in
     let a = At k .args in
-    Wrote (walkContext (a .table .now) (a .store .now) (a .state .now) (a .operation) (a .digest) (length (a .answer .now))) (a .answer .now) (l .answer) (l .inv .made) (l .total) (readAt (a .lock .now) (l .cursor .offset)) (k .walk-proof .last .1 .1 .1 .1 .1 .1 .1 .1 .0) len
+    RequestWritten (walkContext (a .table .now) (a .store .now) (a .state .now) (a .operation) (a .digest) (length (a .answer .now))) (a .answer .now) (l .answer) (l .inv .made) (l .total) (proofOf (a .lock .now) (l .cursor .offset)) (k .walk-proof .last .1 .1 .1 .1 .1 .1 .1 .1 .0) len
 
 written-2 : (c : tie.After-known-told2 Inv-loop μ-loop) → Written (c .before .before .before .before .before) (c .before .len .given .0 .0)
 written-2 c =
     let k = c .before .before .before .before .before in
     let a = At k .args in
-    written (a .table .now) (a .store .now) (a .state .now) (a .operation) (a .digest) (k .before .before .before .loop .inv) (k .before .before .loop-test .taken) _ _ (failed-at c .0)
+    turn-written (a .table .now) (a .store .now) (a .state .now) (a .operation) (a .digest) (k .before .before .before .loop .inv) (k .before .before .loop-test .taken) _ _ (failed-at c .0)
 
 written-3 : (c : tie.After-known-told3 Inv-loop μ-loop) → Written (c .before .before .before .before .before) (c .before .len2 .given .0 .0)
 written-3 c =
     let k = c .before .before .before .before .before in
     let a = At k .args in
-    written (a .table .now) (a .store .now) (a .state .now) (a .operation) (a .digest) (k .before .before .before .loop .inv) (k .before .before .loop-test .taken) _ _ (onward-at c .0)
+    turn-written (a .table .now) (a .store .now) (a .state .now) (a .operation) (a .digest) (k .before .before .before .loop .inv) (k .before .before .loop-test .taken) _ _ (onward-at c .0)
 
 same-length : tie.Need-same-length Inv-loop μ-loop
 same-length c =
@@ -85,8 +86,8 @@ returns c =
     let k = t .before .before .before .before .before in
     let a = At k .args in
     let l = k .before .before .before .loop in
-    finish (a .answer .now)
-    (stopped (a .table .now) (a .store .now) (a .state .now) (a .operation) (a .digest) (l .inv) (k .before .before .loop-test .taken) _ _ (refused-at t))
+    walk-answered (a .answer .now)
+    (turn-stopped (a .table .now) (a .store .now) (a .state .now) (a .operation) (a .digest) (l .inv) (k .before .before .loop-test .taken) _ _ (refused-at t))
     (l .inv .long)
     (unwritten (l .total) (l .answer) _ (refused-at t .1) ∙ l .inv .wrote)
     (c .answer-of .ensures)
@@ -107,8 +108,8 @@ returns-2 c =
     let a = At k .args in
     let l = k .before .before .before .loop in
     let w = written-2 t in
-    finish (a .answer .now)
-    (failed (a .table .now) (a .store .now) (a .state .now) (a .operation) (a .digest) (l .inv) (k .before .before .loop-test .taken) _ _ (failed-at t .0) (failed-at t .1))
+    walk-answered (a .answer .now)
+    (turn-failed (a .table .now) (a .store .now) (a .state .now) (a .operation) (a .digest) (l .inv) (k .before .before .loop-test .taken) _ _ (failed-at t .0) (failed-at t .1))
     (w .long)
     (w .wrote)
     (c .answer-of2 .ensures)
@@ -125,7 +126,7 @@ loop-again c =
     let a = At k .args in
     let l = k .before .before .before .loop in
     let t = onward-at c in
-    onward (a .table .now) (a .store .now) (a .state .now) (a .operation) (a .digest) (l .inv) (k .before .before .loop-test .taken) _ _ (t .0) _ _ (omega arith) t
+    turn-onward (a .table .now) (a .store .now) (a .state .now) (a .operation) (a .digest) (l .inv) (k .before .before .loop-test .taken) _ _ (t .0) _ _ (omega arith) t
 
 same-length-3 : tie.Need-same-length-3 Inv-loop μ-loop
 same-length-3 c = c .before .before .before .loop .inv .kept
@@ -135,8 +136,8 @@ returns-3 c =
     let k = c .before .before .before in
     let a = k .before .before .before .before .before .before .before .before .args in
     let h = k .loop .inv in
-    finish (a .answer .now)
-    (passed-all (a .table .now) (a .store .now) (a .state .now) (a .operation) (a .digest) h (omega (arith, c .before .before .loop-test .left)))
+    walk-answered (a .answer .now)
+    (walk-ends (a .table .now) (a .store .now) (a .state .now) (a .operation) (a .digest) h (omega (arith, c .before .before .loop-test .left)))
     (h .long)
     (h .wrote)
     (rw (c .before .check-end .ensures) at (c .answer-of3 .ensures))

@@ -28,7 +28,7 @@ returns-2 c =
     let s = k .before .before .before .before .before .before in
     let a = s .args in
     let h = sym (k .next-proof .ensures) ∙ t .proof .given .1 in
-    turn-refused (C s) (a .lock .now) (a .cursor) _ _ h (a .place) _ (r .before .before .part .ensures) (a .out .now) _ _
+    turn-refused (C s) (a .lock .now) (a .cursor) _ _ h (a .index) _ (r .before .before .part .ensures) (a .out .now) _ _
     (rw (c .before .error2 .given .1) at (r .make-request .ensures))
 
 returns-3 : tie.Need-returns-3
@@ -39,9 +39,9 @@ returns-3 c =
     let s = k .before .before .before .before .before .before in
     let a = s .args in
     let h = sym (k .next-proof .ensures) ∙ t .proof .given .1 in
-    let v = c .before .verdict .ensures ∙ verdict-lent (a .table .now) (a .store .now) (a .state .now) (a .operation) (a .digest) (length (a .out .now)) (a .place) in
+    let v = c .before .verdict .ensures ∙ verdict-lent (a .table .now) (a .store .now) (a .state .now) (a .operation) (a .digest) (length (a .out .now)) (a .index) in
     rw (c .apply-verdict .ensures)
-    (turn-made (C s) (a .lock .now) (a .cursor) _ _ h (a .place) _ (r .before .before .part .ensures) (a .out .now) _ _ _ _ v
+    (turn-made (C s) (a .lock .now) (a .cursor) _ _ h (a .index) _ (r .before .before .part .ensures) (a .out .now) _ _ _ _ v
     (rw (c .before .before .before .len .given .1) at (r .make-request .ensures)))
 
 pub walk-proof-spec : {M : Type 1} → statement M

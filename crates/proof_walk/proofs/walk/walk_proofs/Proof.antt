@@ -2,8 +2,8 @@
 use mathlib.Core.Path.{refl, sym, ap, _∙_}
 use lib.ListN.{length}
 use Rattle.decision.specs.Walk.{WalkOutcome, answered}
-use Rattle.proof_walk.specs.Answer.{walkedOf}
-use Rattle.proof_walk.proofs.WalkLaws.{finish, walk-known, walk-unknown}
+use Rattle.proof_walk.specs.Answer.{proofWalkAnswer}
+use Rattle.proof_walk.proofs.WalkLaws.{walk-answered, walk-known, walk-unknown}
 use borrow.Author.Needs.{needs}
 use Rattle.proof_walk.proofs.walk.walk_proofs.Statement.{statement}
 use Rattle.proof_walk.proofs.walk.walk_proofs.Tie as tie
@@ -14,13 +14,13 @@ returns c =
     let known = w .before .before in
     let a = known .before .before .before .before .before .before .before .args in
     let same = sym (walk-known (a .table .now) (a .store .now) (a .state .now) (a .operation) (a .digest) (length (a .answer .now)) (a .lock .now) (sym (known .before .is-operation .ensures) ∙ known .if1 .taken)) in
-    (w .walk-lock .ensures .0 ∙ ap walkedOf same, w .walk-lock .ensures .1 ∙ ap (λ (o : WalkOutcome). answered (a .answer .now) (o .made)) same)
+    (w .walk-lock .ensures .0 ∙ ap proofWalkAnswer same, w .walk-lock .ensures .1 ∙ ap (λ (o : WalkOutcome). answered (a .answer .now) (o .made)) same)
 
 returns-2 : tie.Need-returns-2
 unfolding answered
 returns-2 c =
     let a = c .before .before .before .before .before .before .before .before .args in
-    finish (a .answer .now)
+    walk-answered (a .answer .now)
     (walk-unknown (a .table .now) (a .store .now) (a .state .now) (a .operation) (a .digest) (length (a .answer .now)) (a .lock .now) (sym (c .before .before .is-operation .ensures) ∙ c .before .if1 .left))
     refl
     refl

@@ -14,10 +14,10 @@ returns c =
       c .before .require4 .ensures,
       c .before .before .require3 .ensures,
       c2 .require2 .ensures,
-      c2 .before .u8-at .ensures,
+      c2 .before .public-key-proof-version-of .ensures,
       c2 .before .before .require .ensures,
-      c2 .before .before .before .u16-at2 .ensures,
-      c2 .before .before .before .before .u16-at .ensures,
+      c2 .before .before .before .signature-length-of .ensures,
+      c2 .before .before .before .before .public-key-length-of .ensures,
     )
 
 pub check-proof-spec : {M : Type 1} → statement M

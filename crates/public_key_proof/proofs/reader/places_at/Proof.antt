@@ -6,7 +6,7 @@ use Rattle.public_key_proof.proofs.reader.places_at.Tie as tie
 
 returns : tie.Need-returns
 unfolding publicKeyProofPlaces
-returns c = rw (c .u16-at2 .ensures, c .before .u16-at .ensures)
+returns c = rw (c .signature-length-of .ensures, c .before .public-key-length-of .ensures)
 
 pub places-at-spec : {M : Type 1} → statement M
 places-at-spec =

@@ -1,13 +1,13 @@
 -- `public_key_proof::writer::check_room` meets its contract: the rows, last to first. Assumes nothing.
 use Rattle.protocol.specs.Rows.{decide}
 use Rattle.protocol.specs.Write.{writeFault}
-use Rattle.public_key_proof.specs.Writer.{publicKeyProofWriterRows, publicKeyProofTotal, publicKeyProofRoom}
+use Rattle.public_key_proof.specs.Writer.{publicKeyProofWriterRows, publicKeyProofTotal, publicKeyProofWriterFault}
 use borrow.Author.Needs.{needs}
 use Rattle.public_key_proof.proofs.writer.check_room.Statement.{statement}
 use Rattle.public_key_proof.proofs.writer.check_room.Tie as tie
 
 returns : tie.Need-returns
-unfolding publicKeyProofRoom publicKeyProofTotal publicKeyProofWriterRows writeFault decide
+unfolding publicKeyProofWriterFault publicKeyProofTotal publicKeyProofWriterRows writeFault decide
 returns c =
     let c4 = c .before .before in
     rw (

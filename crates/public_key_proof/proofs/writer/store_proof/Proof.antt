@@ -1,7 +1,7 @@
 -- `public_key_proof::writer::store_proof` meets its contract: the parts stored one behind another. Assumes nothing.
 use Rattle.octets.proofs.LayoutLaws.{storeNumbers}
 use Rattle.public_key_proof.specs.Reading.{publicKeyProofHead}
-use Rattle.public_key_proof.proofs.Form.{parts-stored}
+use Rattle.public_key_proof.proofs.Form.{public-key-proof-parts-stored}
 use borrow.Author.Needs.{needs}
 use Rattle.public_key_proof.proofs.writer.store_proof.Statement.{statement}
 use Rattle.public_key_proof.proofs.writer.store_proof.Tie as tie
@@ -21,7 +21,7 @@ returns c =
       c2 .store-number2 .ensures,
       c1 .store-number .ensures,
     )
-    (parts-stored _ _)
+    (public-key-proof-parts-stored _ _)
 
 pub store-proof-spec : {M : Type 1} → statement M
 store-proof-spec =

@@ -15,14 +15,14 @@ returns c =
       c .before .require5 .ensures,
       c .before .before .require4 .ensures,
       c3 .require3 .ensures,
-      c3 .before .u64-at .ensures,
+      c3 .before .request-last-zeros-of .ensures,
       c3 .before .before .require2 .ensures,
-      c3 .before .before .before .u16-at .ensures,
+      c3 .before .before .before .request-zeros-of .ensures,
       c1 .require .ensures,
       c1 .before .is-operation .ensures,
-      c1 .before .before .u8-at .ensures,
-      c1 .before .before .before .u32-at2 .ensures,
-      c1 .before .before .before .before .u32-at .ensures,
+      c1 .before .before .request-operation-of .ensures,
+      c1 .before .before .before .request-proof-length-of .ensures,
+      c1 .before .before .before .before .request-aux-length-of .ensures,
     )
 
 pub check-fields-spec : {M : Type 1} → statement M

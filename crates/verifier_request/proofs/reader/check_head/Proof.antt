@@ -14,13 +14,13 @@ returns c =
     let c2 = c3 .before .before in
     rw (
       c .require6 .ensures,
-      c .before .u16-at .ensures,
+      c .before .request-header-length-of .ensures,
       c5 .require5 .ensures,
-      c5 .before .u8-at2 .ensures,
+      c5 .before .request-reserved-of .ensures,
       c4 .require4 .ensures,
-      c4 .before .u8-at .ensures,
+      c4 .before .request-abi-of .ensures,
       c3 .require3 .ensures,
-      c3 .before .u32-at .ensures,
+      c3 .before .request-magic-of .ensures,
       c2 .require2 .ensures,
       c2 .before .require .ensures,
     )

@@ -9,12 +9,12 @@ unfolding requestFieldsOf
 returns c =
     let c2 = c .before .before .before in
     rw (
-      c .u32-at2 .ensures,
-      c .before .u8-at2 .ensures,
-      c .before .before .u8-at .ensures,
-      c2 .u16-at2 .ensures,
-      c2 .before .u16-at .ensures,
-      c2 .before .before .u32-at .ensures,
+      c .request-proof-length-of .ensures,
+      c .before .request-profile-of .ensures,
+      c .before .before .request-operation-of .ensures,
+      c2 .request-slot-of .ensures,
+      c2 .before .request-algorithm-of .ensures,
+      c2 .before .before .request-aux-length-of .ensures,
     )
 
 pub fields-at-spec : {M : Type 1} → statement M

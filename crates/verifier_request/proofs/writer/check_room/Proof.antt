@@ -1,13 +1,13 @@
 -- `verifier_request::writer::check_room` meets its contract: the rows, last to first. Assumes nothing.
 use Rattle.protocol.specs.Rows.{decide}
 use Rattle.protocol.specs.Write.{writeFault}
-use Rattle.verifier_request.specs.Writer.{writerLimitRows}
+use Rattle.verifier_request.specs.Writer.{requestWriterLimitRows}
 use borrow.Author.Needs.{needs}
 use Rattle.verifier_request.proofs.writer.check_room.Statement.{statement}
 use Rattle.verifier_request.proofs.writer.check_room.Tie as tie
 
 returns : tie.Need-returns
-unfolding writeFault writerLimitRows decide
+unfolding writeFault requestWriterLimitRows decide
 returns c =
     let c3 = c .before .before in
     rw (

@@ -1,7 +1,7 @@
 -- `verifier_request::writer::store_request` meets its contract: the parts stored one behind another. Assumes nothing.
 use native.Mathlib.Omega.{arith}
 use Rattle.verifier_request.specs.Reading.{RequestReading, requestWith}
-use Rattle.verifier_request.proofs.Form.{Sized, parts-stored}
+use Rattle.verifier_request.proofs.Form.{RequestSized, request-parts-stored}
 use borrow.Author.Needs.{needs}
 use Rattle.verifier_request.proofs.writer.store_request.Statement.{statement}
 use Rattle.verifier_request.proofs.writer.store_request.Tie as tie
@@ -20,7 +20,7 @@ returns c =
     let s = c1 .before .before .before .before .before in
     let a = s .args in
     let r : RequestReading = requestWith (a .algorithm) (a .slot) (a .operation) (a .profile) (a .t5) (a .t6) (a .aux .now) (a .proof .now) in
-    let z : Sized r = record { digest = omega (arith, s .good); key = omega (arith, s .good) } in
+    let z : RequestSized r = record { digest = omega (arith, s .good); key = omega (arith, s .good) } in
     rw (
       c6 .store-bytes4 .ensures,
       c5 .store-bytes3 .ensures,
@@ -29,7 +29,7 @@ returns c =
       c2 .store-bytes .ensures,
       c1 .store-head .ensures,
     )
-    (parts-stored r z _)
+    (request-parts-stored r z _)
 
 pub store-request-spec : {M : Type 1} → statement M
 store-request-spec =

@@ -12,7 +12,7 @@ use lib.Dec.{eqb, leb}
 use lib.ListN.{length, take, drop, getD, length-append, length-drop, drop-of-length-le}
 use lib.Seq.{sets, drop-cons, drop-drop, length-take-le}
 use Rattle.octets.specs.Le.{toLe}
-use Rattle.octets.specs.Lists.{joined}
+use Rattle.octets.specs.Lists.{every, joined}
 use Rattle.octets.specs.Layout.{layoutBytes}
 use Rattle.octets.proofs.Parts.{part-length}
 use Rattle.octets.proofs.Stores.{sets-append, sets-front}
@@ -23,7 +23,7 @@ use Rattle.protocol.proofs.Back.{write-passed}
 use Rattle.account_witness.specs.Header.{witnessHeaderFields}
 use Rattle.account_witness.proofs.Unique.{length-proof}
 use Rattle.account_witness.specs.Reading.{ProofReading, proofFields, proofBytes, proofsBytes, witnessBytes}
-use Rattle.account_witness_writer.specs.Encode.{sum, lentProofs, witnessFrom, filled, rising, encodeTotal, lentRows, witnessWriterRows, encodeFault}
+use Rattle.account_witness_writer.specs.Writer.{sum, lentProofs, witnessFrom, isRising, witnessTotal, lentProofRows, witnessWriterRows, witnessWriterFault}
 
 -- two tests that tell the same
 eqb-by : (a b c d : ℕ) (t : Bool) → eqb a b ≡ t → (a ≡ b → c ≡ d) → (c ≡ d → a ≡ b) → t ≡ eqb c d
@@ -43,22 +43,22 @@ unfolding sum
 sum-end l i h = rw (drop-of-length-le l h)
 
 -- a turn of the loop that looks for an empty proof, and its end
-pub filled-turn : (l : List ℕ) (i : ℕ) → i < length l → filled (drop i l) ≡ (leb 1 (getD l i 0) && filled (drop (i + 1) l))
-unfolding filled
+pub filled-turn : (l : List ℕ) (i : ℕ) → i < length l → every (leb 1) (drop i l) ≡ (leb 1 (getD l i 0) && every (leb 1) (drop (i + 1) l))
+unfolding every
 filled-turn l i h = rw (add-one, drop-cons l i 0)
 
-pub filled-end : (l : List ℕ) (i : ℕ) → length l ≤ i → filled (drop i l) ≡ true
-unfolding filled
+pub filled-end : (l : List ℕ) (i : ℕ) → length l ≤ i → every (leb 1) (drop i l) ≡ true
+unfolding every
 filled-end l i h = rw (drop-of-length-le l h)
 
 -- a turn of the loop over the slots, and its end
 pub rising-turn : (l : List ℕ) (least i : ℕ) → i < length l
-    → rising least (drop i l) ≡ (leb least (getD l i 0) && rising (getD l i 0 + 1) (drop (i + 1) l))
-unfolding rising
+    → isRising least (drop i l) ≡ (leb least (getD l i 0) && isRising (getD l i 0 + 1) (drop (i + 1) l))
+unfolding isRising
 rising-turn l least i h = rw (add-one i, drop-cons l i 0)
 
-pub rising-end : (l : List ℕ) (least i : ℕ) → length l ≤ i → rising least (drop i l) ≡ true
-unfolding rising
+pub rising-end : (l : List ℕ) (least i : ℕ) → length l ≤ i → isRising least (drop i l) ≡ true
+unfolding isRising
 rising-end l least i h = rw (drop-of-length-le l h)
 
 -- a proof's numbers and bytes, stored one behind another
@@ -122,16 +122,16 @@ length-lent (slot ∷ slots) (len ∷ lengths) bytes e n =
     length-append (proofBytes p) _ ∙ omega arith
 
 -- what a writer that passes says
-pub record EncodeHolds (slots lengths bytes : List ℕ) (room : ℕ) : Type 0 where
+pub record WitnessWriterHolds (slots lengths bytes : List ℕ) (room : ℕ) : Type 0 where
   pub counts : length slots ≡ length lengths
   pub sums : sum lengths ≡ length bytes
-  pub most : encodeTotal slots bytes ≤ 131072
-  pub fits : encodeTotal slots bytes ≤ room
+  pub most : witnessTotal slots bytes ≤ 131072
+  pub fits : witnessTotal slots bytes ≤ room
 
-pub encode-holds : (operation : ℕ) (slots lengths bytes : List ℕ) (room : ℕ) → encodeFault operation slots lengths bytes room ≡ Passed → EncodeHolds slots lengths bytes room
-unfolding encodeFault witnessWriterRows lentRows
-encode-holds operation slots lengths bytes room h =
-    let z = write-passed (witnessWriterRows operation slots lengths bytes) (encodeTotal slots bytes) room h in
+pub witness-writer-holds : (operation : ℕ) (slots lengths bytes : List ℕ) (room : ℕ) → witnessWriterFault operation slots lengths bytes room ≡ Passed → WitnessWriterHolds slots lengths bytes room
+unfolding witnessWriterFault witnessWriterRows lentProofRows
+witness-writer-holds operation slots lengths bytes room h =
+    let z = write-passed (witnessWriterRows operation slots lengths bytes) (witnessTotal slots bytes) room h in
     record {
       counts = eqb-true _ _ (z .0 .0);
       sums = eqb-true _ _ (z .0 .1 .0);
@@ -140,7 +140,7 @@ encode-holds operation slots lengths bytes room h =
     }
 
 -- the header and the proofs, stored one behind another
-pub witness-stored : (operation sequence : ℕ) (slots lengths bytes out : List ℕ) → EncodeHolds slots lengths bytes (length out)
+pub witness-stored : (operation sequence : ℕ) (slots lengths bytes out : List ℕ) → WitnessWriterHolds slots lengths bytes (length out)
     → sets (sets out 0 (layoutBytes (witnessHeaderFields operation (length slots) sequence))) 16 (proofsBytes (lentProofs slots lengths bytes))
     ≡ afterWrite Passed (witnessBytes (witnessFrom operation sequence slots lengths bytes)) out
 unfolding afterWrite witnessBytes witnessFrom witnessHeaderFields

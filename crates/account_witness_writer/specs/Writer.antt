@@ -3,17 +3,19 @@ use Prim.Native.Nat.{ℕ, _+_, _*_, _^_, _<_}
 use mathlib.Core.Bool.{Bool, true, _&&_}
 use mathlib.Core.List.{List, [], _∷_, map}
 use lib.Dec.{leb, eqb}
-use lib.ListN.{length, take, drop, getD}
+use lib.ListN.{length, take, drop}
 use Rattle.octets.specs.Le.{Bytes}
-use Rattle.octets.specs.Lists.{joined}
+use Rattle.octets.specs.Lists.{every, joined}
 use Rattle.protocol.specs.Policy.{isOperation}
 use Rattle.protocol.specs.Rows.{Row, row}
 use Rattle.protocol.specs.Write.{writeFault, writeAnswer, afterWrite}
 use Rattle.protocol.specs.declared.error.ProtocolError.the-variants.{SlicesDisagree, InvalidOperation, InvalidWitness}
 use Rattle.protocol.specs.declared.check.Check.{Check}
 use Rattle.protocol.specs.declared.check.WriteAnswer.{WriteAnswer}
-use Rattle.account_witness.specs.Reading.{ProofReading, WitnessReading, witnessBytes}
+use Rattle.account_witness.specs.Fields.{witnessHeaderLength, proofHeaderLength}
+use Rattle.account_witness.specs.Reading.{ProofReading, WitnessReading, WitnessTyped, witnessBytes}
 
+-- the lengths together
 unfoldable pub sum : List ℕ → ℕ
 sum [] = 0
 sum (n ∷ ns) = n + sum ns
@@ -29,26 +31,21 @@ unfoldable pub witnessFrom : ℕ → ℕ → List ℕ → List ℕ → List ℕ 
 witnessFrom operation sequence slots lengths bytes =
     record { operation = operation; sequence = sequence; proofs = lentProofs slots lengths bytes }
 
--- no proof is empty
-unfoldable pub filled : List ℕ → Bool
-filled [] = true
-filled (len ∷ lengths) = leb 1 len && filled lengths
-
--- "slots rise strictly", from `least` on
-unfoldable pub rising : ℕ → List ℕ → Bool
-rising least [] = true
-rising least (slot ∷ slots) = leb least slot && rising (slot + 1) slots
+-- 01, Proof: "slots rise strictly", from `least` on
+unfoldable pub isRising : ℕ → List ℕ → Bool
+isRising least [] = true
+isRising least (slot ∷ slots) = leb least slot && isRising (slot + 1) slots
 
 -- the length of the written form
-abbrev pub encodeTotal : List ℕ → List ℕ → ℕ
-encodeTotal slots bytes = 16 + (8 * length slots + length bytes)
+abbrev pub witnessTotal : List ℕ → List ℕ → ℕ
+witnessTotal slots bytes = witnessHeaderLength + (proofHeaderLength * length slots + length bytes)
 
 -- 01, Proof and Witness lock: "length (u32, not 0)", "16 to 131,072 bytes", "slots rise strictly"
-unfoldable pub lentRows : List ℕ → List ℕ → List ℕ → List Row
-lentRows slots lengths bytes =
-    row (filled lengths) InvalidWitness
-    ∷ row (leb (encodeTotal slots bytes) 131072) InvalidWitness
-    ∷ row (rising 0 slots) InvalidWitness
+unfoldable pub lentProofRows : List ℕ → List ℕ → List ℕ → List Row
+lentProofRows slots lengths bytes =
+    row (every (leb 1) lengths) InvalidWitness
+    ∷ row (leb (witnessTotal slots bytes) 131072) InvalidWitness
+    ∷ row (isRising 0 slots) InvalidWitness
     ∷ []
 
 -- 01: "slices that don't agree with each other are 7, before all else. Then writers refuse as in the Rust"; "Operation outside
@@ -59,38 +56,32 @@ witnessWriterRows operation slots lengths bytes =
     ∷ row (eqb (sum lengths) (length bytes)) SlicesDisagree
     ∷ row (isOperation operation) InvalidOperation
     ∷ row (leb (length slots) 16) InvalidWitness
-    ∷ lentRows slots lengths bytes
+    ∷ lentProofRows slots lengths bytes
 
 -- 01: "then with 5 if the buffer is short"
-unfoldable pub encodeFault : ℕ → List ℕ → List ℕ → List ℕ → ℕ → Check
-encodeFault operation slots lengths bytes room =
-    writeFault (witnessWriterRows operation slots lengths bytes) (encodeTotal slots bytes) room
+unfoldable pub witnessWriterFault : ℕ → List ℕ → List ℕ → List ℕ → ℕ → Check
+witnessWriterFault operation slots lengths bytes room =
+    writeFault (witnessWriterRows operation slots lengths bytes) (witnessTotal slots bytes) room
 
 -- what the writer answers, and the buffer afterwards
 unfoldable pub witnessWritten : ℕ → List ℕ → List ℕ → List ℕ → List ℕ → WriteAnswer
 witnessWritten operation slots lengths bytes out =
-    writeAnswer (encodeFault operation slots lengths bytes (length out)) (encodeTotal slots bytes)
+    writeAnswer (witnessWriterFault operation slots lengths bytes (length out)) (witnessTotal slots bytes)
 
 unfoldable pub witnessStored : ℕ → ℕ → List ℕ → List ℕ → List ℕ → List ℕ → List ℕ
 witnessStored operation sequence slots lengths bytes out =
-    afterWrite (encodeFault operation slots lengths bytes (length out)) (witnessBytes (witnessFrom operation sequence slots lengths bytes)) out
+    afterWrite (witnessWriterFault operation slots lengths bytes (length out)) (witnessBytes (witnessFrom operation sequence slots lengths bytes)) out
 
--- the slices that lend these proofs
-unfoldable pub proofSlots : List ProofReading → List ℕ
-proofSlots ps = map (λ (p : ProofReading). p .slot) ps
-
+-- the slices that lend these proofs, beside their slots
 unfoldable pub proofLengths : List ProofReading → List ℕ
 proofLengths ps = map (λ (p : ProofReading). length (p .bytes)) ps
 
 unfoldable pub proofsPayload : List ProofReading → List ℕ
 proofsPayload ps = joined (map (λ (p : ProofReading). p .bytes) ps)
 
--- what a reading lends the writer are values of the types of its parameters: u8, u64, and slices of u16, u32 and bytes whose lengths a
--- usize holds
+-- what a reading lends the writer are values of the types of its parameters: u8, u64, as many u16 slots and u32 lengths as there are
+-- proofs, and bytes whose count a usize holds
 pub record WitnessFits (r : WitnessReading) : Type 0 where
-  pub operation : r .operation < 2 ^ 8
-  pub sequence : r .sequence < 2 ^ 64
-  pub slots : (i : ℕ) → getD (proofSlots (r .proofs)) i 0 < 2 ^ 16
-  pub lengths : (i : ℕ) → getD (proofLengths (r .proofs)) i 0 < 2 ^ 32
+  pub typed : WitnessTyped r
   pub bytes : Bytes (proofsPayload (r .proofs))
-  pub counts : (length (proofSlots (r .proofs)) < 2 ^ 64) × (length (proofLengths (r .proofs)) < 2 ^ 64) × (length (proofsPayload (r .proofs)) < 2 ^ 64)
+  pub count : length (proofsPayload (r .proofs)) < 2 ^ 64

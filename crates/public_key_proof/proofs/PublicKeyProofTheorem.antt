@@ -22,8 +22,8 @@ use Rattle.public_key_proof.specs.declared.reader.PublicKeyProofAnswer.{
 use Rattle.public_key_proof.specs.declared.reader.PublicKeyProofAnswer.the-variants.{Proof, Refused}
 use Rattle.public_key_proof.specs.Reader.{publicKeyProofRows, publicKeyProofFault, publicKeyProofPlaces, publicKeyProofAnswer, readPublicKeyProof}
 use Rattle.public_key_proof.specs.Reading.{PublicKeyProofReading, PublicKeyProofTyped, publicKeyProofGiven, publicKeyProofReading, publicKeyProofBytes}
-use Rattle.public_key_proof.specs.Writer.{publicKeyProofWriterRows, publicKeyProofTotal, publicKeyProofRoom, publicKeyProofWritten, publicKeyProofStored}
-use Rattle.public_key_proof.proofs.Inverse.{passes, passes-hold, reading-written, reading-limits, reading-total, written-reading, written-passes, lengths-fit}
+use Rattle.public_key_proof.specs.Writer.{publicKeyProofWriterRows, publicKeyProofTotal, publicKeyProofWriterFault, publicKeyProofWritten, publicKeyProofStored}
+use Rattle.public_key_proof.proofs.Inverse.{public-key-proof-passes, public-key-proof-passes-hold, public-key-proof-back, public-key-proof-reading-limits, public-key-proof-reading-total, public-key-proof-written-read, public-key-proof-written-passes, lengths-fit}
 
 -- what the checks found, by the answer
 abbrev proofFound : PublicKeyProofAnswer → Check
@@ -54,16 +54,16 @@ public-key-proof-accepted r h =
     let b : length (r .signature) ≤ 65535 = leb-true _ _ (h .1 .1 .1 .0) in
     let k : length (r .publicKey) < 65536 = omega arith in
     let g : length (r .signature) < 65536 = omega arith in
-    (passes-hold (publicKeyProofBytes r) (written-passes r k g h), written-reading r k g)
+    (public-key-proof-passes-hold (publicKeyProofBytes r) (public-key-proof-written-passes r k g h), public-key-proof-written-read r k g)
 
 -- the one reading
 pub public-key-proof-one : (s : List ℕ) → Bytes s → AllPass (publicKeyProofRows s) → OneReading PublicKeyProofTyped publicKeyProofBytes s (publicKeyProofReading s)
 public-key-proof-one s b h =
-    let z = passes s h in
+    let z = public-key-proof-passes s h in
     record {
       typed = tt;
-      written = reading-written s b z;
-      unique = λ q t e. let f = lengths-fit q s z e in sym (written-reading q (f .0) (f .1)) ∙ ap publicKeyProofReading e;
+      written = public-key-proof-back s b z;
+      unique = λ q t e. let f = lengths-fit q s z e in sym (public-key-proof-written-read q (f .0) (f .1)) ∙ ap publicKeyProofReading e;
     }
 
 -- is the one that the reader gives,
@@ -77,11 +77,11 @@ public-key-proof-given s p h =
 
 -- and the writer writes it back
 pub public-key-proof-writes-back : (s : List ℕ) → Bytes s → AllPass (publicKeyProofRows s) → WritesBack (publicKeyProofWritten (publicKeyProofReading s)) (publicKeyProofStored (publicKeyProofReading s)) s
-unfolding publicKeyProofWritten publicKeyProofStored publicKeyProofRoom
+unfolding publicKeyProofWritten publicKeyProofStored publicKeyProofWriterFault
 public-key-proof-writes-back s b h =
-    let z = passes s h in
+    let z = public-key-proof-passes s h in
     let r = publicKeyProofReading s in
-    writes-back (publicKeyProofWriterRows r) (publicKeyProofBytes r) (publicKeyProofTotal r) s (reading-limits s b z) (reading-written s b z) (reading-total s b z)
+    writes-back (publicKeyProofWriterRows r) (publicKeyProofBytes r) (publicKeyProofTotal r) s (public-key-proof-reading-limits s b z) (public-key-proof-back s b z) (public-key-proof-reading-total s b z)
 
 -- The theorem: an accepted proof has exactly one reading, that of the answer, and writing it gives the same bytes or 5.
 pub public-key-proof-theorem : (s : List ℕ) (p : PublicKeyProof) → Bytes s → readPublicKeyProof s ≡ Proof p
