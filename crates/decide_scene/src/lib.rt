@@ -3,8 +3,10 @@ use account_lock::LockAnswer;
 use account_lock::lock;
 use account_lock::refused;
 use answer_line::answer_line;
+use protocol::ANSWER_BUFFER_LEN;
 use protocol::Check;
 use protocol::ProtocolError;
+use protocol::TABLE_MIN_ENTRIES;
 use protocol::check_number;
 use scene_reader::read_scene;
 ghost use mathlib.Core.Path.{_≡_};
@@ -20,7 +22,7 @@ ghost use Rattle.answer_line.specs.Line.{lineOf};
 ghost use Rattle.decide_scene.specs.Decided.{decided, programDecides, programLine};
 
 // The longest scene that the program reads.
-const PROGRAM_MAX_LEN: usize = 65536;
+const PROGRAM_SCENE_MAX_LEN: usize = 65_536;
 
 // The line that the program prints: the first `length` bytes.
 pub struct ProgramLine {
@@ -67,14 +69,14 @@ fn put_answer(found: LockAnswer, line: &mut [u8]) -> usize
 fn program_answer(scene: &[u8]) -> LockAnswer
     ensures { λ r. ⌜ r ≡ answerOf (programDecides (now (scene .entry))) ⌝ }
 {
-    if PROGRAM_MAX_LEN < scene.len() {
+    if PROGRAM_SCENE_MAX_LEN < scene.len() {
         return refused(ProtocolError::SceneTooLong);
     }
     // As long as the longest scene.
-    let mut store = [0u8; 65536];
-    let mut table = [0u32; 2048];
+    let mut store = [0u8; PROGRAM_SCENE_MAX_LEN];
+    let mut table = [0u32; TABLE_MIN_ENTRIES];
     // Room for the requests of any scene.
-    let mut answer = [0u8; 148992];
+    let mut answer = [0u8; ANSWER_BUFFER_LEN];
     decide_scene(scene, &mut store, &mut table, &mut answer)
 }
 

@@ -18,6 +18,7 @@ use Rattle.scene_text.specs.Text.{hexVal, sinceOf, inRange}
 use Rattle.scene_line.specs.Line.{nextForm, fieldEntries, lineEntries, formsOk}
 use Rattle.scene_line.proofs.KindLaws.{place-small}
 use Rattle.scene_line.specs.Kind.{rank, fieldCount, firstForm, follows}
+use Rattle.protocol.specs.Limits.{tableMinEntries}
 use Rattle.scene_reader.specs.Reader.{seenWith}
 use Rattle.scene_reader.specs.Room.{limit}
 use Rattle.scene_text.proofs.Tests.{and-left, and-right}
@@ -163,6 +164,6 @@ fits last seen filled k fs hl hs hf hn n o ok =
     let e : filled + 1 + length (lineEntries (firstForm k) fs) ≡ filled + (1 + length (lineEntries (firstForm k) fs)) = omega arith in
     rw e h
 
-pub limit-small : (k n : ℕ) → k < 8 → n ≤ 64 → limit k n ≤ 2048
+pub limit-small : (k n : ℕ) → k < 8 → n ≤ 64 → limit k n ≤ tableMinEntries
 unfolding limit
 limit-small k n hk hn = omega arith

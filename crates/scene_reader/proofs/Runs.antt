@@ -10,10 +10,11 @@ use Rattle.protocol.specs.declared.error.ProtocolError.{ProtocolError}
 use Rattle.protocol.specs.declared.check.Check.{Check}
 use Rattle.protocol.specs.declared.check.Check.the-variants.{Passed, Failed}
 use Rattle.protocol.proofs.AllPass.{decide-append, decide-failed, passed-all-pass}
+use Rattle.protocol.specs.Limits.{sceneMaxLength, tableMinEntries}
 use Rattle.scene_reader.specs.declared.state.State.{State}
 use Rattle.scene_reader.specs.declared.state.LineStep.{LineStep}
 use Rattle.scene_reader.specs.declared.state.LineStep.the-variants.{Next, Refused}
-use Rattle.scene_text.specs.Text.{pieces, before, Cut}
+use Rattle.scene_text.specs.Text.{pieces, before, Cut, lineEnd, comma}
 use Rattle.scene_line.specs.declared.kind.Kind.{Kind}
 use Rattle.scene_line.specs.Kind.{lineKind, lineFields}
 use Rattle.scene_reader.specs.Reader.{ReaderState, ReaderOutcome, held, refused, outcomeAfter, rowsOfLine, linePut, linesRows, linesPut, run, start, sceneLimitRows, sceneRows, readOf}
@@ -54,22 +55,22 @@ unfolding run linesRows linesPut
 run-last h l P e = rw e
 
 -- where the reader's own rows pass, scene and table are within its limits
-pub limits-within : (scene : List ℕ) (m : ℕ) → decide Passed (sceneLimitRows scene m) ≡ Passed → (length scene ≤ 1048576) × (2048 ≤ m)
+pub limits-within : (scene : List ℕ) (m : ℕ) → decide Passed (sceneLimitRows scene m) ≡ Passed → (length scene ≤ sceneMaxLength) × (tableMinEntries ≤ m)
 unfolding sceneLimitRows
 limits-within scene m e =
     let z = passed-all-pass (sceneLimitRows scene m) e in
-    (leb-true (length scene) 1048576 (z .0), leb-true 2048 m (z .1 .0))
+    (leb-true (length scene) sceneMaxLength (z .0), leb-true tableMinEntries m (z .1 .0))
 
 module _ (scene : List ℕ) (n m : ℕ) where
   -- then the lines decide
-  pub limits-passed : decide Passed (sceneLimitRows scene m) ≡ Passed → readOf scene n m ≡ run (start n m) (pieces 10 scene)
+  pub limits-passed : decide Passed (sceneLimitRows scene m) ≡ Passed → readOf scene n m ≡ run (start n m) (pieces lineEnd scene)
   unfolding readOf sceneRows run
-  limits-passed e = rw (rows-on (sceneLimitRows scene m) (linesRows (start n m) (pieces 10 scene)) e)
+  limits-passed e = rw (rows-on (sceneLimitRows scene m) (linesRows (start n m) (pieces lineEnd scene)) e)
 
   -- else the row that fails
   pub limits-failed : (a : ProtocolError) → decide Passed (sceneLimitRows scene m) ≡ Failed a → readOf scene n m ≡ refused a
   unfolding readOf sceneRows
-  limits-failed a e = rw (rows-off (sceneLimitRows scene m) (linesRows (start n m) (pieces 10 scene)) a e)
+  limits-failed a e = rw (rows-off (sceneLimitRows scene m) (linesRows (start n m) (pieces lineEnd scene)) a e)
 
 -- something is held where the rows passed
 pub held-passed : (c : Check) (h g : ReaderState) → outcomeAfter c h ≡ held g → (c ≡ Passed) × (h ≡ g)
@@ -90,22 +91,22 @@ some (p ∷ ps) e = (p, ps, refl)
 pub pieces-some : (c : ℕ) (s : List ℕ) → (m : List ℕ) × (ms : List (List ℕ)) × (pieces c s ≡ m ∷ ms)
 pieces-some c s = some (pieces c s) (before-none c s)
 
-module _ (h : ReaderState) (l s : List ℕ) (P : List (List ℕ)) (cut : P ≡ l ∷ pieces 10 s) where
+module _ (h : ReaderState) (l s : List ℕ) (P : List (List ℕ)) (cut : P ≡ l ∷ pieces lineEnd s) where
   -- a line that is held, and those behind it
-  pub run-on : (g : ReaderState) → step h l ≡ held g → run h P ≡ run g (pieces 10 s)
+  pub run-on : (g : ReaderState) → step h l ≡ held g → run h P ≡ run g (pieces lineEnd s)
   run-on g q =
       let k = held-passed _ _ g q in
-      let z = pieces-some 10 s in
+      let z = pieces-some lineEnd s in
       rw (cut, z .2) (run-passed h l (z .0) (z .1) (k .0) ∙ rw (k .1))
 
   -- a line that is refused
   pub run-off : (a : ProtocolError) → step h l ≡ refused a → run h P ≡ refused a
   run-off a q =
-      let z = pieces-some 10 s in
+      let z = pieces-some lineEnd s in
       rw (cut, z .2) (run-failed h l (z .0) (z .1) a (refused-failed _ _ a q))
 
 -- a line's step by the word before its first comma and the fields behind it
-pub step-cut : (h : ReaderState) (line w fields : List ℕ) (e : ℕ) (k : Kind) (o : ReaderOutcome) → Cut 44 line e → e < length line → w ≡ take e line → fields ≡ drop (e + 1) line
-    → k ≡ lineKind (h .last) (w ∷ pieces 44 fields) → o ≡ stepAs h k (pieces 44 fields) → o ≡ step h line
+pub step-cut : (h : ReaderState) (line w fields : List ℕ) (e : ℕ) (k : Kind) (o : ReaderOutcome) → Cut comma line e → e < length line → w ≡ take e line → fields ≡ drop (e + 1) line
+    → k ≡ lineKind (h .last) (w ∷ pieces comma fields) → o ≡ stepAs h k (pieces comma fields) → o ≡ step h line
 unfolding rowsOfLine linePut lineFields
 step-cut h line w fields e k o cut more hw hf hk ho = ho ∙ rw (hk, hw, hf, cut .cut more)

@@ -6,6 +6,7 @@ use mathlib.Core.List.{List}
 use Rattle.protocol.specs.Rows.{decide}
 use Rattle.protocol.specs.declared.check.Check.the-variants.{Passed}
 use Rattle.scene_line.specs.declared.kind.Kind.{Kind}
+use Rattle.protocol.specs.Limits.{sceneMaxLength, tableMinEntries, kindMaxLines}
 use Rattle.scene_reader.specs.declared.state.State.{State}
 use Rattle.scene_reader.specs.declared.state.LineStep.{LineStep}
 use Rattle.scene_reader.specs.declared.state.LineStep.the-variants.{Next, Refused}
@@ -35,15 +36,15 @@ finish h rest = outcomeAfter (decide Passed (sceneEndRows h rest)) h
 -- the table's entries in use after lines up to the seen-th of the kind of rank last, at most: 8 counts, 6 for each line before
 -- verdicts, 18 for verdicts
 unfoldable pub limit : ℕ → ℕ → ℕ
-limit last seen = 8 + 6 * min last 2 + 400 * (last - 3) + 6 * min seen (64 * (last - 2))
+limit last seen = 8 + 6 * min last 2 + 400 * (last - 3) + 6 * min seen (kindMaxLines * (last - 2))
 
 -- a state with n bytes of text to come, a store of that many bytes and a table of that many entries
 pub record Ready (s : State) (n store table : ℕ) : Type 0 where
   pub known : s .last < 8
-  pub few : s .seen ≤ 64
+  pub few : s .seen ≤ kindMaxLines
   pub inside : s .used ≤ store
-  pub small : s .used + n ≤ 1048576
-  pub enough : 2048 ≤ table
+  pub small : s .used + n ≤ sceneMaxLength
+  pub enough : tableMinEntries ≤ table
   pub fits : s .filled ≤ limit (s .last) (s .seen)
 
 -- what a step over n bytes leaves is ready

@@ -11,6 +11,8 @@ use crate::lines::read_lines;
 use crate::state::LineStep;
 use protocol::Check;
 use protocol::ProtocolError;
+use protocol::SCENE_MAX_LEN;
+use protocol::TABLE_MIN_ENTRIES;
 ghost use mathlib.Core.Path.{_≡_};
 ghost use lib.ListN.{length, replicate};
 ghost use Rattle.scene_reader.specs.Reader.{readOf, readerCheck, readerStore, readerTable};
@@ -22,8 +24,11 @@ fn read_checked(scene: &[u8], store: &mut [u8], table: &mut [u32]) -> LineStep
     ensures { λ r. ⌜ stepOutcome r (now (store .exit)) (now (table .exit)) ≡ readOf (now (scene .entry)) (length (now (store .entry))) (length (now (table .entry))) ⌝ }
 {
     let checked = Check::Passed
-        .require(scene.len() <= 1048576, ProtocolError::SceneTooLong)
-        .require(2048 <= table.len(), ProtocolError::StoreTooShort);
+        .require(scene.len() <= SCENE_MAX_LEN, ProtocolError::SceneTooLong)
+        .require(
+            TABLE_MIN_ENTRIES <= table.len(),
+            ProtocolError::StoreTooShort,
+        );
     match checked {
         Check::Failed(error) => LineStep::Refused(error),
         Check::Passed => read_lines(scene, store, table),

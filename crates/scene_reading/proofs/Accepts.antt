@@ -8,7 +8,7 @@ use native.Mathlib.Nat.{zero-add}
 use native.Mathlib.Omega.{arith}
 use lib.ListN.{length, replicate, length-append, length-replicate}
 use Rattle.octets.specs.Lists.{joined, every}
-use Rattle.scene_text.specs.Text.{pieces}
+use Rattle.scene_text.specs.Text.{pieces, lineEnd}
 use Rattle.scene_line.specs.Kind.{rank}
 use Rattle.scene_reader.specs.Reader.{ReaderState, held, seenWith, run, start}
 use Rattle.scene_reading.specs.Lines.{LinesAccepted, kindOfLine, countOk, formOk, bytesOfLine}
@@ -51,10 +51,10 @@ apart (l ∷ ls) last seen used size t =
 
 module _ (text : List ℕ) (n m : ℕ) where
   -- a text that the run accepts is refused by no row
-  pub accepted-passes : (g : ReaderState) → run (start n m) (pieces 10 text) ≡ held g → LinesAccepted text n
+  pub accepted-passes : (g : ReaderState) → run (start n m) (pieces lineEnd text) ≡ held g → LinesAccepted text n
   unfolding start
   accepted-passes g e =
-      let r : Ran (start n m) g (pieces 10 text) = run-text text (start n m) g e in
+      let r : Ran (start n m) g (pieces lineEnd text) = run-text text (start n m) g e in
       let t = together (r .lines) 0 0 0 (length (replicate n 0)) zero-le (r .pass) in
       let k = order-kinds (map kindOfLine (r .lines)) (t .order) in
       record {
@@ -75,7 +75,7 @@ module _ (text : List ℕ) (n m : ℕ) where
       }
 
   -- a text that no row refuses is accepted, and its lines are put down
-  pub passes-run : (p : LinesAccepted text n) → run (start n m) (pieces 10 text) ≡ held (putLines (start n m) (p .lines))
+  pub passes-run : (p : LinesAccepted text n) → run (start n m) (pieces lineEnd text) ≡ held (putLines (start n m) (p .lines))
   unfolding start
   passes-run p =
       let order : Order 0 0 (map kindOfLine (p .lines)) =
@@ -86,5 +86,5 @@ module _ (text : List ℕ) (n m : ℕ) where
       (apart (p .lines) 0 0 0 (length (replicate n 0))
       (record { order = order; counts = p .counted; forms = p .formed; room = rw (zero-add, length-replicate {A = ℕ} n 0) (p .room) })))
 
-  pub passes-accepted : LinesAccepted text n → (g : ReaderState) × (run (start n m) (pieces 10 text) ≡ held g)
+  pub passes-accepted : LinesAccepted text n → (g : ReaderState) × (run (start n m) (pieces lineEnd text) ≡ held g)
   passes-accepted p = (putLines (start n m) (p .lines), passes-run p)

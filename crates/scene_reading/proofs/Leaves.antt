@@ -9,7 +9,7 @@ use lib.ListN.{length, drop, set, replicate, length-replicate}
 use lib.Seq.{sets}
 use Rattle.octets.specs.Lists.{joined}
 use Rattle.octets.proofs.Stores.{sets-append, sets-front}
-use Rattle.scene_text.specs.Text.{pieces}
+use Rattle.scene_text.specs.Text.{pieces, lineEnd}
 use Rattle.scene_line.specs.declared.kind.Kind.{Kind}
 use Rattle.scene_line.specs.Kind.{rank, firstForm}
 use Rattle.scene_line.specs.Line.{lineEntries}
@@ -130,7 +130,7 @@ module _ (text : List ℕ) (n : ℕ) (p : LinesAccepted text n) where
         ∙ rw numbers-said (front-padded (sceneNumbers scene) m h)))
 
     -- what the run holds at the end
-    pub passes-leaves : (g : ReaderState) → run (start n m) (pieces 10 text) ≡ held g
+    pub passes-leaves : (g : ReaderState) → run (start n m) (pieces lineEnd text) ≡ held g
         → (g .store ≡ sceneStore (sceneOf (p .lines)) n)
         × (length (sceneNumbers (sceneOf (p .lines))) ≤ m → g .table ≡ sceneTable (sceneOf (p .lines)) m)
     unfolding scene

@@ -10,7 +10,7 @@ use lib.ListN.{length, length-map}
 use lib.Dec.{lit<, eqb, leb}
 use Rattle.octets.specs.Lists.{same, every}
 use Rattle.octets.proofs.Same.{same-eq}
-use Rattle.scene_text.specs.Text.{inRange, before, pieces, hexOk, hexVal, hexBytes}
+use Rattle.scene_text.specs.Text.{inRange, before, pieces, hexOk, hexVal, hexBytes, lineEnd, comma}
 use Rattle.scene_text.proofs.Tests.{and-left, and-right}
 use Rattle.scene_text.proofs.Pieces.{before-none}
 use Rattle.scene_line.specs.declared.kind.Kind.{Kind}
@@ -52,26 +52,26 @@ pieces-rejoined c (x ∷ s) = go (eqb x c) refl (pieces c s) (before-none c s) (
     go false e (p ∷ ps) n h = ap (λ (l : List ℕ). x ∷ l) h
 
 -- lines with their endings
-ended-parted : (ls : List (List ℕ)) → parted 10 (ls ++ ([] ∷ [])) ≡ 10 ∷ endedLines ls
+ended-parted : (ls : List (List ℕ)) → parted lineEnd (ls ++ ([] ∷ [])) ≡ 10 ∷ endedLines ls
 unfolding parted endedLines
 ended-parted [] = refl
 ended-parted (l ∷ ls) = rw (ended-parted ls)
 
-pub text-back : (text : List ℕ) (ls : List (List ℕ)) → pieces 10 text ≡ ls ++ ([] ∷ []) → endedLines ls ≡ text
+pub text-back : (text : List ℕ) (ls : List (List ℕ)) → pieces lineEnd text ≡ ls ++ ([] ∷ []) → endedLines ls ≡ text
 unfolding rejoined endedLines parted
-text-back text ls e = go ls ∙ (ap (rejoined 10) (sym e) ∙ pieces-rejoined 10 text)
+text-back text ls e = go ls ∙ (ap (rejoined lineEnd) (sym e) ∙ pieces-rejoined lineEnd text)
   where
-    go : (ls : List (List ℕ)) → endedLines ls ≡ rejoined 10 (ls ++ ([] ∷ []))
+    go : (ls : List (List ℕ)) → endedLines ls ≡ rejoined lineEnd (ls ++ ([] ∷ []))
     go [] = refl
     go (l ∷ ls) = rw (ended-parted ls)
 
 -- a line's word and fields
-commaed-parted : (fs : List (List ℕ)) → commaed fs ≡ parted 44 fs
+commaed-parted : (fs : List (List ℕ)) → commaed fs ≡ parted comma fs
 unfolding commaed parted
 commaed-parted [] = refl
 commaed-parted (f ∷ fs) = rw (commaed-parted fs)
 
-line-rejoined : (ps : List (List ℕ)) → lineText (wordOf ps) (lineFields ps) ≡ rejoined 44 ps
+line-rejoined : (ps : List (List ℕ)) → lineText (wordOf ps) (lineFields ps) ≡ rejoined comma ps
 unfolding lineText wordOf lineFields rejoined commaed
 line-rejoined [] = refl
 line-rejoined (w ∷ fs) = rw (commaed-parted fs)
@@ -111,9 +111,9 @@ pub record LinePasses (l : List ℕ) (k : Kind) : Type 0 where
   pub formed : formOk l ≡ true
 
 module _ (l : List ℕ) (k : Kind) (p : LinePasses l k) where
-  named : 0 < rank k → wordOf (pieces 44 l) ≡ kindWord k
+  named : 0 < rank k → wordOf (pieces comma l) ≡ kindWord k
   unfolding kindOfLine
-  named = rw (p .is) at (kind-named (wordOf (pieces 44 l)))
+  named = rw (p .is) at (kind-named (wordOf (pieces comma l)))
 
   field-count : length (fieldsOfLine l) ≡ fieldCount k
   unfolding countOk
@@ -123,15 +123,15 @@ module _ (l : List ℕ) (k : Kind) (p : LinePasses l k) where
   unfolding formOk
   field-forms = rw (p .is) at (p .formed)
 
-  line-whole : (word : List ℕ) (fs : List (List ℕ)) → wordOf (pieces 44 l) ≡ word → fs ≡ fieldsOfLine l → lineText word fs ≡ l
+  line-whole : (word : List ℕ) (fs : List (List ℕ)) → wordOf (pieces comma l) ≡ word → fs ≡ fieldsOfLine l → lineText word fs ≡ l
   unfolding fieldsOfLine
-  line-whole word fs w e = rw (← w, e) (line-rejoined (pieces 44 l) ∙ pieces-rejoined 44 l)
+  line-whole word fs w e = rw (← w, e) (line-rejoined (pieces comma l) ∙ pieces-rejoined comma l)
 
   one-field : fieldCount k ≡ 1 → fieldsOfLine l ≡ fieldAt (fieldsOfLine l) 0 ∷ []
   unfolding fieldsFrom
   one-field e = fields-from (fieldsOfLine l) 1 (field-count ∙ e)
 
-  bytes-line : (word : List ℕ) → wordOf (pieces 44 l) ≡ word → fieldCount k ≡ 1 → firstForm k ≡ Hex → PrintOf bytesOk (bytesText word) l
+  bytes-line : (word : List ℕ) → wordOf (pieces comma l) ≡ word → fieldCount k ≡ 1 → firstForm k ≡ Hex → PrintOf bytesOk (bytesText word) l
   unfolding bytesText formsOk
   bytes-line word w n f =
       let e = one-field n in
@@ -140,7 +140,7 @@ module _ (l : List ℕ) (k : Kind) (p : LinePasses l k) where
       let x = hex-print field (and-left (hexOk field) true h) in
       record { value = hexBytes field; fits = x .bytes; print = rw (x .text) (line-whole word (field ∷ []) w (sym e)) }
 
-  cell-line : (word : List ℕ) → wordOf (pieces 44 l) ≡ word → fieldCount k ≡ 4 → firstForm k ≡ TypeHash → PrintOf cellOk (cellText word) l
+  cell-line : (word : List ℕ) → wordOf (pieces comma l) ≡ word → fieldCount k ≡ 4 → firstForm k ≡ TypeHash → PrintOf cellOk (cellText word) l
   unfolding cellText
   cell-line word w n f =
       let c = cell-print (fieldsOfLine l) (field-count ∙ n) (rw f at field-forms) in

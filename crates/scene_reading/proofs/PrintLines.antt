@@ -17,6 +17,7 @@ use Rattle.scene_line.specs.Kind.{kindOf, fieldCount, firstForm, lineFields, sc
 use Rattle.scene_line.specs.Line.{formsOk}
 use Rattle.scene_table.specs.Scene.{Cell, Input, Line, bytesLine, hashLine, inputLine, cellLine, digitsLine}
 use Rattle.scene_table.specs.Valid.{bytesOk}
+use Rattle.scene_text.specs.Text.{lineEnd, comma}
 use Rattle.scene_reading.specs.Lines.{wordOf, kindOfLine, fieldsOfLine, times, countOk, formOk}
 use Rattle.scene_reading.specs.Print.{commaed, lineText, hexText, digitsText, cellFields, inputFields, inputText, cellText, bytesText}
 use Rattle.scene_reading.proofs.LineRows.{lineIn, rowOf, hex-row, hash-row, digits-row, cell-row, input-row}
@@ -38,16 +39,16 @@ module _ (c : ℕ) (low : c < 48) where
   fields-without (f ∷ fs) h =
       rw (high-without f (and-left (every (leb 48) f) (every (every (leb 48)) fs) h)) (fields-without fs (and-right (every (leb 48) f) (every (every (leb 48)) fs) h))
 
-line-without : (word : List ℕ) (fs : List (List ℕ)) → every (leb 48) word ≡ true → every (every (leb 48)) fs ≡ true → without 10 (lineText word fs) ≡ true
+line-without : (word : List ℕ) (fs : List (List ℕ)) → every (leb 48) word ≡ true → every (every (leb 48)) fs ≡ true → without lineEnd (lineText word fs) ≡ true
 unfolding lineText commaed every without
-line-without word [] w h = rw append-nil (high-without 10 (omega arith) word w)
+line-without word [] w h = rw append-nil (high-without lineEnd (omega arith) word w)
 line-without word (f ∷ fs) w h =
-    all-append (λ (x : ℕ). not (eqb x 10)) word (44 ∷ lineText f fs) (high-without 10 (omega arith) word w)
+    all-append (λ (x : ℕ). not (eqb x 10)) word (44 ∷ lineText f fs) (high-without lineEnd (omega arith) word w)
     (line-without f fs (and-left (every (leb 48) f) (every (every (leb 48)) fs) h) (and-right (every (leb 48) f) (every (every (leb 48)) fs) h))
 
 -- what is known of the text l of a line of kind k with the fields fs
 pub record Says (l : List ℕ) (k : Kind) (fs : List (List ℕ)) : Type 0 where
-  pub ended : without 10 l ≡ true
+  pub ended : without lineEnd l ≡ true
   pub kind : kindOfLine l ≡ k
   pub fields : fieldsOfLine l ≡ fs
 
@@ -79,7 +80,7 @@ line-says : (k : Kind) (fs : List (List ℕ)) → every (every (leb 48)) fs ≡ 
 unfolding kindOfLine fieldsOfLine wordOf lineFields
 line-says k fs h =
     let w = word-of k in
-    let e = line-pieces (kindWord k) fs (high-without 44 (omega arith) (kindWord k) (w .1)) (fields-without 44 (omega arith) fs h) in
+    let e = line-pieces (kindWord k) fs (high-without comma (omega arith) (kindWord k) (w .1)) (fields-without comma (omega arith) fs h) in
     record { ended = line-without (kindWord k) fs (w .1) h; kind = rw e (w .0); fields = rw e }
 
 -- and that no line row refuses it, and what the reader puts down of it
@@ -188,7 +189,7 @@ each-map ok text k line p (x ∷ xs) h =
 
 -- what the line rows ask of all of them, and what the reader puts down of them
 pub record Rows (ls : List (List ℕ)) (ks : List Kind) (lines : List Line) : Type 0 where
-  pub ended : every (without 10) ls ≡ true
+  pub ended : every (without lineEnd) ls ≡ true
   pub ordered : map kindOfLine ls ≡ ks
   pub counted : every countOk ls ≡ true
   pub formed : every formOk ls ≡ true

@@ -8,7 +8,7 @@ use native.Mathlib.Omega.{arith}
 use lib.ListN.{length}
 use lib.Dec.{eqb}
 use Rattle.octets.specs.Lists.{every}
-use Rattle.scene_text.specs.Text.{pieces, hexBytes, hexVal}
+use Rattle.scene_text.specs.Text.{pieces, hexBytes, hexVal, lineEnd}
 use Rattle.scene_text.proofs.Tests.{and-left, and-right}
 use Rattle.scene_line.specs.declared.kind.Kind.{Kind}
 use Rattle.scene_line.specs.declared.kind.Kind.the-variants as kind
@@ -46,7 +46,7 @@ row-bytes [] = refl
 row-bytes (l ∷ ls) = ap (λ (t : List (List ℕ)). bytesOfLine l ∷ t) (row-bytes ls)
 
 -- the printed text is cut into its lines
-pub printed-pieces : (s : Scene) → sceneOk s ≡ true → pieces 10 (textOf s) ≡ textLines s ++ ([] ∷ [])
+pub printed-pieces : (s : Scene) → sceneOk s ≡ true → pieces lineEnd (textOf s) ≡ textLines s ++ ([] ∷ [])
 unfolding textOf
 printed-pieces s ok = lines-pieces (textLines s) (each-rows (scene-prints s (sayable s ok)) .ended)
 

@@ -13,7 +13,7 @@ use Rattle.protocol.specs.Rows.{decide, AllPass}
 use Rattle.protocol.specs.declared.check.Check.{Check}
 use Rattle.protocol.specs.declared.check.Check.the-variants.{Passed, Failed}
 use Rattle.protocol.proofs.AllPass.{passed-all-pass, all-pass-passed}
-use Rattle.scene_text.specs.Text.{pieces}
+use Rattle.scene_text.specs.Text.{pieces, comma, lineEnd}
 use Rattle.scene_line.specs.declared.kind.Kind.{Kind}
 use Rattle.scene_line.specs.declared.kind.Kind.the-variants.{Unknown}
 use Rattle.scene_line.specs.Kind.{rank, fieldCount, firstForm, kindOf, follows, lineKind, lineFields}
@@ -109,15 +109,15 @@ module _ (h : ReaderState) (l : List ℕ) where
   line-holds : LinePasses (h .last) (h .seen) (h .used) (length (h .store)) l → AllPass (rowsOfLine h l) × (linePut h l ≡ putLine h l)
   unfolding rowsOfLine linePut putLine kindOfLine fieldsOfLine countOk formOk bytesOfLine
   line-holds p =
-      let k = kind-known (h .last) (pieces 44 l) (p .order) (p .count) in
-      let known = ne-eqb (rank (kindOf (wordOf (pieces 44 l)))) 0 (follows-none (h .last) _ (p .order)) in
+      let k = kind-known (h .last) (pieces comma l) (p .order) (p .count) in
+      let known = ne-eqb (rank (kindOf (wordOf (pieces comma l)))) 0 (follows-none (h .last) _ (p .order)) in
       (rw k (of-rows h _ _ (record { known = known; few = p .few; form = p .form; room = p .room })), rw k)
 
   holds-line : AllPass (rowsOfLine h l) → LinePasses (h .last) (h .seen) (h .used) (length (h .store)) l × (linePut h l ≡ putLine h l)
   unfolding rowsOfLine linePut putLine kindOfLine fieldsOfLine countOk formOk bytesOfLine
   holds-line z =
-      let r = rows-of h (lineKind (h .last) (pieces 44 l)) (lineFields (pieces 44 l)) z in
-      let k = known-kind (h .last) (pieces 44 l) (r .known) in (
+      let r = rows-of h (lineKind (h .last) (pieces comma l)) (lineFields (pieces comma l)) z in
+      let k = known-kind (h .last) (pieces comma l) (r .known) in (
         record { order = k .0; count = k .1 .0; few = rw (k .1 .1) at (r .few); form = rw (k .1 .1) at (r .form); room = rw (k .1 .1) at (r .room) },
         rw (k .1 .1),
       )
@@ -186,5 +186,5 @@ run-lines l (k ∷ ls) h g e = on (decide Passed (rowsOfLine h l)) refl (λ j q.
         record { lines = l ∷ r .lines; ended = ap (λ (t : List (List ℕ)). l ∷ t) (r .ended); pass = (p .0, from h l (r .lines) (r .pass)); result = r .result }
 
 -- so do those of a text, which has at least one piece
-pub run-text : (text : List ℕ) (h g : ReaderState) → run h (pieces 10 text) ≡ held g → Ran h g (pieces 10 text)
-run-text text h g e = let q = pieces-some 10 text in rw (q .2) (run-lines (q .0) (q .1) h g (rw (q .2) at e))
+pub run-text : (text : List ℕ) (h g : ReaderState) → run h (pieces lineEnd text) ≡ held g → Ran h g (pieces lineEnd text)
+run-text text h g e = let q = pieces-some lineEnd text in rw (q .2) (run-lines (q .0) (q .1) h g (rw (q .2) at e))

@@ -9,8 +9,7 @@ use borrow.Author.Tests.{lt-ltb}
 use lib.Dec.{leb, ltb, eqb}
 use lib.ListN.{length, replicate, length-replicate}
 use Rattle.octets.specs.Lists.{every}
-use Rattle.scene_table.specs.Lent.{tableEntry, inputsAt, outputsAt, depsAt, witnessesAt, verdictsAt, recordsAt, hashLength, cellFrom, inputFrom, cellRecordFrom, bytesFrom, sceneFrom, blankScene}
-use Rattle.scene_table.specs.Places.{digitCount}
+use Rattle.scene_table.specs.Lent.{tableEntry, inputsAt, outputsAt, depsAt, witnessesAt, verdictsAt, recordsAt, hashLength, cellFrom, inputFrom, cellRecordFrom, bytesFrom, sceneFrom, blankScene, inputCount, outputCount, depCount, witnessCount, digitCount}
 use Rattle.scene_table.specs.Valid.{bytesOk, hashBytesOk, cellOk, inputOk, fewOf, digitsOk, sceneOk}
 use Rattle.scene_table.specs.Walk.{groupOk}
 use Rattle.scene_table.proofs.Rows.{length-rows}
@@ -60,27 +59,27 @@ module _ (table : List ℕ) (small : (i : ℕ) → tableEntry table i < 2 ^ 32) 
         and-true,
       )
 
-  blank-inputs : fewOf inputOk (recordsAt (inputFrom blank table) 6 (tableEntry table 3) inputsAt)
-      ≡ (leb (tableEntry table 3) 64 && every (groupOk table) (recordsAt (λ (i : ℕ). i) 6 (tableEntry table 3) inputsAt))
+  blank-inputs : fewOf inputOk (recordsAt (inputFrom blank table) 6 (inputCount table) inputsAt)
+      ≡ (leb (inputCount table) 64 && every (groupOk table) (recordsAt (λ (i : ℕ). i) 6 (inputCount table) inputsAt))
   unfolding fewOf
   blank-inputs =
       rw (
-        length-rows (inputFrom blank table) 6 (tableEntry table 3) inputsAt,
-        every-rows inputOk (groupOk table) (inputFrom blank table) 6 (tableEntry table 3) inputsAt blank-input,
+        length-rows (inputFrom blank table) 6 (inputCount table) inputsAt,
+        every-rows inputOk (groupOk table) (inputFrom blank table) 6 (inputCount table) inputsAt blank-input,
       )
 
   pub blank-ok : sceneOk (blankScene table)
-      ≡ (leb (tableEntry table 3) 64 && every (groupOk table) (recordsAt (λ (i : ℕ). i) 6 (tableEntry table 3) inputsAt)
-      && (leb (tableEntry table 4) 64
-      && (leb (tableEntry table 5) 64 && (leb (tableEntry table 6) 64 && (leb (digitCount table) 16 && every (λ (d : ℕ). ltb d 3) (blankScene table .digits))))))
+      ≡ (leb (inputCount table) 64 && every (groupOk table) (recordsAt (λ (i : ℕ). i) 6 (inputCount table) inputsAt)
+      && (leb (outputCount table) 64
+      && (leb (depCount table) 64 && (leb (witnessCount table) 64 && (leb (digitCount table) 16 && every (λ (d : ℕ). ltb d 3) (blankScene table .digits))))))
   unfolding sceneOk blankScene sceneFrom bytesFrom cellRecordFrom digitsOk digitCount
   blank-ok =
       rw (
         blank-bytes (tableEntry table 9),
         blank-hash,
         blank-inputs,
-        all-rows cellOk (cellRecordFrom blank table) 3 (tableEntry table 4) (outputsAt table) (λ i. blank-cell (tableEntry table i) (tableEntry table (i + 1)) (tableEntry table (i + 2))),
-        all-rows cellOk (cellRecordFrom blank table) 3 (tableEntry table 5) (depsAt table) (λ i. blank-cell (tableEntry table i) (tableEntry table (i + 1)) (tableEntry table (i + 2))),
-        all-rows bytesOk (bytesFrom blank table) 2 (tableEntry table 6) (witnessesAt table) (λ i. blank-bytes (tableEntry table (i + 1))),
+        all-rows cellOk (cellRecordFrom blank table) 3 (outputCount table) (outputsAt table) (λ i. blank-cell (tableEntry table i) (tableEntry table (i + 1)) (tableEntry table (i + 2))),
+        all-rows cellOk (cellRecordFrom blank table) 3 (depCount table) (depsAt table) (λ i. blank-cell (tableEntry table i) (tableEntry table (i + 1)) (tableEntry table (i + 2))),
+        all-rows bytesOk (bytesFrom blank table) 2 (witnessCount table) (witnessesAt table) (λ i. blank-bytes (tableEntry table (i + 1))),
         length-rows (tableEntry table) 1 (tableEntry table (verdictsAt table + 1)) (verdictsAt table + 2),
       )

@@ -12,9 +12,9 @@ use lib.Seq.{drop-at, take-add}
 use Rattle.octets.proofs.Same.{same-eq, eq-same}
 use Rattle.octets.proofs.Parts.{part-back}
 use Rattle.octets.specs.Lists.{every}
+use Rattle.protocol.specs.Limits.{tableMinEntries}
 use Rattle.scene_table.specs.Scene.{linesOf, recordsFrom, countsOf, sceneBytes, sceneNumbers, padded, sceneTable}
-use Rattle.scene_table.specs.Lent.{tableEntry, inputsAt, outputsAt, depsAt, witnessesAt, verdictsAt, recordsAt, inputFrom, cellRecordFrom, bytesFrom, sceneFrom, blankScene}
-use Rattle.scene_table.specs.Places.{digitCount}
+use Rattle.scene_table.specs.Lent.{tableEntry, inputsAt, outputsAt, depsAt, witnessesAt, verdictsAt, recordsAt, inputFrom, cellRecordFrom, bytesFrom, sceneFrom, blankScene, inputCount, outputCount, depCount, witnessCount, digitCount}
 use Rattle.scene_table.specs.Valid.{validTable}
 use Rattle.scene_table.specs.Walk.{startWalk, walkLines, countsOk, zerosBehind, restOk}
 use Rattle.scene_table.proofs.Rows.{length-rows}
@@ -38,20 +38,20 @@ pass-zeros (x ∷ xs) h =
 
 -- the first eight entries
 cut-entries : (table : List ℕ) → cut table 8 0
-    ≡ tableEntry table 0 ∷ tableEntry table 1 ∷ tableEntry table 2 ∷ tableEntry table 3 ∷ tableEntry table 4 ∷ tableEntry table 5 ∷ tableEntry table 6 ∷ tableEntry table 7 ∷ []
+    ≡ tableEntry table 0 ∷ tableEntry table 1 ∷ tableEntry table 2 ∷ inputCount table ∷ outputCount table ∷ depCount table ∷ witnessCount table ∷ tableEntry table 7 ∷ []
 unfolding cut recordsAt
 cut-entries table = refl
 
 module _ (table : List ℕ) where
   -- the counts that the table says
-  said-counts : countsOf (blankScene table) ≡ 0 ∷ 1 ∷ 1 ∷ tableEntry table 3 ∷ tableEntry table 4 ∷ tableEntry table 5 ∷ tableEntry table 6 ∷ 1 ∷ []
+  said-counts : countsOf (blankScene table) ≡ 0 ∷ 1 ∷ 1 ∷ inputCount table ∷ outputCount table ∷ depCount table ∷ witnessCount table ∷ 1 ∷ []
   unfolding countsOf blankScene sceneFrom
   said-counts =
       rw (
-        length-rows (inputFrom blank table) 6 (tableEntry table 3) inputsAt,
-        length-rows (cellRecordFrom blank table) 3 (tableEntry table 4) (outputsAt table),
-        length-rows (cellRecordFrom blank table) 3 (tableEntry table 5) (depsAt table),
-        length-rows (bytesFrom blank table) 2 (tableEntry table 6) (witnessesAt table),
+        length-rows (inputFrom blank table) 6 (inputCount table) inputsAt,
+        length-rows (cellRecordFrom blank table) 3 (outputCount table) (outputsAt table),
+        length-rows (cellRecordFrom blank table) 3 (depCount table) (depsAt table),
+        length-rows (bytesFrom blank table) 2 (witnessCount table) (witnessesAt table),
       )
 
   -- the records end behind the last digit
@@ -108,11 +108,11 @@ module _ (table : List ℕ) where
 
   -- the counts in range
   pub record Few : Type 0 where
-    pub enough : 2048 ≤ length table
-    pub inputs : tableEntry table 3 ≤ 64
-    pub outputs : tableEntry table 4 ≤ 64
-    pub deps : tableEntry table 5 ≤ 64
-    pub witnesses : tableEntry table 6 ≤ 64
+    pub enough : tableMinEntries ≤ length table
+    pub inputs : inputCount table ≤ 64
+    pub outputs : outputCount table ≤ 64
+    pub deps : depCount table ≤ 64
+    pub witnesses : witnessCount table ≤ 64
     pub digits : digitCount table ≤ 16
 
   room-for : Few → 8 + span table ≤ length table
@@ -140,11 +140,11 @@ module _ (table : List ℕ) where
       let j = and-both _ _ (i .0) in
       record {
         few = record {
-          enough = leb-true 2048 (length table) (j .0);
-          inputs = leb-true (tableEntry table 3) 64 (f .1);
-          outputs = leb-true (tableEntry table 4) 64 (e .1);
-          deps = leb-true (tableEntry table 5) 64 (d .1);
-          witnesses = leb-true (tableEntry table 6) 64 (c .1);
+          enough = leb-true tableMinEntries (length table) (j .0);
+          inputs = leb-true (inputCount table) 64 (f .1);
+          outputs = leb-true (outputCount table) 64 (e .1);
+          deps = leb-true (depCount table) 64 (d .1);
+          witnesses = leb-true (witnessCount table) 64 (c .1);
           digits = leb-true (digitCount table) 16 (a .1);
         };
         zeroth = eqb-true (tableEntry table 0) 0 (j .1);
@@ -157,14 +157,14 @@ module _ (table : List ℕ) where
   unfolding countsOk
   counts-pass c =
       rw (
-        le-leb 2048 (length table) (c .few .enough),
+        le-leb tableMinEntries (length table) (c .few .enough),
         eq-eqb (tableEntry table 0) 0 (c .zeroth),
         eq-eqb (tableEntry table 1) 1 (c .scripts),
         eq-eqb (tableEntry table 2) 1 (c .transactions),
-        le-leb (tableEntry table 3) 64 (c .few .inputs),
-        le-leb (tableEntry table 4) 64 (c .few .outputs),
-        le-leb (tableEntry table 5) 64 (c .few .deps),
-        le-leb (tableEntry table 6) 64 (c .few .witnesses),
+        le-leb (inputCount table) 64 (c .few .inputs),
+        le-leb (outputCount table) 64 (c .few .outputs),
+        le-leb (depCount table) 64 (c .few .deps),
+        le-leb (witnessCount table) 64 (c .few .witnesses),
         eq-eqb (tableEntry table 7) 1 (c .verdicts),
         le-leb (digitCount table) 16 (c .few .digits),
       )
@@ -186,13 +186,13 @@ module _ (table : List ℕ) where
         let u : walkLines table .used ≡ total (linesOf (blankScene table)) = omega (arith, t .3) in
         let own : Own = record { zeroth = c .zeroth; scripts = c .scripts; transactions = c .transactions; verdicts = c .verdicts; rows = t .2; behind = a .1 } in
         rw (
-          le-leb 2048 (length table) (c .few .enough),
+          le-leb tableMinEntries (length table) (c .few .enough),
           blank-ok table small,
-          le-leb (tableEntry table 3) 64 (c .few .inputs),
+          le-leb (inputCount table) 64 (c .few .inputs),
           t .1,
-          le-leb (tableEntry table 4) 64 (c .few .outputs),
-          le-leb (tableEntry table 5) 64 (c .few .deps),
-          le-leb (tableEntry table 6) 64 (c .few .witnesses),
+          le-leb (outputCount table) 64 (c .few .outputs),
+          le-leb (depCount table) 64 (c .few .deps),
+          le-leb (witnessCount table) 64 (c .few .witnesses),
           le-leb (digitCount table) 16 (c .few .digits),
           d .1,
           bytes-total,
@@ -214,11 +214,11 @@ module _ (table : List ℕ) where
         let witnesses = and-both _ _ (deps .1) in
         let digits = and-both _ _ (witnesses .1) in
         let few : Few = record {
-          enough = leb-true 2048 (length table) (a .0);
-          inputs = leb-true (tableEntry table 3) 64 (inputs .0);
-          outputs = leb-true (tableEntry table 4) 64 (outputs .0);
-          deps = leb-true (tableEntry table 5) 64 (deps .0);
-          witnesses = leb-true (tableEntry table 6) 64 (witnesses .0);
+          enough = leb-true tableMinEntries (length table) (a .0);
+          inputs = leb-true (inputCount table) 64 (inputs .0);
+          outputs = leb-true (outputCount table) 64 (outputs .0);
+          deps = leb-true (depCount table) 64 (deps .0);
+          witnesses = leb-true (witnessCount table) 64 (witnesses .0);
           digits = leb-true (digitCount table) 16 (digits .0);
         } in
         let below : every (λ (d : ℕ). ltb d 3) (blankScene table .digits) ≡ true = digits .1 in

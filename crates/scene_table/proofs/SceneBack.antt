@@ -12,7 +12,7 @@ use lib.ListN.{length, replicate, length-append}
 use Rattle.octets.proofs.Parts.{part-back}
 use Rattle.octets.specs.Lists.{every}
 use Rattle.scene_table.specs.Scene.{Cell, Input, Scene, Line, cellLengths, bytesLine, hashLine, inputLine, cellLine, digitsLine, linesOf, sceneBytes, countsOf, recordsFrom, sceneNumbers, padded, sceneTable}
-use Rattle.scene_table.specs.Lent.{tableEntry, inputsAt, outputsAt, depsAt, witnessesAt, verdictsAt, recordsAt, inputFrom, cellRecordFrom, bytesFrom, sceneFrom}
+use Rattle.scene_table.specs.Lent.{tableEntry, inputsAt, outputsAt, depsAt, witnessesAt, verdictsAt, recordsAt, inputFrom, cellRecordFrom, bytesFrom, sceneFrom, inputCount, outputCount, depCount, witnessCount, digitCount}
 use Rattle.scene_table.specs.Valid.{bytesOk, hashBytesOk, cellOk, inputOk, fewOf, digitsOk, sceneOk}
 use Rattle.scene_table.proofs.Lines.{total, rows-append, cut, cut-take, fromInputs, fromOutputs, fromDeps, fromWitnesses, lines-by-kind}
 use Rattle.octets.proofs.Truth.{and-both}
@@ -134,7 +134,7 @@ numbers-few s h = let ok = sayable s h in omega (arith, numbers-long s, ok)
 
 module _ (s : Scene) (m : ℕ) where
   -- the counts in the table
-  counts : (tableEntry (sceneTable s m) 3 ≡ length (s .inputs)) × (tableEntry (sceneTable s m) 4 ≡ length (s .outputs)) × (tableEntry (sceneTable s m) 5 ≡ length (s .deps)) × (tableEntry (sceneTable s m) 6 ≡ length (s .witnesses))
+  counts : (inputCount (sceneTable s m) ≡ length (s .inputs)) × (outputCount (sceneTable s m) ≡ length (s .outputs)) × (depCount (sceneTable s m) ≡ length (s .deps)) × (witnessCount (sceneTable s m) ≡ length (s .witnesses))
   unfolding tableEntry sceneTable padded sceneNumbers countsOf
   counts = (refl, refl, refl, refl)
 
@@ -177,7 +177,7 @@ module _ (s : Scene) (m : ℕ) where
 
     -- a scene's table read back
     pub scene-back : sceneFrom from (sceneTable s m) ≡ sceneWith g s
-    unfolding sceneFrom sceneWith fromInputs fromOutputs fromDeps fromWitnesses inputsAt T B
+    unfolding sceneFrom sceneWith fromInputs fromOutputs fromDeps fromWitnesses inputsAt digitCount T B
     scene-back =
         let i = s .inputs in
         let o = s .outputs in

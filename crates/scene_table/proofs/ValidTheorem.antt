@@ -10,6 +10,7 @@ use lib.Dec.{ltb}
 use lib.ListN.{length, replicate, length-append, length-replicate, length-map}
 use Rattle.octets.proofs.Same.{same-eq, eq-same}
 use Rattle.octets.specs.Lists.{every}
+use Rattle.protocol.specs.Limits.{tableMinEntries}
 use Rattle.scene_table.specs.Scene.{Cell, Input, Scene, Line, cellBytes, cellLengths, bytesLine, hashLine, inputLine, cellLine, linesOf, sceneBytes, countsOf, recordsFrom, sceneNumbers, padded, sceneTable}
 use Rattle.scene_table.specs.Lent.{cellFrom, blankScene}
 use Rattle.scene_table.specs.Valid.{bytesOk, hashBytesOk, cellOk, inputOk, fewOf, digitsOk, sceneOk, validTable}
@@ -160,24 +161,24 @@ unfolding blankScene
 blank-scene s m ok = scene-back s m blank zeroed (λ p q r at n e lp lq. rw lq) ok
 
 -- a table that a scene leaves passes
-pub scene-passes : (table : List ℕ) (n : ℕ) (s : Scene) → 2048 ≤ length table → sceneOk s ≡ true → length (sceneBytes s) ≤ n → table ≡ sceneTable s (length table)
+pub scene-passes : (table : List ℕ) (n : ℕ) (s : Scene) → tableMinEntries ≤ length table → sceneOk s ≡ true → length (sceneBytes s) ≤ n → table ≡ sceneTable s (length table)
     → validTable table n ≡ true
 unfolding validTable
 scene-passes table n s enough ok room e =
     let said : blankScene table ≡ sceneWith zeroed s = ap blankScene e ∙ blank-scene s (length table) (sayable s ok) in
     rw
-    (le-leb 2048 (length table) enough, said, zeroed-ok s (sayable s ok), zeroed-long s, le-leb (length (sceneBytes s)) n room)
+    (le-leb tableMinEntries (length table) enough, said, zeroed-ok s (sayable s ok), zeroed-long s, le-leb (length (sceneBytes s)) n room)
     (eq-same table (sceneTable (sceneWith zeroed s) (length table)) (e ∙ sym (zeroed-table s (length table))))
 
 -- a table that passes is the one of the scene that it says
 pub passes-scene : (table : List ℕ) (n : ℕ) → validTable table n ≡ true
-    → (2048 ≤ length table) × (s : Scene) × (sceneOk s ≡ true) × (length (sceneBytes s) ≤ n) × (table ≡ sceneTable s (length table))
+    → (tableMinEntries ≤ length table) × (s : Scene) × (sceneOk s ≡ true) × (length (sceneBytes s) ≤ n) × (table ≡ sceneTable s (length table))
 unfolding validTable
 passes-scene table n h =
     let a = and-both _ _ h in
     let b = and-both _ _ (a .1) in
     let c = and-both _ _ (b .1) in (
-      leb-true 2048 (length table) (a .0),
+      leb-true tableMinEntries (length table) (a .0),
       blankScene table,
       b .0,
       leb-true (length (sceneBytes (blankScene table))) n (c .0),
@@ -186,5 +187,5 @@ passes-scene table n h =
 
 -- 01, the row for 7: yes exactly for a table that some scene leaves, scene length aside, with a store of n bytes
 pub valid-table : (table : List ℕ) (n : ℕ) → (validTable table n ≡ true)
-    ↔ ((2048 ≤ length table) × (s : Scene) × (sceneOk s ≡ true) × (length (sceneBytes s) ≤ n) × (table ≡ sceneTable s (length table)))
+    ↔ ((tableMinEntries ≤ length table) × (s : Scene) × (sceneOk s ≡ true) × (length (sceneBytes s) ≤ n) × (table ≡ sceneTable s (length table)))
 valid-table table n = (passes-scene table n, λ t. scene-passes table n (t .1) (t .0) (t .2) (t .3) (t .4))

@@ -8,8 +8,7 @@ use native.Mathlib.Omega.{arith}
 use lib.ListN.{length, replicate, length-append, length-replicate}
 use Rattle.octets.specs.Lists.{every}
 use Rattle.scene_table.specs.Scene.{Line, cellBytes, cellLengths, bytesLine, hashLine, inputLine, cellLine, digitsLine, linesOf}
-use Rattle.scene_table.specs.Lent.{tableEntry, inputsAt, outputsAt, depsAt, witnessesAt, verdictsAt, recordsAt, cellFrom, inputFrom, cellRecordFrom, bytesFrom, sceneFrom, blankScene}
-use Rattle.scene_table.specs.Places.{digitCount}
+use Rattle.scene_table.specs.Lent.{tableEntry, inputsAt, outputsAt, depsAt, witnessesAt, verdictsAt, recordsAt, cellFrom, inputFrom, cellRecordFrom, bytesFrom, sceneFrom, blankScene, inputCount, witnessCount, outputCount, depCount, digitCount}
 use Rattle.scene_table.specs.Walk.{placed, cellSize, recordStep, walkRecords, anyRecord, groupOk, bytesSize, cellRecordSize, inputSize, startWalk, walkHead, walkInputs, walkOutputs, walkDeps, walkWitnesses, walkLines}
 use Rattle.scene_table.specs.declared.validity.Walk.{Walk}
 use Rattle.scene_table.proofs.Rows.{length-rows}
@@ -89,13 +88,13 @@ module _ (table : List ℕ) where
 
   -- the lines that the table says, kind by kind
   inputRows : List Line
-  inputRows = recordsAt (λ i. inputLine (inputFrom blank table i)) 6 (tableEntry table 3) inputsAt
+  inputRows = recordsAt (λ i. inputLine (inputFrom blank table i)) 6 (inputCount table) inputsAt
 
   cellRows : ℕ → ℕ → List Line
   cellRows n at = recordsAt (λ i. cellLine (cellRecordFrom blank table i)) 3 n at
 
   witnessRows : List Line
-  witnessRows = recordsAt (λ i. bytesLine (bytesFrom blank table i)) 2 (tableEntry table 6) (witnessesAt table)
+  witnessRows = recordsAt (λ i. bytesLine (bytesFrom blank table i)) 2 (witnessCount table) (witnessesAt table)
 
   digitsRow : Line
   digitsRow = digitsLine (recordsAt (tableEntry table) 1 (digitCount table) (verdictsAt table + 2))
@@ -105,26 +104,26 @@ module _ (table : List ℕ) where
       (bytesLine (bytesFrom blank table 8) ∷ [])
       ++ ((hashLine (blank (tableEntry table 10) 32) ∷ [])
       ++ (inputRows
-      ++ (cellRows (tableEntry table 4) (outputsAt table) ++ (cellRows (tableEntry table 5) (depsAt table) ++ (witnessRows ++ (digitsRow ∷ []))))))
+      ++ (cellRows (outputCount table) (outputsAt table) ++ (cellRows (depCount table) (depsAt table) ++ (witnessRows ++ (digitsRow ∷ []))))))
 
   lines-kinds : linesOf (blankScene table) ≡ kinds
   unfolding blankScene sceneFrom digitCount inputRows cellRows witnessRows digitsRow kinds fromInputs fromOutputs fromDeps fromWitnesses
   lines-kinds =
       lines-by-kind (blankScene table)
       ∙ rw (
-        map-rows inputLine (inputFrom blank table) 6 (tableEntry table 3) inputsAt,
-        map-rows cellLine (cellRecordFrom blank table) 3 (tableEntry table 4) (outputsAt table),
-        map-rows cellLine (cellRecordFrom blank table) 3 (tableEntry table 5) (depsAt table),
-        map-rows bytesLine (bytesFrom blank table) 2 (tableEntry table 6) (witnessesAt table),
+        map-rows inputLine (inputFrom blank table) 6 (inputCount table) inputsAt,
+        map-rows cellLine (cellRecordFrom blank table) 3 (outputCount table) (outputsAt table),
+        map-rows cellLine (cellRecordFrom blank table) 3 (depCount table) (depsAt table),
+        map-rows bytesLine (bytesFrom blank table) 2 (witnessCount table) (witnessesAt table),
       )
 
   -- how many entries they have
   unfoldable pub span : ℕ
-  span = 2 + (1 + (6 * tableEntry table 3 + (3 * tableEntry table 4 + (3 * tableEntry table 5 + (2 * tableEntry table 6 + suc (suc (digitCount table)))))))
+  span = 2 + (1 + (6 * inputCount table + (3 * outputCount table + (3 * depCount table + (2 * witnessCount table + suc (suc (digitCount table)))))))
 
   -- each input's group is 0 or 1
   unfoldable pub Groups : Type 0
-  Groups = every (groupOk table) (recordsAt (λ (i : ℕ). i) 6 (tableEntry table 3) inputsAt) ≡ true
+  Groups = every (groupOk table) (recordsAt (λ (i : ℕ). i) 6 (inputCount table) inputsAt) ≡ true
 
   pub whole : ((i : ℕ) → tableEntry table i < 2 ^ 32) → Segment table Groups startWalk 8 span (linesOf (blankScene table)) (walkLines table)
   unfolding walkLines walkWitnesses walkDeps walkOutputs walkInputs walkHead inputsAt outputsAt depsAt witnessesAt verdictsAt inputRows cellRows witnessRows digitsRow kinds span Groups bytesSize cellRecordSize inputSize bytesLine bytesFrom hashLine digitsLine inputLine cellLine inputFrom cellRecordFrom
@@ -143,14 +142,14 @@ module _ (table : List ℕ) where
       (placed-one 32 (recordStep table anyRecord (bytesSize table) startWalk 8) 10 0 (hashLine (blank (tableEntry table 10) 32)) refl (own-hash (blank (tableEntry table 10) 32)))
       (join
       table
-      (rows-segment table (groupOk table) (inputSize table) 5 (λ i. inputLine (inputFrom blank table i)) (λ i. blank-cell (tableEntry table i) (tableEntry table (i + 4)) (tableEntry table (i + 5))) (own-input small) (tableEntry table 3) inputsAt (walkHead table))
+      (rows-segment table (groupOk table) (inputSize table) 5 (λ i. inputLine (inputFrom blank table i)) (λ i. blank-cell (tableEntry table i) (tableEntry table (i + 4)) (tableEntry table (i + 5))) (own-input small) (inputCount table) inputsAt (walkHead table))
       (join
       table
-      (many (cellRecordSize table) 2 (λ i. cellLine (cellRecordFrom blank table i)) (λ i. blank-cell (tableEntry table i) (tableEntry table (i + 1)) (tableEntry table (i + 2))) own-cell (tableEntry table 4) (outputsAt table) (walkInputs table))
+      (many (cellRecordSize table) 2 (λ i. cellLine (cellRecordFrom blank table i)) (λ i. blank-cell (tableEntry table i) (tableEntry table (i + 1)) (tableEntry table (i + 2))) own-cell (outputCount table) (outputsAt table) (walkInputs table))
       (join
       table
-      (many (cellRecordSize table) 2 (λ i. cellLine (cellRecordFrom blank table i)) (λ i. blank-cell (tableEntry table i) (tableEntry table (i + 1)) (tableEntry table (i + 2))) own-cell (tableEntry table 5) (depsAt table) (walkOutputs table))
+      (many (cellRecordSize table) 2 (λ i. cellLine (cellRecordFrom blank table i)) (λ i. blank-cell (tableEntry table i) (tableEntry table (i + 1)) (tableEntry table (i + 2))) own-cell (depCount table) (depsAt table) (walkOutputs table))
       (join
       table
-      (many (bytesSize table) 1 (λ i. bytesLine (bytesFrom blank table i)) (λ i. length-blank (tableEntry table (i + 1))) own-bytes (tableEntry table 6) (witnessesAt table) (walkDeps table))
+      (many (bytesSize table) 1 (λ i. bytesLine (bytesFrom blank table i)) (λ i. length-blank (tableEntry table (i + 1))) own-bytes (witnessCount table) (witnessesAt table) (walkDeps table))
       (placed-one 0 (walkWitnesses table) (verdictsAt table) (suc (digitCount table)) (digitsLine (recordsAt (tableEntry table) 1 (digitCount table) (verdictsAt table + 2))) refl own-digits))))))))

@@ -10,21 +10,85 @@ use Rattle.scene_table.specs.Scene.{Cell, Input, Scene}
 unfoldable pub tableEntry : List ℕ → ℕ → ℕ
 tableEntry table i = getD table i 0
 
+-- "1 to 7: the number of lines of each kind": of those that may stand more than once
+abbrev pub inputCount : List ℕ → ℕ
+inputCount table = tableEntry table 3
+
+abbrev pub outputCount : List ℕ → ℕ
+outputCount table = tableEntry table 4
+
+abbrev pub depCount : List ℕ → ℕ
+depCount table = tableEntry table 5
+
+abbrev pub witnessCount : List ℕ → ℕ
+witnessCount table = tableEntry table 6
+
+-- how many entries the record of an input has, that of an output or a dep, and that of a witness
+abbrev pub inputWidth : ℕ
+inputWidth = 6
+
+abbrev pub cellWidth : ℕ
+cellWidth = 3
+
+abbrev pub bytesWidth : ℕ
+bytesWidth = 2
+
 -- where the records of each kind begin: script, tx, then the inputs, outputs, deps, witnesses, and the verdicts
+abbrev pub scriptAt : ℕ
+scriptAt = 8
+
+abbrev pub transactionAt : ℕ
+transactionAt = 10
+
 unfoldable pub inputsAt : ℕ
 inputsAt = 11
 
 unfoldable pub outputsAt : List ℕ → ℕ
-outputsAt table = inputsAt + 6 * tableEntry table 3
+outputsAt table = inputsAt + inputWidth * inputCount table
 
 unfoldable pub depsAt : List ℕ → ℕ
-depsAt table = outputsAt table + 3 * tableEntry table 4
+depsAt table = outputsAt table + cellWidth * outputCount table
 
 unfoldable pub witnessesAt : List ℕ → ℕ
-witnessesAt table = depsAt table + 3 * tableEntry table 5
+witnessesAt table = depsAt table + cellWidth * depCount table
 
 unfoldable pub verdictsAt : List ℕ → ℕ
-verdictsAt table = witnessesAt table + 2 * tableEntry table 6
+verdictsAt table = witnessesAt table + bytesWidth * witnessCount table
+
+-- "verdicts: offset, number of digits, the digits"
+unfoldable pub digitCount : List ℕ → ℕ
+digitCount table = tableEntry table (verdictsAt table + 1)
+
+abbrev pub digitsAt : List ℕ → ℕ
+digitsAt table = verdictsAt table + 2
+
+-- the fields of the record at `at`. "A record begins with the offset in the store of its line's first byte."
+abbrev pub recordOffset : List ℕ → ℕ → ℕ
+recordOffset table at = tableEntry table at
+
+-- "script", "witness": "offset, length"
+abbrev pub bytesLength : List ℕ → ℕ → ℕ
+bytesLength table at = tableEntry table (at + 1)
+
+-- "input": "offset, GROUP, low and high half of SINCE, length of TYPESCRIPT, length of DATA"
+abbrev pub inputRecordGroup : List ℕ → ℕ → ℕ
+inputRecordGroup table at = tableEntry table (at + 1)
+
+abbrev pub inputRecordSince : List ℕ → ℕ → ℕ
+inputRecordSince table at = tableEntry table (at + 2) + 2 ^ 32 * tableEntry table (at + 3)
+
+abbrev pub inputScriptLength : List ℕ → ℕ → ℕ
+inputScriptLength table at = tableEntry table (at + 4)
+
+abbrev pub inputDataLength : List ℕ → ℕ → ℕ
+inputDataLength table at = tableEntry table (at + 5)
+
+-- "output, dep": "offset, length of TYPESCRIPT, length of DATA"
+abbrev pub cellScriptLength : List ℕ → ℕ → ℕ
+cellScriptLength table at = tableEntry table (at + 1)
+
+abbrev pub cellDataLength : List ℕ → ℕ → ℕ
+cellDataLength table at = tableEntry table (at + 2)
 
 -- n records of w entries, the first at `at`
 unfoldable pub recordsAt : {A : Type 0} → (ℕ → A) → ℕ → ℕ → ℕ → List A
@@ -46,26 +110,26 @@ cellFrom from start script content = record {
 
 unfoldable pub inputFrom : (ℕ → ℕ → List ℕ) → List ℕ → ℕ → Input
 inputFrom from table at = record {
-  group = tableEntry table (at + 1);
-  since = tableEntry table (at + 2) + 2 ^ 32 * tableEntry table (at + 3);
-  cell = cellFrom from (tableEntry table at) (tableEntry table (at + 4)) (tableEntry table (at + 5));
+  group = inputRecordGroup table at;
+  since = inputRecordSince table at;
+  cell = cellFrom from (recordOffset table at) (inputScriptLength table at) (inputDataLength table at);
 }
 
 unfoldable pub cellRecordFrom : (ℕ → ℕ → List ℕ) → List ℕ → ℕ → Cell
-cellRecordFrom from table at = cellFrom from (tableEntry table at) (tableEntry table (at + 1)) (tableEntry table (at + 2))
+cellRecordFrom from table at = cellFrom from (recordOffset table at) (cellScriptLength table at) (cellDataLength table at)
 
 unfoldable pub bytesFrom : (ℕ → ℕ → List ℕ) → List ℕ → ℕ → List ℕ
-bytesFrom from table at = from (tableEntry table at) (tableEntry table (at + 1))
+bytesFrom from table at = from (recordOffset table at) (bytesLength table at)
 
 unfoldable pub sceneFrom : (ℕ → ℕ → List ℕ) → List ℕ → Scene
 sceneFrom from table = record {
-  script = bytesFrom from table 8;
-  transaction = from (tableEntry table 10) 32;
-  inputs = recordsAt (inputFrom from table) 6 (tableEntry table 3) inputsAt;
-  outputs = recordsAt (cellRecordFrom from table) 3 (tableEntry table 4) (outputsAt table);
-  deps = recordsAt (cellRecordFrom from table) 3 (tableEntry table 5) (depsAt table);
-  witnesses = recordsAt (bytesFrom from table) 2 (tableEntry table 6) (witnessesAt table);
-  digits = recordsAt (tableEntry table) 1 (tableEntry table (verdictsAt table + 1)) (verdictsAt table + 2);
+  script = bytesFrom from table scriptAt;
+  transaction = from (recordOffset table transactionAt) 32;
+  inputs = recordsAt (inputFrom from table) inputWidth (inputCount table) inputsAt;
+  outputs = recordsAt (cellRecordFrom from table) cellWidth (outputCount table) (outputsAt table);
+  deps = recordsAt (cellRecordFrom from table) cellWidth (depCount table) (depsAt table);
+  witnesses = recordsAt (bytesFrom from table) bytesWidth (witnessCount table) (witnessesAt table);
+  digits = recordsAt (tableEntry table) 1 (digitCount table) (digitsAt table);
 }
 
 -- the bytes at a place of the store

@@ -1,11 +1,24 @@
 // Whether a scene, its length aside, leaves a table: a walk over its records.
+use crate::places::BYTES_WIDTH;
+use crate::places::CELL_WIDTH;
+use crate::places::INPUT_WIDTH;
+use crate::places::INPUTS_AT;
+use crate::places::SCRIPT_AT;
+use crate::places::TRANSACTION_AT;
+use crate::places::dep_count;
 use crate::places::deps_at;
 use crate::places::digit_count;
 use crate::places::hash_length;
+use crate::places::input_count;
+use crate::places::output_count;
 use crate::places::outputs_at;
 use crate::places::table_entry;
 use crate::places::verdicts_at;
+use crate::places::witness_count;
 use crate::places::witnesses_at;
+use protocol::DIGITS_MAX_COUNT;
+use protocol::KIND_MAX_LINES;
+use protocol::TABLE_MIN_ENTRIES;
 ghost use mathlib.Core.Path.{_≡_};
 ghost use Prim.Native.Nat.{_≤_, _<_, _^_};
 ghost use lib.Dec.{ltb, eqb};
@@ -97,9 +110,9 @@ fn record_width(form: RecordForm) -> usize
     ensures { λ r. ⌜ r ≤ 6 ⌝ }
 {
     match form {
-        RecordForm::Bytes => 2,
-        RecordForm::Cell => 3,
-        RecordForm::Input => 6,
+        RecordForm::Bytes => BYTES_WIDTH,
+        RecordForm::Cell => CELL_WIDTH,
+        RecordForm::Input => INPUT_WIDTH,
     }
 }
 
@@ -139,27 +152,33 @@ fn walk_lines(table: &[u32]) -> Walk
         good: true,
         used: 0,
     };
-    let head = bytes_record(table, 8, start).row(table_entry(table, 10), 32);
-    let inputs = walk_records(table, RecordForm::Input, 11, table_entry(table, 3), head);
+    let head = bytes_record(table, SCRIPT_AT, start).row(table_entry(table, TRANSACTION_AT), 32);
+    let inputs = walk_records(
+        table,
+        RecordForm::Input,
+        INPUTS_AT,
+        input_count(table),
+        head,
+    );
     let outputs = walk_records(
         table,
         RecordForm::Cell,
         outputs_at(table),
-        table_entry(table, 4),
+        output_count(table),
         inputs,
     );
     let deps = walk_records(
         table,
         RecordForm::Cell,
         deps_at(table),
-        table_entry(table, 5),
+        dep_count(table),
         outputs,
     );
     walk_records(
         table,
         RecordForm::Bytes,
         witnesses_at(table),
-        table_entry(table, 6),
+        witness_count(table),
         deps,
     ).row(table_entry(table, verdicts_at(table)), 0)
 }
@@ -169,19 +188,19 @@ fn counts_valid(table: &[u32]) -> bool
     ensures { λ r. ⌜ r ≡ countsOk (now (table .entry)) ⌝ }
 {
     let start = Walk {
-        good: 2048 <= table.len(),
+        good: TABLE_MIN_ENTRIES <= table.len(),
         used: 0,
     };
     let counted = start
         .require(table_entry(table, 0) == 0)
         .require(table_entry(table, 1) == 1)
         .require(table_entry(table, 2) == 1)
-        .require(table_entry(table, 3) <= 64)
-        .require(table_entry(table, 4) <= 64)
-        .require(table_entry(table, 5) <= 64)
-        .require(table_entry(table, 6) <= 64)
+        .require(input_count(table) as usize <= KIND_MAX_LINES)
+        .require(output_count(table) as usize <= KIND_MAX_LINES)
+        .require(dep_count(table) as usize <= KIND_MAX_LINES)
+        .require(witness_count(table) as usize <= KIND_MAX_LINES)
         .require(table_entry(table, 7) == 1)
-        .require(digit_count(table) <= 16);
+        .require(digit_count(table) as usize <= DIGITS_MAX_COUNT);
     counted.good
 }
 

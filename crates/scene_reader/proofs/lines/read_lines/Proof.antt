@@ -9,13 +9,13 @@ use Rattle.scene_reader.specs.Reader.{ReaderState, start, run}
 use Rattle.scene_reader.specs.declared.state.LineStep.the-variants.{Next}
 use Rattle.scene_reader.specs.declared.state.LineStep.{LineStep}
 use Rattle.scene_reader.specs.Room.{step, Ready, Kept, stateHolding, stepOutcome}
-use Rattle.scene_text.specs.Text.{pieces}
+use Rattle.scene_text.specs.Text.{pieces, lineEnd}
 use Rattle.scene_reader.proofs.Runs.{starts, run-last, run-on, run-off}
 use Rattle.scene_reader.proofs.lines.read_lines.Statement.{statement}
 use Rattle.scene_reader.proofs.lines.read_lines.Tie as tie
 
 abbrev Inv-loop : tie.InvT-loop
-Inv-loop scene store₀ table₀ rest₀ s₀ store table rest s = (run (start (length store₀) (length table₀)) (pieces 10 scene) ≡ run (stateHolding s store table) (pieces 10 rest)) × (length store ≡ length store₀) × (length table ≡ length table₀) × Ready s (length rest) (length store₀) (length table₀)
+Inv-loop scene store₀ table₀ rest₀ s₀ store table rest s = (run (start (length store₀) (length table₀)) (pieces lineEnd scene) ≡ run (stateHolding s store table) (pieces lineEnd rest)) × (length store ≡ length store₀) × (length table ≡ length table₀) × Ready s (length rest) (length store₀) (length table₀)
 
 abbrev μ-loop : tie.MeasureT-loop
 μ-loop scene store₀ table₀ rest₀ s₀ store table rest s = length rest
@@ -24,7 +24,7 @@ loop-holds : tie.Need-loop-holds Inv-loop μ-loop
 unfolding Rattle.scene_reader.specs.Room.limit
 loop-holds c =
     let a = c .before .before .before .args in (
-      ap (λ (h : ReaderState). run h (pieces 10 (a .scene .now))) (starts (length (a .store .now)) (length (a .table .now)) (a .store .now) (a .table .now) (c .before .before .before .pre .1 .0) (c .before .before .before .pre .1 .1)),
+      ap (λ (h : ReaderState). run h (pieces lineEnd (a .scene .now))) (starts (length (a .store .now)) (length (a .table .now)) (a .store .now) (a .table .now) (c .before .before .before .pre .1 .0) (c .before .before .before .pre .1 .1)),
       refl,
       refl,
       record { known = omega arith; few = omega arith; inside = omega arith; small = omega arith; enough = c .before .before .before .pre .0 .1; fits = omega arith },

@@ -2,8 +2,8 @@
 use mathlib.Core.Path.{_≡_, sym, _∙_}
 use Prim.Native.Nat.{_+_, _*_, _≤_, _<_}
 use native.Mathlib.Omega.{arith}
-use Rattle.scene_table.specs.Lent.{tableEntry, verdictsAt, sceneFrom, blankScene}
-use Rattle.scene_table.specs.Places.{digitCount, verdictAt, verdictOf}
+use Rattle.scene_table.specs.Lent.{tableEntry, verdictsAt, sceneFrom, blankScene, digitCount}
+use Rattle.scene_table.specs.Places.{verdictAt, verdictOf}
 use Rattle.scene_table.proofs.Rows.{row-nth, row-past}
 use borrow.Author.Needs.{needs}
 use Rattle.scene_table.proofs.places.verdict.Statement.{statement}

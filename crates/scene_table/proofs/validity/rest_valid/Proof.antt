@@ -1,6 +1,5 @@
 -- `scene_table::validity::rest_valid` meets its contract. Assumes nothing.
-use Rattle.scene_table.specs.Lent.{sceneFrom, blankScene}
-use Rattle.scene_table.specs.Places.{digitCount}
+use Rattle.scene_table.specs.Lent.{sceneFrom, blankScene, digitCount}
 use Rattle.scene_table.specs.Walk.{need, zerosBehind, restOk}
 use borrow.Author.Needs.{needs}
 use Rattle.scene_table.proofs.validity.rest_valid.Statement.{statement}
