@@ -3,7 +3,7 @@
 -- and store, also where a later row refuses.
 -- Assumes nothing.
 use mathlib.Core.Path.{_≡_, refl, sym, ap, _∙_}
-use mathlib.Core.Bool.{Bool, true, false, cond, _&&_, true≢false}
+use mathlib.Core.Bool.{Bool, true, false, cond, true≢false}
 use mathlib.Core.List.{List, [], _∷_, _++_}
 use Prim.Native.Nat.{ℕ, suc, _+_, _*_, _≤_}
 use native.Mathlib.Omega.{arith}
@@ -43,6 +43,7 @@ use Rattle.group_sighash.specs.GroupSighash.{groupSighash}
 use Rattle.state_transition.specs.Resolve.{resolveRows}
 use Rattle.account_state.specs.Fields.{sequenceOf}
 use Rattle.protocol.specs.Limits.{tableMinEntries, kindMaxLines}
+use Rattle.octets.proofs.Every.{every-split}
 use Rattle.account_lock.specs.Lock.{account, operation, current, statesRows, lateRows, earlyRows, digest, Result, refused, walked, orWalked, walkResult, lockScene, lockOf}
 use Rattle.account_lock.proofs.LockLaws.{group-table}
 use Rattle.account_lock.proofs.LockTheorem.{late, lock-valid}
@@ -59,14 +60,6 @@ length-hash xs =
 hashed-length : (w : List ℕ) → length (hashedWitness w) ≡ 8 + length w
 unfolding hashedWitness
 hashed-length w = length-append (toLe 8 (length w)) w ∙ ap (λ (n : ℕ). n + length w) (length-to 8 (length w))
-
-every-split : {A : Type 0} (p : A → Bool) (x : A) (xs : List A) → every p (x ∷ xs) ≡ true → (p x ≡ true) × (every p xs ≡ true)
-unfolding every
-every-split p x xs = go (p x) (every p xs)
-  where
-    go : (a b : Bool) → a && b ≡ true → (a ≡ true) × (b ≡ true)
-    go true b e = (refl, e)
-    go false b e = absurd (true≢false (sym e))
 
 others-length : (ws : List (List ℕ)) → every witnessFits ws ≡ true → length (hashedWitnesses ws) ≤ length ws * 132104
 unfolding hashedWitnesses joined witnessFits

@@ -10,7 +10,7 @@ use Rattle.protocol.specs.declared.error.ProtocolError.the-variants.{SceneTooLo
 use Rattle.protocol.specs.declared.check.Check.the-variants.{Passed, Failed}
 use Rattle.protocol.specs.Rows.{checkNumber}
 use Rattle.protocol.proofs.AllPass.{failed-passed}
-use Rattle.scene_reader.specs.Reader.{ReaderOutcome, refused, held, readOf, readerCheck, readerStore, readerTable}
+use Rattle.scene_reader.specs.Reader.{ReaderOutcome, refused, held, readerCheck, readerStore, readerTable}
 use Rattle.account_lock.specs.declared.answer.LockAnswer.{LockAnswer}
 use Rattle.account_lock.specs.Lock as lock
 use Rattle.answer_line.specs.Line.{lineOf}

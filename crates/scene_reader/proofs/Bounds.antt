@@ -19,9 +19,9 @@ use Rattle.scene_line.specs.Line.{nextForm, fieldEntries, lineEntries, formsOk}
 use Rattle.scene_line.proofs.KindLaws.{place-small}
 use Rattle.scene_line.specs.Kind.{rank, fieldCount, firstForm, follows}
 use Rattle.protocol.specs.Limits.{tableMinEntries}
+use Rattle.octets.proofs.Truth.{and-left, and-right}
 use Rattle.scene_reader.specs.Reader.{seenWith}
 use Rattle.scene_reader.specs.Room.{limit}
-use Rattle.scene_text.proofs.Tests.{and-left, and-right}
 use Rattle.scene_reader.proofs.NumberLaws.{halves-length}
 
 -- how many numbers n fields have at most, the first of form t; DIGITS apart

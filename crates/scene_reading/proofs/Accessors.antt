@@ -1,7 +1,7 @@
 -- What the lock reads in the table and the store of an accepted text is the scene that the text says; its test of a table
 -- passes exactly where an accepted text, its length aside, leaves that table; so it passes the table of every accepted text.
 -- Assumes nothing.
-use Prim.Native.Nat.{ℕ, _+_, _-_, _≤_}
+use Prim.Native.Nat.{ℕ, _-_, _≤_}
 use mathlib.Core.Bool.{true}
 use mathlib.Core.Path.{_≡_, sym, ap, _∙_}
 use mathlib.Core.List.{List}

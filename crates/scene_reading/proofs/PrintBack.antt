@@ -8,12 +8,12 @@ use native.Mathlib.Omega.{arith}
 use borrow.Author.Tests.{le-leb}
 use lib.ListN.{length}
 use Rattle.octets.specs.Lists.{every}
-use Rattle.scene_text.proofs.Tests.{and-left, and-right}
 use Rattle.scene_line.specs.declared.kind.Kind.{Kind}
 use Rattle.scene_line.specs.declared.kind.Kind.the-variants as kind
 use Rattle.scene_line.specs.Kind.{script, tx, output, dep, witness, verdicts}
 use Rattle.scene_table.specs.Scene.{Input, Scene}
 use Rattle.scene_table.specs.Valid.{bytesOk, hashBytesOk, cellOk, inputOk, fewOf, digitsOk, sceneOk}
+use Rattle.octets.proofs.Truth.{and-left, and-right}
 use Rattle.scene_reading.specs.Lines.{LinesAccepted, kindsOf, times, kindOfLine, countOk, formOk}
 use Rattle.scene_reading.specs.Print.{lineText, digitsText, inputText, cellText, bytesText, textLines, textOf}
 use Rattle.scene_reading.specs.Reading.{sceneOf}

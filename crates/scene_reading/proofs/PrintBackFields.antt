@@ -10,10 +10,10 @@ use lib.ListN.{length, getD}
 use lib.Dec.{ltb, eqb}
 use Rattle.octets.specs.Lists.{every}
 use Rattle.scene_text.specs.Text.{inRange, hexOk, hexVal, hexBytes, sinceOf}
-use Rattle.scene_text.proofs.Tests.{and-left, and-right}
 use Rattle.scene_line.specs.declared.form.Form.the-variants.{Group, TypeHash}
 use Rattle.scene_line.specs.Line.{formsOk, isNumber}
 use Rattle.scene_table.specs.Valid.{bytesOk, hashBytesOk, cellOk, inputOk}
+use Rattle.octets.proofs.Truth.{and-left, and-right}
 use Rattle.scene_reading.specs.Print.{hexText, digitsText, cellFields, inputFields}
 use Rattle.scene_reading.specs.Reading.{cellOf, inputOf, fieldAt, numberIn}
 use Rattle.scene_reading.proofs.PrintDigits.{hex-length}

@@ -11,7 +11,6 @@ use lib.Dec.{lit<, eqb, leb}
 use Rattle.octets.specs.Lists.{same, every}
 use Rattle.octets.proofs.Same.{same-eq}
 use Rattle.scene_text.specs.Text.{inRange, before, pieces, hexOk, hexVal, hexBytes, lineEnd, comma}
-use Rattle.scene_text.proofs.Tests.{and-left, and-right}
 use Rattle.scene_text.proofs.Pieces.{before-none}
 use Rattle.scene_line.specs.declared.kind.Kind.{Kind}
 use Rattle.scene_line.specs.declared.kind.Kind.the-variants as kind
@@ -20,6 +19,7 @@ use Rattle.scene_line.specs.Kind.{rank, kindOf, fieldCount, firstForm, lineFiel
 use Rattle.scene_line.specs.Line.{formsOk}
 use Rattle.scene_table.specs.Scene.{Input}
 use Rattle.scene_table.specs.Valid.{bytesOk, hashBytesOk, cellOk, inputOk, digitsOk}
+use Rattle.octets.proofs.Truth.{and-left, and-right}
 use Rattle.scene_reading.specs.Lines.{wordOf, kindOfLine, fieldsOfLine, countOk, formOk}
 use Rattle.scene_reading.specs.Print.{commaed, lineText, digitsText, cellFields, inputFields, inputText, cellText, bytesText, endedLines}
 use Rattle.scene_reading.specs.Reading.{cellOf, inputOf, fieldAt}

@@ -12,10 +12,11 @@ use lib.Dec.{ltb, leb, eqb}
 use Rattle.octets.specs.Lists.{every}
 use Rattle.scene_text.specs.declared.decimal.Decimal.the-variants.{Value}
 use Rattle.scene_text.specs.Text.{inRange, isHex, hexVal, hexOk, hexBytes, decimal, plain, numberOf, sinceOf}
-use Rattle.scene_text.proofs.Tests.{and-left, and-right, between-yes}
+use Rattle.scene_text.proofs.RangeLaws.{between-yes}
 use Rattle.scene_table.specs.Valid.{bytesOk}
+use Rattle.octets.proofs.Every.{every-append, every-more}
+use Rattle.octets.proofs.Truth.{and-left, and-right}
 use Rattle.scene_reading.specs.Print.{digitText, hexText, decimalText, digitsText}
-use Rattle.scene_reading.proofs.PrintLists.{all-append, all-more}
 
 -- what a digit's text is: a digit's value, its form, and no byte below 48
 record Digit (d x : ℕ) : Type 0 where
@@ -97,7 +98,7 @@ decimal-digits (suc n) v = go (ltb v 10) refl (decimal-digits n (v / 10))
     go : (b : Bool) → ltb v 10 ≡ b → every (inRange 48 57) (decimalText n (v / 10)) ≡ true
         → every (inRange 48 57) (cond b ((48 + v) ∷ []) (decimalText n (v / 10) ++ ((48 + v % 10) ∷ []))) ≡ true
     go true e r = let l = ltb-true v 10 e in rw (between-yes 48 57 (48 + v) (omega arith) (omega arith))
-    go false e r = all-append (inRange 48 57) (decimalText n (v / 10)) ((48 + v % 10) ∷ []) r (rw (between-yes 48 57 (48 + v % 10) (omega arith) (omega arith)))
+    go false e r = every-append (inRange 48 57) (decimalText n (v / 10)) ((48 + v % 10) ∷ []) r (rw (between-yes 48 57 (48 + v % 10) (omega arith) (omega arith)))
 
 -- n digits are enough for a number below 10 ^ n
 pub tenth : (n v : ℕ) → v < 10 ^ suc n → v / 10 < 10 ^ n
@@ -156,7 +157,7 @@ decimal-back v h =
     rw (decimal-plain 19 v k, decimal-value 20 v k, lt-ltb v (2 ^ 64) h)
 
 between-high : (l h : ℕ) (s : List ℕ) → every (inRange l h) s ≡ true → every (leb l) s ≡ true
-between-high l h s e = all-more (inRange l h) (leb l) (λ x. and-left (leb l x) (leb x h)) s e
+between-high l h s e = every-more (inRange l h) (leb l) (λ x. and-left (leb l x) (leb x h)) s e
 
 pub decimal-high : (n v : ℕ) → every (leb 48) (decimalText n v) ≡ true
 decimal-high n v = between-high 48 57 (decimalText n v) (decimal-digits n v)

@@ -10,11 +10,11 @@ use lib.ListN.{length, getD}
 use lib.Dec.{ltb, leb, eqb}
 use Rattle.octets.specs.Lists.{every}
 use Rattle.scene_text.specs.Text.{hexOk, hexVal}
-use Rattle.scene_text.proofs.Tests.{and-left, and-right}
 use Rattle.scene_line.specs.declared.form.Form.the-variants.{Group, TypeHash}
 use Rattle.scene_line.specs.Line.{formsOk}
 use Rattle.scene_table.specs.Scene.{Cell, Input}
 use Rattle.scene_table.specs.Valid.{bytesOk, hashBytesOk, cellOk, inputOk}
+use Rattle.octets.proofs.Truth.{and-left, and-right}
 use Rattle.scene_reading.specs.Print.{hexText, digitsText, cellFields, inputFields}
 use Rattle.scene_reading.specs.Reading.{cellOf, inputOf, fieldAt, numberIn}
 use Rattle.scene_reading.proofs.PrintDigits.{hex-back, hex-ok, hex-high, hex-length, decimal-back, decimal-high, digits-form, digits-high, digits-back}

@@ -9,7 +9,6 @@ use borrow.Author.Tests.{leb-true, le-leb, ne-eqb}
 use lib.ListN.{length}
 use lib.Dec.{leb, ltb, eqb}
 use Rattle.octets.specs.Lists.{same, every}
-use Rattle.scene_text.proofs.Tests.{and-left, and-right}
 use Rattle.scene_line.specs.declared.form.Form.the-variants.{TypeHash, Hex}
 use Rattle.scene_line.specs.declared.kind.Kind.{Kind}
 use Rattle.scene_line.specs.declared.kind.Kind.the-variants as kind
@@ -18,10 +17,11 @@ use Rattle.scene_line.specs.Line.{formsOk}
 use Rattle.scene_table.specs.Scene.{Cell, Input, Line, bytesLine, hashLine, inputLine, cellLine, digitsLine}
 use Rattle.scene_table.specs.Valid.{bytesOk}
 use Rattle.scene_text.specs.Text.{lineEnd, comma}
+use Rattle.octets.proofs.Every.{every-append, every-more}
+use Rattle.octets.proofs.Truth.{and-left, and-right}
 use Rattle.scene_reading.specs.Lines.{wordOf, kindOfLine, fieldsOfLine, times, countOk, formOk}
 use Rattle.scene_reading.specs.Print.{commaed, lineText, hexText, digitsText, cellFields, inputFields, inputText, cellText, bytesText}
 use Rattle.scene_reading.proofs.LineRows.{lineIn, rowOf, hex-row, hash-row, digits-row, cell-row, input-row}
-use Rattle.scene_reading.proofs.PrintLists.{all-append, all-more}
 use Rattle.scene_reading.proofs.PrintPieces.{without, line-pieces}
 use Rattle.scene_reading.proofs.PrintDigits.{hex-back, hex-ok, hex-high, digits-form, digits-high, digits-length, digits-back}
 use Rattle.scene_reading.proofs.PrintFields.{HashHolds, hash-form, CellHolds, cell-high, cell-form, cell-back, InputHolds, input-high, input-form, input-back}
@@ -31,7 +31,7 @@ module _ (c : ℕ) (low : c < 48) where
   pub high-without : (s : List ℕ) → every (leb 48) s ≡ true → without c s ≡ true
   unfolding without
   high-without s h =
-      all-more (leb 48) (λ (x : ℕ). not (eqb x c)) (λ x e. let l = leb-true 48 x e in let n : x ≡ c → ⊥ = λ q. omega arith in rw (ne-eqb x c n)) s h
+      every-more (leb 48) (λ (x : ℕ). not (eqb x c)) (λ x e. let l = leb-true 48 x e in let n : x ≡ c → ⊥ = λ q. omega arith in rw (ne-eqb x c n)) s h
 
   fields-without : (fs : List (List ℕ)) → every (every (leb 48)) fs ≡ true → every (without c) fs ≡ true
   unfolding every
@@ -43,7 +43,7 @@ line-without : (word : List ℕ) (fs : List (List ℕ)) → every (leb 48) word 
 unfolding lineText commaed every without
 line-without word [] w h = rw append-nil (high-without lineEnd (omega arith) word w)
 line-without word (f ∷ fs) w h =
-    all-append (λ (x : ℕ). not (eqb x 10)) word (44 ∷ lineText f fs) (high-without lineEnd (omega arith) word w)
+    every-append (λ (x : ℕ). not (eqb x 10)) word (44 ∷ lineText f fs) (high-without lineEnd (omega arith) word w)
     (line-without f fs (and-left (every (leb 48) f) (every (every (leb 48)) fs) h) (and-right (every (leb 48) f) (every (every (leb 48)) fs) h))
 
 -- what is known of the text l of a line of kind k with the fields fs

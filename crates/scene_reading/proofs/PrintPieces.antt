@@ -8,8 +8,8 @@ use borrow.Author.Tests.{not-true, eq-eqb}
 use lib.Dec.{eqb}
 use Rattle.octets.specs.Lists.{every}
 use Rattle.scene_text.specs.Text.{before, pieces, comma, lineEnd}
-use Rattle.scene_text.proofs.Tests.{and-left, and-right}
 use Rattle.scene_text.proofs.Pieces.{before-before, before-none}
+use Rattle.octets.proofs.Truth.{and-left, and-right}
 use Rattle.scene_reading.specs.Print.{commaed, lineText, endedLines}
 
 -- c stands nowhere in s

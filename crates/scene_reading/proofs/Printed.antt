@@ -9,12 +9,12 @@ use lib.ListN.{length}
 use lib.Dec.{eqb}
 use Rattle.octets.specs.Lists.{every}
 use Rattle.scene_text.specs.Text.{pieces, hexBytes, hexVal, lineEnd}
-use Rattle.scene_text.proofs.Tests.{and-left, and-right}
 use Rattle.scene_line.specs.declared.kind.Kind.{Kind}
 use Rattle.scene_line.specs.declared.kind.Kind.the-variants as kind
 use Rattle.scene_line.specs.Kind.{rank, output, dep, witness}
 use Rattle.scene_table.specs.Scene.{Cell, Scene, Line, bytesLine, inputLine, cellLine, linesOf, sceneBytes}
 use Rattle.scene_table.specs.Valid.{bytesOk, cellOk, inputOk, sceneOk}
+use Rattle.octets.proofs.Truth.{and-left, and-right}
 use Rattle.scene_reading.specs.Lines.{kindsOf, bytesOfLine, LinesAccepted}
 use Rattle.scene_reading.specs.Print.{hexText, digitsText, cellFields, inputFields, inputText, cellText, bytesText, textLines, textOf}
 use Rattle.scene_reading.specs.Reading.{fieldAt, cellOf, inputOf, bytesField, fieldsOfKind, onlyField, sceneOf}

@@ -11,11 +11,12 @@ use lib.ListN.{length, replicate, length-append, length-replicate, length-map}
 use Rattle.octets.proofs.Same.{same-eq, eq-same}
 use Rattle.octets.specs.Lists.{every}
 use Rattle.protocol.specs.Limits.{tableMinEntries}
+use Rattle.octets.proofs.Every.{every-map}
 use Rattle.scene_table.specs.Scene.{Cell, Input, Scene, Line, cellBytes, cellLengths, bytesLine, hashLine, inputLine, cellLine, linesOf, sceneBytes, countsOf, recordsFrom, sceneNumbers, padded, sceneTable}
 use Rattle.scene_table.specs.Lent.{cellFrom, blankScene}
 use Rattle.scene_table.specs.Valid.{bytesOk, hashBytesOk, cellOk, inputOk, fewOf, digitsOk, sceneOk, validTable}
 use Rattle.scene_table.proofs.Lines.{total, total-joined, total-append, rows-append}
-use Rattle.octets.proofs.Truth.{and-both, both-and}
+use Rattle.octets.proofs.Truth.{and-both}
 use Rattle.scene_table.proofs.WholeWalk.{blank}
 use Rattle.scene_table.proofs.BlankScene.{blank-bytes, blank-hash, blank-cell}
 use Rattle.scene_table.proofs.ReadBack.{cellWith, inputWith, sceneWith, hash-long, cell-hashes}
@@ -112,13 +113,6 @@ unfolding sceneBytes
 zeroed-long s = total-joined (linesOf (sceneWith zeroed s)) ∙ (alike-lines s .long ∙ sym (total-joined (linesOf s)))
 
 -- and one is a scene that a text can say where the other is
-every-map : {A : Type 0} (p : A → Bool) (f : A → A) → ((x : A) → p x ≡ true → p (f x) ≡ true) → (xs : List A) → every p xs ≡ true → every p (map f xs) ≡ true
-unfolding every
-every-map p f h [] e = refl
-every-map p f h (x ∷ xs) e =
-    let a = and-both (p x) (every p xs) e in
-    both-and (p (f x)) (every p (map f xs)) (h x (a .0)) (every-map p f h xs (a .1))
-
 zeroed-cell : (c : Cell) → cellOk c ≡ true → cellOk (cellWith zeroed c) ≡ true
 unfolding cellFrom cellWith
 zeroed-cell c h =
@@ -136,7 +130,7 @@ zeroed-input i h =
 
 few : {A : Type 0} (p : A → Bool) (f : A → A) → ((x : A) → p x ≡ true → p (f x) ≡ true) → (xs : List A) → length xs ≤ 64 → every p xs ≡ true → fewOf p (map f xs) ≡ true
 unfolding fewOf
-few p f h xs l e = rw (length-map xs f, le-leb (length xs) 64 l) (every-map p f h xs e)
+few p f h xs l e = rw (length-map xs f, le-leb (length xs) 64 l) (every-map p p f h xs e)
 
 zeroed-hash : (hash : List ℕ) → hashBytesOk hash ≡ true → hashBytesOk (zeroed hash) ≡ true
 zeroed-hash hash h = rw (hash-long hash h) blank-hash

@@ -9,7 +9,7 @@ use native.Mathlib.Omega.{arith}
 use lib.ListN.{length, take, drop, getD, length-drop}
 use lib.Seq.{drop-cons, take-nil}
 use Rattle.scene_text.specs.Text.{inRange, hexVal, hexBytes}
-use Rattle.scene_text.proofs.Tests.{between-under, between-high}
+use Rattle.scene_text.proofs.RangeLaws.{between-under, between-high}
 
 pub hex-pair : (s : List ℕ) (i : ℕ) → i + 1 < length s
     → hexBytes (drop i s) ≡ (hexVal (getD s i 0) * 16 + hexVal (getD s (i + 1) 0)) ∷ hexBytes (drop (i + 2) s)
