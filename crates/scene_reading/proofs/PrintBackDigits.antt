@@ -16,7 +16,7 @@ use Rattle.scene_line.specs.Line.{isNumber}
 use Rattle.scene_table.specs.Valid.{bytesOk}
 use Rattle.octets.proofs.Every.{every-left, every-right}
 use Rattle.octets.proofs.Truth.{and-left, and-right}
-use Rattle.scene_reading.specs.Print.{digitText, hexText, decimalText, digitsText}
+use Rattle.scene_text.specs.Print.{digitText, hexText, decimalText, digitsText}
 use Rattle.scene_reading.specs.Reading.{numberIn}
 use Rattle.scene_reading.proofs.PrintDigits.{Leads, decimal-append, tenth}
 

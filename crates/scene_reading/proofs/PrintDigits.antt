@@ -16,7 +16,8 @@ use Rattle.scene_text.proofs.RangeLaws.{between-yes}
 use Rattle.scene_table.specs.Valid.{bytesOk}
 use Rattle.octets.proofs.Every.{every-append, every-more}
 use Rattle.octets.proofs.Truth.{and-left, and-right}
-use Rattle.scene_reading.specs.Print.{digitText, hexText, decimalText, digitsText}
+use Rattle.scene_text.specs.Print.{digitText, hexText, decimalText, digitsText}
+use Rattle.scene_text.proofs.HexLaws.{hex-text-length}
 
 -- what a digit's text is: a digit's value, its form, and no byte below 48
 record Digit (d x : ℕ) : Type 0 where
@@ -63,11 +64,6 @@ hex-back (b ∷ bs) h =
     let e : b / 16 * 16 + b % 16 ≡ b = omega arith in
     rw (upper b bs h .value, lower b bs h .value, e, hex-back bs (rest-bytes b bs h))
 
-pub hex-length : (bs : List ℕ) → length (hexText bs) ≡ 2 * length bs
-unfolding hexText
-hex-length [] = refl
-hex-length (b ∷ bs) = let e = hex-length bs in omega arith
-
 hex-forms : (bs : List ℕ) → bytesOk bs ≡ true → every isHex (hexText bs) ≡ true
 unfolding hexText every
 hex-forms [] h = refl
@@ -77,7 +73,7 @@ pub hex-ok : (bs : List ℕ) → bytesOk bs ≡ true → hexOk (hexText bs) ≡ 
 unfolding hexOk
 hex-ok bs h =
     let e : 2 * length bs % 2 ≡ 0 = omega arith in
-    rw (hex-length bs, e, hex-forms bs h)
+    rw (hex-text-length bs, e, hex-forms bs h)
 
 -- no byte of it is below 48, thus none is a comma or ends a line
 pub hex-high : (bs : List ℕ) → bytesOk bs ≡ true → every (leb 48) (hexText bs) ≡ true

@@ -6,7 +6,7 @@ use mathlib.Core.Bool.{Bool, true, not}
 use mathlib.Core.List.{List, [], _∷_, _++_, map, append-nil}
 use native.Mathlib.Omega.{arith}
 use borrow.Author.Tests.{leb-true, le-leb, ne-eqb}
-use lib.ListN.{length}
+use lib.ListN.{length, replicate}
 use lib.Dec.{leb, ltb, eqb}
 use Rattle.octets.specs.Lists.{same, every}
 use Rattle.scene_line.specs.declared.form.Form.the-variants.{TypeHash, Hex}
@@ -19,8 +19,9 @@ use Rattle.scene_table.specs.Valid.{bytesOk}
 use Rattle.scene_text.specs.Text.{lineEnd, comma}
 use Rattle.octets.proofs.Every.{every-append, every-more}
 use Rattle.octets.proofs.Truth.{and-left, and-right}
-use Rattle.scene_reading.specs.Lines.{wordOf, kindOfLine, fieldsOfLine, times, countOk, formOk}
-use Rattle.scene_reading.specs.Print.{commaed, lineText, hexText, digitsText, cellFields, inputFields, inputText, cellText, bytesText}
+use Rattle.scene_text.specs.Print.{partedBy, lineText, hexText, digitsText}
+use Rattle.scene_reading.specs.Lines.{wordOf, kindOfLine, fieldsOfLine, countOk, formOk}
+use Rattle.scene_reading.specs.Print.{cellFields, inputFields, inputText, cellText, bytesText}
 use Rattle.scene_reading.proofs.LineRows.{lineIn, rowOf, hex-row, hash-row, digits-row, cell-row, input-row}
 use Rattle.scene_reading.proofs.PrintPieces.{without, line-pieces}
 use Rattle.scene_reading.proofs.PrintDigits.{hex-back, hex-ok, hex-high, digits-form, digits-high, digits-length, digits-back}
@@ -40,7 +41,7 @@ module _ (c : ℕ) (low : c < 48) where
       rw (high-without f (and-left (every (leb 48) f) (every (every (leb 48)) fs) h)) (fields-without fs (and-right (every (leb 48) f) (every (every (leb 48)) fs) h))
 
 line-without : (word : List ℕ) (fs : List (List ℕ)) → every (leb 48) word ≡ true → every (every (leb 48)) fs ≡ true → without lineEnd (lineText word fs) ≡ true
-unfolding lineText commaed every without
+unfolding lineText partedBy every without
 line-without word [] w h = rw append-nil (high-without lineEnd (omega arith) word w)
 line-without word (f ∷ fs) w h =
     every-append (λ (x : ℕ). not (eqb x 10)) word (44 ∷ lineText f fs) (high-without lineEnd (omega arith) word w)
@@ -181,8 +182,8 @@ each-append (more p r) q = more p (each-append r q)
 
 -- n lines of one kind
 pub each-map : {A : Type 0} (ok : A → Bool) (text : A → List ℕ) (k : Kind) (line : A → Line) → ((x : A) → ok x ≡ true → Prints (text x) k (line x))
-    → (xs : List A) → every ok xs ≡ true → EachPrints (map text xs) (times (length xs) k) (map line xs)
-unfolding every times
+    → (xs : List A) → every ok xs ≡ true → EachPrints (map text xs) (replicate (length xs) k) (map line xs)
+unfolding every
 each-map ok text k line p [] h = none
 each-map ok text k line p (x ∷ xs) h =
     more (p x (and-left (ok x) (every ok xs) h)) (each-map ok text k line p xs (and-right (ok x) (every ok xs) h))

@@ -10,7 +10,7 @@ use Rattle.octets.specs.Lists.{every}
 use Rattle.scene_text.specs.Text.{before, pieces, comma, lineEnd}
 use Rattle.scene_text.proofs.Pieces.{before-before, before-none}
 use Rattle.octets.proofs.Truth.{and-left, and-right}
-use Rattle.scene_reading.specs.Print.{commaed, lineText, endedLines}
+use Rattle.scene_text.specs.Print.{partedBy, lineText, endedLines}
 
 -- c stands nowhere in s
 unfoldable pub without : ℕ → List ℕ → Bool
@@ -40,7 +40,7 @@ module _ (c : ℕ) where
 
 -- a line's word and its fields
 pub line-pieces : (word : List ℕ) (fs : List (List ℕ)) → without comma word ≡ true → every (without comma) fs ≡ true → pieces comma (lineText word fs) ≡ word ∷ fs
-unfolding lineText commaed every
+unfolding lineText partedBy every
 line-pieces word [] w h = rw append-nil (piece-last comma word w)
 line-pieces word (f ∷ fs) w h =
     piece-cut comma word (lineText f fs) w

@@ -1,10 +1,10 @@
 -- When no line row refuses a scene, said of the lines of its text. 01: "The reader accepts every scene that no reader or line row
 -- refuses"; the rows are those of "Where each refusal is raised".
-use Prim.Native.Nat.{ℕ, zero, suc, _≤_}
+use Prim.Native.Nat.{ℕ, _≤_}
 use mathlib.Core.Bool.{Bool, true}
 use mathlib.Core.Path.{_≡_}
 use mathlib.Core.List.{List, [], _∷_, _++_, map}
-use lib.ListN.{length}
+use lib.ListN.{length, replicate}
 use lib.Dec.{eqb}
 use Rattle.octets.specs.Lists.{joined, every}
 use Rattle.scene_text.specs.Text.{pieces, comma, lineEnd}
@@ -25,20 +25,15 @@ kindOfLine l = kindOf (wordOf (pieces comma l))
 unfoldable pub fieldsOfLine : List ℕ → List (List ℕ)
 fieldsOfLine l = lineFields (pieces comma l)
 
--- n times x
-unfoldable pub times : {A : Type 0} → ℕ → A → List A
-times zero x = []
-times (suc n) x = x ∷ times n x
-
 -- "in this order of kinds"; "Script, tx and verdicts stand once"
 unfoldable pub kindsOf : ℕ → ℕ → ℕ → ℕ → List Kind
 kindsOf inputs outputs deps witnesses =
     Script
     ∷ Tx
-    ∷ times inputs Input
-    ++ times outputs Output
-    ++ times deps Dep
-    ++ times witnesses Witness
+    ∷ replicate inputs Input
+    ++ replicate outputs Output
+    ++ replicate deps Dep
+    ++ replicate witnesses Witness
     ++ (Verdicts ∷ [])
 
 -- "line: kind, order, field count, ending, or a needed line missing", 2, of the field count
