@@ -35,7 +35,7 @@ use Rattle.scene_table.specs.Scene.{Input, Scene}
 use Rattle.scene_table.specs.Lent.{tableEntry, sceneFrom, storeBytes, sceneIn, blankScene, witnessCount}
 use Rattle.scene_table.specs.Valid.{validTable}
 use Rattle.octets.proofs.Truth.{and-both}
-use Rattle.scene_table.proofs.Rows.{length-rows}
+use Rattle.scene_table.proofs.Records.{length-records}
 use Rattle.scene_table.proofs.SceneBack.{sayable}
 use Rattle.scene_table.proofs.PlaceLaws.{lent-given}
 use Rattle.group_sighash.specs.Witnesses.{groupWitnesses, groupOf, firstWitness, otherWitnesses, firstWitnessRows, witnessFits, groupRows, otherRows}
@@ -124,7 +124,7 @@ unfolding validTable blankScene sceneFrom
 few-witnesses table store n v =
     let ok : length (blankScene table .witnesses) ≤ kindMaxLines =
     sayable (blankScene table) (and-both _ _ (and-both (leb tableMinEntries (length table)) _ v .1) .0) .fewWitnesses in
-    let m : length (blankScene table .witnesses) ≡ witnessCount table = length-rows _ 2 (witnessCount table) _ in
+    let m : length (blankScene table .witnesses) ≡ witnessCount table = length-records _ 2 (witnessCount table) _ in
     let k : length (sceneIn table store .witnesses) ≡ witnessCount table = lent-given table store .witnesses .long in
     omega arith
 

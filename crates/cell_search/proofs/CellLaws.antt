@@ -16,7 +16,7 @@ use Rattle.octets.specs.Places.{bytesAt}
 use Rattle.scene_table.specs.Scene.{Cell, Input}
 use Rattle.scene_table.specs.Lent.{sceneIn}
 use Rattle.scene_table.specs.Places as places
-use Rattle.scene_table.proofs.Rows.{Listed, listed}
+use Rattle.scene_table.proofs.Records.{Listed, listed}
 use Rattle.scene_table.proofs.PlaceLaws.{lentInput, lent-given}
 use Rattle.cell_search.specs.declared.cells.Source.{Source}
 use Rattle.cell_search.specs.declared.cells.Source.the-variants as source

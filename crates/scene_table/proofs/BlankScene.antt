@@ -11,8 +11,8 @@ use lib.ListN.{length, replicate, length-replicate}
 use Rattle.octets.specs.Lists.{every}
 use Rattle.scene_table.specs.Lent.{tableEntry, inputsAt, outputsAt, depsAt, witnessesAt, verdictsAt, recordsAt, hashLength, cellFrom, inputFrom, cellRecordFrom, bytesFrom, sceneFrom, blankScene, inputCount, outputCount, depCount, witnessCount, digitCount}
 use Rattle.scene_table.specs.Valid.{bytesOk, hashBytesOk, cellOk, inputOk, fewOf, digitsOk, sceneOk}
-use Rattle.scene_table.specs.Walk.{groupOk}
-use Rattle.scene_table.proofs.Rows.{length-rows}
+use Rattle.scene_table.specs.RecordsWalk.{groupOk}
+use Rattle.scene_table.proofs.Records.{length-records}
 use Rattle.scene_table.proofs.WholeWalk.{blank}
 
 pub blank-bytes : (n : ℕ) → bytesOk (replicate n 0) ≡ true
@@ -34,15 +34,15 @@ blank-cell start script content =
     rw (length-replicate {A = ℕ} script 0, type-hash (eqb script 0), blank-hash, blank-bytes script, blank-bytes content)
 
 -- a test of each record's reading is a test of each record's place
-every-rows : {A : Type 0} (p : A → Bool) (q : ℕ → Bool) (read : ℕ → A) (w n at : ℕ) → ((i : ℕ) → p (read i) ≡ q i)
+every-records : {A : Type 0} (p : A → Bool) (q : ℕ → Bool) (read : ℕ → A) (w n at : ℕ) → ((i : ℕ) → p (read i) ≡ q i)
     → every p (recordsAt read w n at) ≡ every q (recordsAt (λ (i : ℕ). i) w n at)
 unfolding every recordsAt
-every-rows p q read w zero at h = refl
-every-rows p q read w (suc n) at h = rw (h at, every-rows p q read w n (at + w) h)
+every-records p q read w zero at h = refl
+every-records p q read w (suc n) at h = rw (h at, every-records p q read w n (at + w) h)
 
-all-rows : {A : Type 0} (p : A → Bool) (read : ℕ → A) (w n at : ℕ) → ((i : ℕ) → p (read i) ≡ true) → fewOf p (recordsAt read w n at) ≡ leb n 64
+all-records : {A : Type 0} (p : A → Bool) (read : ℕ → A) (w n at : ℕ) → ((i : ℕ) → p (read i) ≡ true) → fewOf p (recordsAt read w n at) ≡ leb n 64
 unfolding fewOf every recordsAt
-all-rows p read w n at h = rw (length-rows read w n at, all n at, and-true)
+all-records p read w n at h = rw (length-records read w n at, all n at, and-true)
   where
     all : (n at : ℕ) → every p (recordsAt read w n at) ≡ true
     all zero at = refl
@@ -64,8 +64,8 @@ module _ (table : List ℕ) (small : (i : ℕ) → tableEntry table i < 2 ^ 32) 
   unfolding fewOf
   blank-inputs =
       rw (
-        length-rows (inputFrom blank table) 6 (inputCount table) inputsAt,
-        every-rows inputOk (groupOk table) (inputFrom blank table) 6 (inputCount table) inputsAt blank-input,
+        length-records (inputFrom blank table) 6 (inputCount table) inputsAt,
+        every-records inputOk (groupOk table) (inputFrom blank table) 6 (inputCount table) inputsAt blank-input,
       )
 
   pub blank-ok : sceneOk (blankScene table)
@@ -78,8 +78,8 @@ module _ (table : List ℕ) (small : (i : ℕ) → tableEntry table i < 2 ^ 32) 
         blank-bytes (tableEntry table 9),
         blank-hash,
         blank-inputs,
-        all-rows cellOk (cellRecordFrom blank table) 3 (outputCount table) (outputsAt table) (λ i. blank-cell (tableEntry table i) (tableEntry table (i + 1)) (tableEntry table (i + 2))),
-        all-rows cellOk (cellRecordFrom blank table) 3 (depCount table) (depsAt table) (λ i. blank-cell (tableEntry table i) (tableEntry table (i + 1)) (tableEntry table (i + 2))),
-        all-rows bytesOk (bytesFrom blank table) 2 (witnessCount table) (witnessesAt table) (λ i. blank-bytes (tableEntry table (i + 1))),
-        length-rows (tableEntry table) 1 (tableEntry table (verdictsAt table + 1)) (verdictsAt table + 2),
+        all-records cellOk (cellRecordFrom blank table) 3 (outputCount table) (outputsAt table) (λ i. blank-cell (tableEntry table i) (tableEntry table (i + 1)) (tableEntry table (i + 2))),
+        all-records cellOk (cellRecordFrom blank table) 3 (depCount table) (depsAt table) (λ i. blank-cell (tableEntry table i) (tableEntry table (i + 1)) (tableEntry table (i + 2))),
+        all-records bytesOk (bytesFrom blank table) 2 (witnessCount table) (witnessesAt table) (λ i. blank-bytes (tableEntry table (i + 1))),
+        length-records (tableEntry table) 1 (tableEntry table (verdictsAt table + 1)) (verdictsAt table + 2),
       )

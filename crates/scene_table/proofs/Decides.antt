@@ -16,8 +16,8 @@ use Rattle.protocol.specs.Limits.{tableMinEntries}
 use Rattle.scene_table.specs.Scene.{linesOf, recordsFrom, countsOf, sceneBytes, sceneNumbers, padded, sceneTable}
 use Rattle.scene_table.specs.Lent.{tableEntry, inputsAt, outputsAt, depsAt, witnessesAt, verdictsAt, recordsAt, inputFrom, cellRecordFrom, bytesFrom, sceneFrom, blankScene, inputCount, outputCount, depCount, witnessCount, digitCount}
 use Rattle.scene_table.specs.Valid.{validTable}
-use Rattle.scene_table.specs.Walk.{startWalk, walkLines, countsOk, zerosBehind, restOk}
-use Rattle.scene_table.proofs.Rows.{length-rows}
+use Rattle.scene_table.specs.RecordsWalk.{recordsStart, walkLines, countsOk, zerosBehind, restOk}
+use Rattle.scene_table.proofs.Records.{length-records}
 use Rattle.scene_table.proofs.Lines.{total, total-joined, cut, cut-take}
 use Rattle.octets.proofs.Truth.{and-both, both-and, same-truth}
 use Rattle.scene_table.proofs.WholeWalk.{blank, span, Groups, whole}
@@ -48,10 +48,10 @@ module _ (table : List ℕ) where
   unfolding countsOf blankScene sceneFrom
   said-counts =
       rw (
-        length-rows (inputFrom blank table) 6 (inputCount table) inputsAt,
-        length-rows (cellRecordFrom blank table) 3 (outputCount table) (outputsAt table),
-        length-rows (cellRecordFrom blank table) 3 (depCount table) (depsAt table),
-        length-rows (bytesFrom blank table) 2 (witnessCount table) (witnessesAt table),
+        length-records (inputFrom blank table) 6 (inputCount table) inputsAt,
+        length-records (cellRecordFrom blank table) 3 (outputCount table) (outputsAt table),
+        length-records (cellRecordFrom blank table) 3 (depCount table) (depsAt table),
+        length-records (bytesFrom blank table) 2 (witnessCount table) (witnessesAt table),
       )
 
   -- the records end behind the last digit
@@ -65,7 +65,7 @@ module _ (table : List ℕ) where
     pub scripts : tableEntry table 1 ≡ 1
     pub transactions : tableEntry table 2 ≡ 1
     pub verdicts : tableEntry table 7 ≡ 1
-    pub rows : recordsFrom 0 (linesOf (blankScene table)) ≡ cut table (span table) 8
+    pub records : recordsFrom 0 (linesOf (blankScene table)) ≡ cut table (span table) 8
     pub behind : zerosBehind table ≡ true
 
   module _ (long : length (recordsFrom 0 (linesOf (blankScene table))) ≡ span table) (room : 8 + span table ≤ length table) where
@@ -82,7 +82,7 @@ module _ (table : List ℕ) where
         let k = 8 + span table in
         let front : take k table ≡ countsOf (blankScene table) ++ recordsFrom 0 (linesOf (blankScene table)) =
         take-add 8 (span table) table
-        ∙ ap₂ (λ (x y : List ℕ). x ++ y) (sym (cut-take table 8 0 (omega arith)) ∙ own-counts o) (sym (cut-take table (span table) 8 room) ∙ sym (o .rows)) in
+        ∙ ap₂ (λ (x y : List ℕ). x ++ y) (sym (cut-take table 8 0 (omega arith)) ∙ own-counts o) (sym (cut-take table (span table) 8 room) ∙ sym (o .records)) in
         let back : drop k table ≡ replicate (length table - k) 0 = rw (length-drop k table) at (pass-zeros (drop k table) (rw ends (o .behind))) in
         sym (take-append-drop k table) ∙ (ap₂ (λ (x y : List ℕ). x ++ y) front back ∙ rw numbers-long)
 
@@ -102,7 +102,7 @@ module _ (table : List ℕ) where
           scripts = ap (λ (l : List ℕ). getD l 1 0) (sym (cut-entries table) ∙ said);
           transactions = ap (λ (l : List ℕ). getD l 2 0) (sym (cut-entries table) ∙ said);
           verdicts = ap (λ (l : List ℕ). getD l 7 0) (sym (cut-entries table) ∙ said);
-          rows = sym (cut-take table (span table) 8 room ∙ part-back table c r z 8 (span table) f eight long);
+          records = sym (cut-take table (span table) 8 room ∙ part-back table c r z 8 (span table) f eight long);
           behind = rw (← ends, behind) (zeros-pass (length table - length (c ++ r)));
         }
 
@@ -175,7 +175,7 @@ module _ (table : List ℕ) where
 
   module _ (small : (i : ℕ) → tableEntry table i < 2 ^ 32) (n : ℕ) where
     walk-valid : countsOk table ≡ true → restOk table n ≡ true → validTable table n ≡ true
-    unfolding restOk validTable startWalk Groups
+    unfolding restOk validTable recordsStart Groups
     walk-valid h g =
         let c = counted h in
         let a = and-both _ _ g in
@@ -184,7 +184,7 @@ module _ (table : List ℕ) where
         let w = whole table small in
         let t = w .there (d .0) in
         let u : walkLines table .used ≡ total (linesOf (blankScene table)) = omega (arith, t .3) in
-        let own : Own = record { zeroth = c .zeroth; scripts = c .scripts; transactions = c .transactions; verdicts = c .verdicts; rows = t .2; behind = a .1 } in
+        let own : Own = record { zeroth = c .zeroth; scripts = c .scripts; transactions = c .transactions; verdicts = c .verdicts; records = t .2; behind = a .1 } in
         rw (
           le-leb tableMinEntries (length table) (c .few .enough),
           blank-ok table small,
@@ -202,7 +202,7 @@ module _ (table : List ℕ) where
         (eq-same _ _ (own-table (w .long 0) (room-for (c .few)) own))
 
     valid-walk : validTable table n ≡ true → (countsOk table ≡ true) × (restOk table n ≡ true)
-    unfolding restOk validTable startWalk Groups
+    unfolding restOk validTable recordsStart Groups
     valid-walk h =
         let a = and-both _ _ h in
         let b = and-both _ _ (a .1) in
@@ -225,7 +225,7 @@ module _ (table : List ℕ) where
         let fits : leb (length (sceneBytes (blankScene table))) n ≡ true = c .0 in
         let w = whole table small in
         let own = table-own (w .long 0) (room-for few) (same-eq table (sceneTable (blankScene table) (length table)) (c .1)) in
-        let good = w .back refl (inputs .1) (own .rows) in
+        let good = w .back refl (inputs .1) (own .records) in
         let u : walkLines table .used ≡ length (sceneBytes (blankScene table)) = omega (arith, w .there good .3, bytes-total) in (
           counts-pass record { few = few; zeroth = own .zeroth; scripts = own .scripts; transactions = own .transactions; verdicts = own .verdicts },
           rw (good, below, u, fits) (own .behind),

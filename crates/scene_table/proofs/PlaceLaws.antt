@@ -9,7 +9,7 @@ use Rattle.octets.specs.Places as octets
 use Rattle.scene_table.specs.Scene.{Input, Scene}
 use Rattle.scene_table.specs.Lent.{tableEntry, inputsAt, outputsAt, depsAt, witnessesAt, verdictsAt, cellFrom, inputFrom, cellRecordFrom, bytesFrom, sceneFrom, storeBytes, sceneIn, blankScene, inputCount, outputCount, depCount, witnessCount, digitCount}
 use Rattle.scene_table.specs.Places.{placeAt, cellFieldPlaces, bytesPlace, recordPlaces, scriptPlace, transactionPlace, inputAt, inputGroup, inputSince, inputPlaces, outputPlaces, depPlaces, witnessPlace, verdictAt, verdictOf, cellIn}
-use Rattle.scene_table.proofs.Rows.{Listed, length-rows, rows-listed}
+use Rattle.scene_table.proofs.Records.{Listed, length-records, records-listed}
 
 -- input i of a table and a store
 unfoldable pub lentInput : List ℕ → List ℕ → ℕ → Input
@@ -40,10 +40,10 @@ unfolding sceneIn blankScene sceneFrom lentInput inputAt inputSince inputPlaces 
 lent-given table store = record {
   script = refl;
   transaction = refl;
-  inputs = rows-listed (inputFrom (storeBytes store) table) 6 (inputCount table) inputsAt;
-  outputs = rows-listed (cellRecordFrom (storeBytes store) table) 3 (outputCount table) (outputsAt table);
-  deps = rows-listed (cellRecordFrom (storeBytes store) table) 3 (depCount table) (depsAt table);
-  witnesses = rows-listed (bytesFrom (storeBytes store) table) 2 (witnessCount table) (witnessesAt table);
-  digits = length-rows (tableEntry table) 1 (tableEntry table (verdictsAt table + 1)) (verdictsAt table + 2);
+  inputs = records-listed (inputFrom (storeBytes store) table) 6 (inputCount table) inputsAt;
+  outputs = records-listed (cellRecordFrom (storeBytes store) table) 3 (outputCount table) (outputsAt table);
+  deps = records-listed (cellRecordFrom (storeBytes store) table) 3 (depCount table) (depsAt table);
+  witnesses = records-listed (bytesFrom (storeBytes store) table) 2 (witnessCount table) (witnessesAt table);
+  digits = length-records (tableEntry table) 1 (tableEntry table (verdictsAt table + 1)) (verdictsAt table + 2);
   verdicts = λ i. refl;
 }

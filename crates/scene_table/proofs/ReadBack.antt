@@ -12,7 +12,7 @@ use Rattle.scene_table.specs.Scene.{Cell, Input, Scene, cellBytes, cellL
 use Rattle.scene_table.specs.Lent.{tableEntry, hashLength, cellFrom, inputFrom, cellRecordFrom, bytesFrom}
 use Rattle.scene_table.specs.Valid.{bytesOk, hashBytesOk, cellOk, inputOk}
 use Rattle.octets.proofs.Truth.{and-both}
-use Rattle.scene_table.proofs.Stands.{Stands, row-first, row-entry, row-bytes}
+use Rattle.scene_table.proofs.Stands.{Stands, record-first, record-entry, record-bytes}
 
 -- a scene with g of each run of bytes
 unfoldable pub cellWith : (List ℕ → List ℕ) → Cell → Cell
@@ -89,20 +89,20 @@ module _ (from : ℕ → ℕ → List ℕ) (g : List ℕ → List ℕ) (table st
   unfolding bytesFrom bytesLine
   bytes-back bs at used h s =
       rw
-      (row-first table store s, row-entry table store {l = bytesLine bs} 0 (lit< tt) s)
-      (gives (s .front) bs (s .back) used (length bs) (row-bytes table store s) (s .start) refl)
+      (record-first table store s, record-entry table store {l = bytesLine bs} 0 (lit< tt) s)
+      (gives (s .front) bs (s .back) used (length bs) (record-bytes table store s) (s .start) refl)
 
   pub hash-back : (hash : List ℕ) (at used : ℕ) → hashBytesOk hash ≡ true → Stands table store at used (hashLine hash ∷ []) → from (tableEntry table at) 32 ≡ g hash
   unfolding hashLine
   hash-back hash at used h s =
-      rw (row-first table store s) (gives (s .front) hash (s .back) used 32 (row-bytes table store s) (s .start) (hash-long hash h))
+      rw (record-first table store s) (gives (s .front) hash (s .back) used 32 (record-bytes table store s) (s .start) (hash-long hash h))
 
-  pub row-back : (c : Cell) (at used : ℕ) → cellOk c ≡ true → Stands table store at used (cellLine c ∷ []) → cellRecordFrom from table at ≡ cellWith g c
+  pub record-back : (c : Cell) (at used : ℕ) → cellOk c ≡ true → Stands table store at used (cellLine c ∷ []) → cellRecordFrom from table at ≡ cellWith g c
   unfolding cellRecordFrom cellLine cellLengths
-  row-back c at used h s =
+  record-back c at used h s =
       rw
-      (row-first table store s, row-entry table store {l = cellLine c} 0 (lit< tt) s, row-entry table store {l = cellLine c} 1 (lit< tt) s)
-      (cell-back c (s .front) (s .back) used h (row-bytes table store s) (s .start))
+      (record-first table store s, record-entry table store {l = cellLine c} 0 (lit< tt) s, record-entry table store {l = cellLine c} 1 (lit< tt) s)
+      (cell-back c (s .front) (s .back) used h (record-bytes table store s) (s .start))
 
   pub input-back : (i : Input) (at used : ℕ) → inputOk i ≡ true → Stands table store at used (inputLine i ∷ []) → inputFrom from table at ≡ inputWith g i
   unfolding inputFrom inputLine cellLengths inputWith inputOk
@@ -111,12 +111,12 @@ module _ (from : ℕ → ℕ → List ℕ) (g : List ℕ → List ℕ) (table st
       let cell = and-both (ltb (i .since) (2 ^ 64)) (cellOk (i .cell)) (ok .1) in
       let whole : i .since % 2 ^ 32 + 2 ^ 32 * (i .since / 2 ^ 32) ≡ i .since = omega arith in
       rw (
-        row-first table store s,
-        row-entry table store {l = inputLine i} 0 (lit< tt) s,
-        row-entry table store {l = inputLine i} 1 (lit< tt) s,
-        row-entry table store {l = inputLine i} 2 (lit< tt) s,
-        row-entry table store {l = inputLine i} 3 (lit< tt) s,
-        row-entry table store {l = inputLine i} 4 (lit< tt) s,
+        record-first table store s,
+        record-entry table store {l = inputLine i} 0 (lit< tt) s,
+        record-entry table store {l = inputLine i} 1 (lit< tt) s,
+        record-entry table store {l = inputLine i} 2 (lit< tt) s,
+        record-entry table store {l = inputLine i} 3 (lit< tt) s,
+        record-entry table store {l = inputLine i} 4 (lit< tt) s,
         whole,
-        cell-back (i .cell) (s .front) (s .back) used (cell .1) (row-bytes table store s) (s .start),
+        cell-back (i .cell) (s .front) (s .back) used (cell .1) (record-bytes table store s) (s .start),
       )

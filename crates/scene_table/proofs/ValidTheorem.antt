@@ -15,7 +15,7 @@ use Rattle.octets.proofs.Every.{every-map}
 use Rattle.scene_table.specs.Scene.{Cell, Input, Scene, Line, cellBytes, cellLengths, bytesLine, hashLine, inputLine, cellLine, linesOf, sceneBytes, countsOf, recordsFrom, sceneNumbers, padded, sceneTable}
 use Rattle.scene_table.specs.Lent.{cellFrom, blankScene}
 use Rattle.scene_table.specs.Valid.{bytesOk, hashBytesOk, cellOk, inputOk, fewOf, digitsOk, sceneOk, validTable}
-use Rattle.scene_table.proofs.Lines.{total, total-joined, total-append, rows-append}
+use Rattle.scene_table.proofs.Lines.{total, total-joined, total-append, records-append}
 use Rattle.octets.proofs.Truth.{and-both}
 use Rattle.scene_table.proofs.WholeWalk.{blank}
 use Rattle.scene_table.proofs.BlankScene.{blank-bytes, blank-hash, blank-cell}
@@ -28,21 +28,21 @@ zeroed q = replicate (length q) 0
 
 -- lines of the same records and as many bytes
 record Alike (ls ms : List Line) : Type 0 where
-  rows : (used : ℕ) → recordsFrom used ls ≡ recordsFrom used ms
+  records : (used : ℕ) → recordsFrom used ls ≡ recordsFrom used ms
   long : total ls ≡ total ms
 
 alike-append : (ls ms ls' ms' : List Line) → Alike ls ms → Alike ls' ms' → Alike (ls ++ ls') (ms ++ ms')
 alike-append ls ms ls' ms' a b = record {
-  rows = λ used. rw (rows-append used ls ls', rows-append used ms ms', a .rows used, a .long, b .rows (used + total ms));
+  records = λ used. rw (records-append used ls ls', records-append used ms ms', a .records used, a .long, b .records (used + total ms));
   long = rw (total-append ls ls', total-append ms ms', a .long, b .long);
 }
 
 alike-one : (l m : Line) → l .numbers ≡ m .numbers → length (l .bytes) ≡ length (m .bytes) → Alike (l ∷ []) (m ∷ [])
 unfolding recordsFrom total
-alike-one l m e f = record { rows = λ used. rw e; long = rw f }
+alike-one l m e f = record { records = λ used. rw e; long = rw f }
 
 alike-map : {A : Type 0} (line : A → Line) (f : A → A) → ((x : A) → Alike (line (f x) ∷ []) (line x ∷ [])) → (xs : List A) → Alike (map line (map f xs)) (map line xs)
-alike-map line f one [] = record { rows = λ used. refl; long = refl }
+alike-map line f one [] = record { records = λ used. refl; long = refl }
 alike-map line f one (x ∷ xs) = alike-append (line (f x) ∷ []) (line x ∷ []) (map line (map f xs)) (map line xs) (one x) (alike-map line f one xs)
 
 length-zeroed : (q : List ℕ) → length (zeroed q) ≡ length q
@@ -70,9 +70,9 @@ alike-input i =
     (rw (length-zeroed (i .cell .typeScript), length-zeroed (i .cell .content)))
     (cell-long (i .cell))
 
-hash-row : (hash : List ℕ) → hashLine (zeroed hash) .numbers ≡ hashLine hash .numbers
+hash-record : (hash : List ℕ) → hashLine (zeroed hash) .numbers ≡ hashLine hash .numbers
 unfolding hashLine
-hash-row hash = refl
+hash-record hash = refl
 
 hash-bytes : (hash : List ℕ) → length (hashLine (zeroed hash) .bytes) ≡ length (hashLine hash .bytes)
 unfolding hashLine
@@ -81,7 +81,7 @@ hash-bytes hash = length-zeroed hash
 alike-lines : (s : Scene) → Alike (linesOf (sceneWith zeroed s)) (linesOf s)
 unfolding linesOf sceneWith
 alike-lines s =
-    let hash = alike-one (hashLine (zeroed (s .transaction))) (hashLine (s .transaction)) (hash-row (s .transaction)) (hash-bytes (s .transaction)) in
+    let hash = alike-one (hashLine (zeroed (s .transaction))) (hashLine (s .transaction)) (hash-record (s .transaction)) (hash-bytes (s .transaction)) in
     alike-append _ _ _ _
     (alike-append _ _ _ _
     (alike-append _ _ _ _
@@ -90,7 +90,7 @@ alike-lines s =
     (alike-map cellLine (cellWith zeroed) alike-cell (s .outputs)))
     (alike-map cellLine (cellWith zeroed) alike-cell (s .deps)))
     (alike-map bytesLine zeroed alike-bytes (s .witnesses)))
-    (record { rows = λ used. refl; long = refl })
+    (record { records = λ used. refl; long = refl })
 
 -- so a scene and its zeroed one have the same table and as many bytes
 zeroed-numbers : (s : Scene) → sceneNumbers (sceneWith zeroed s) ≡ sceneNumbers s
@@ -101,7 +101,7 @@ zeroed-numbers s =
       length-map (s .outputs) (cellWith zeroed),
       length-map (s .deps) (cellWith zeroed),
       length-map (s .witnesses) zeroed,
-      alike-lines s .rows 0,
+      alike-lines s .records 0,
     )
 
 zeroed-table : (s : Scene) (m : ℕ) → sceneTable (sceneWith zeroed s) m ≡ sceneTable s m

@@ -8,24 +8,24 @@ use lib.Dec.{leb, ltb, eqb}
 use Rattle.octets.specs.Lists.{every}
 use Rattle.protocol.specs.Limits.{tableMinEntries, kindMaxLines, digitsMaxCount}
 use Rattle.scene_table.specs.Lent.{tableEntry, scriptAt, transactionAt, inputsAt, outputsAt, depsAt, witnessesAt, verdictsAt, digitsAt, inputCount, outputCount, depCount, witnessCount, digitCount, inputWidth, cellWidth, bytesWidth, recordOffset, bytesLength, inputRecordGroup, inputScriptLength, inputDataLength, cellScriptLength, cellDataLength, hashLength, blankScene}
-use Rattle.scene_table.specs.declared.validity.Walk.{Walk}
+use Rattle.scene_table.specs.declared.validity.RecordsWalk.{RecordsWalk}
 use Rattle.scene_table.specs.declared.validity.RecordForm.{RecordForm}
 use Rattle.scene_table.specs.declared.validity.RecordForm.the-variants as form
 
 -- one test more
-unfoldable pub need : Walk → Bool → Walk
-need k ok = record { good = k .good && ok; used = k .used }
+unfoldable pub required : RecordsWalk → Bool → RecordsWalk
+required k ok = record { good = k .good && ok; used = k .used }
 
 -- a record whose bytes begin at `start`
-unfoldable pub placed : Walk → ℕ → ℕ → Walk
-placed k start size = record { good = k .good && eqb start (k .used); used = start + size }
+unfoldable pub withRecord : RecordsWalk → ℕ → ℕ → RecordsWalk
+withRecord k start size = record { good = k .good && eqb start (k .used); used = start + size }
 
 -- the record at `at`, by a test and a number of bytes for each record
-unfoldable pub recordStep : List ℕ → (ℕ → Bool) → (ℕ → ℕ) → Walk → ℕ → Walk
-recordStep table ok size k at = placed (need k (ok at)) (recordOffset table at) (size at)
+unfoldable pub recordStep : List ℕ → (ℕ → Bool) → (ℕ → ℕ) → RecordsWalk → ℕ → RecordsWalk
+recordStep table ok size k at = withRecord (required k (ok at)) (recordOffset table at) (size at)
 
 -- n records of w entries, the first at `at`
-unfoldable pub walkRecords : List ℕ → (ℕ → Bool) → (ℕ → ℕ) → ℕ → ℕ → ℕ → Walk → Walk
+unfoldable pub walkRecords : List ℕ → (ℕ → Bool) → (ℕ → ℕ) → ℕ → ℕ → ℕ → RecordsWalk → RecordsWalk
 walkRecords table ok size w zero at k = k
 walkRecords table ok size w (suc n) at k = walkRecords table ok size w n (at + w) (recordStep table ok size k at)
 
@@ -63,26 +63,26 @@ recordWidth form.Bytes = bytesWidth
 recordWidth form.Cell = cellWidth
 recordWidth form.Input = inputWidth
 
-unfoldable pub startWalk : Walk
-startWalk = record { good = true; used = 0 }
+unfoldable pub recordsStart : RecordsWalk
+recordsStart = record { good = true; used = 0 }
 
-unfoldable pub walkHead : List ℕ → Walk
-walkHead table = placed (recordStep table anyRecord (bytesSize table) startWalk scriptAt) (recordOffset table transactionAt) 32
+unfoldable pub walkHead : List ℕ → RecordsWalk
+walkHead table = withRecord (recordStep table anyRecord (bytesSize table) recordsStart scriptAt) (recordOffset table transactionAt) 32
 
-unfoldable pub walkInputs : List ℕ → Walk
+unfoldable pub walkInputs : List ℕ → RecordsWalk
 walkInputs table = walkRecords table (groupOk table) (inputSize table) inputWidth (inputCount table) inputsAt (walkHead table)
 
-unfoldable pub walkOutputs : List ℕ → Walk
+unfoldable pub walkOutputs : List ℕ → RecordsWalk
 walkOutputs table = walkRecords table anyRecord (cellRecordSize table) cellWidth (outputCount table) (outputsAt table) (walkInputs table)
 
-unfoldable pub walkDeps : List ℕ → Walk
+unfoldable pub walkDeps : List ℕ → RecordsWalk
 walkDeps table = walkRecords table anyRecord (cellRecordSize table) cellWidth (depCount table) (depsAt table) (walkOutputs table)
 
-unfoldable pub walkWitnesses : List ℕ → Walk
+unfoldable pub walkWitnesses : List ℕ → RecordsWalk
 walkWitnesses table = walkRecords table anyRecord (bytesSize table) bytesWidth (witnessCount table) (witnessesAt table) (walkDeps table)
 
-unfoldable pub walkLines : List ℕ → Walk
-walkLines table = placed (walkWitnesses table) (recordOffset table (verdictsAt table)) 0
+unfoldable pub walkLines : List ℕ → RecordsWalk
+walkLines table = withRecord (walkWitnesses table) (recordOffset table (verdictsAt table)) 0
 
 -- enough entries; script, tx and verdicts once, at most so many of the others and of digits
 unfoldable pub countsOk : List ℕ → Bool
