@@ -17,7 +17,7 @@ use Rattle.protocol.specs.declared.check.Check.{Check}
 use Rattle.protocol.specs.declared.check.Check.the-variants.{Passed, Failed}
 use Rattle.protocol.proofs.Each.{Each, Refuses, each-append, each-refuses}
 use Rattle.scene_text.specs.Text.{pieces, lineEnd}
-use Rattle.scene_reader.specs.Reader.{ReaderState, ReaderOutcome, refused, held, outcomeAfter, lineRows, rowsOfLine, linePut, sceneEndRows, linesRows, linesPut, start, sceneLimitRows, sceneRows, readOf, readerCheck}
+use Rattle.scene_reader.specs.Reader.{ReaderState, ReaderOutcome, refused, held, outcomeAfter, lineRows, rowsOfLine, linePut, sceneEndRows, linesRows, linesPut, readerStart, sceneLimitRows, sceneRows, readOf, readerCheck}
 use Rattle.scene_table.specs.Valid.{validTable}
 use Rattle.scene_reading.proofs.Accessors.{left-store-length, reader-leaves-valid}
 use Rattle.account_lock.specs.Lock as lock
@@ -52,14 +52,14 @@ lines-errors h (l ∷ m ∷ ls) = each-append ReaderError (rowsOfLine h l) _ (li
 -- of a scene
 scene-errors : (scene : List ℕ) (n m : ℕ) → Each ReaderError (sceneRows scene n m)
 unfolding sceneRows sceneLimitRows
-scene-errors scene n m = (inl (omega arith), (inr refl, lines-errors (start n m) (pieces lineEnd scene)))
+scene-errors scene n m = (inl (omega arith), (inr refl, lines-errors (readerStart n m) (pieces lineEnd scene)))
 
 -- every number that the reader gives is 0 to 4, or 6
 pub reader-numbers : (scene : List ℕ) (n m : ℕ) → ReaderNumber (checkNumber (readerCheck (readOf scene n m)))
 unfolding readOf
 reader-numbers scene n m = go (decide Passed (sceneRows scene n m)) (each-refuses ReaderError (sceneRows scene n m) (scene-errors scene n m))
   where
-    go : (c : Check) → Refuses ReaderError c → ReaderNumber (checkNumber (readerCheck (outcomeAfter c (linesPut (start n m) (pieces lineEnd scene)))))
+    go : (c : Check) → Refuses ReaderError c → ReaderNumber (checkNumber (readerCheck (outcomeAfter c (linesPut (readerStart n m) (pieces lineEnd scene)))))
     go Passed f = inl (omega arith)
     go (Failed e) f = f
 

@@ -39,8 +39,8 @@ seenWith last seen k = cond (eqb k last) (seen + 1) 1
 -- 01: "The reader puts the bytes of all hexadecimal fields end to end into a lent store, the rest into a lent u32 table": a line
 -- put down. Its kind's count stands at the table's entry `rank k`; behind the table's entries the place of its bytes in the
 -- store and its numbers; behind the store's bytes its bytes
-unfoldable pub put : ReaderState → Kind → List (List ℕ) → ReaderState
-put h k fs = record {
+unfoldable pub linePutAs : ReaderState → Kind → List (List ℕ) → ReaderState
+linePutAs h k fs = record {
   last = rank k;
   seen = seenWith (h .last) (h .seen) (rank k);
   used = h .used + length (lineBytes (firstForm k) fs);
@@ -66,7 +66,7 @@ rowsOfLine h line = lineRows h (lineKind (h .last) (pieces comma line)) (lineFie
 
 -- what is held once it is put down
 unfoldable pub linePut : ReaderState → List ℕ → ReaderState
-linePut h line = put h (lineKind (h .last) (pieces comma line)) (lineFields (pieces comma line))
+linePut h line = linePutAs h (lineKind (h .last) (pieces comma line)) (lineFields (pieces comma line))
 
 -- 01: "ending, or a needed line missing", 2; "A needed line is missing at the line that stands in its place, or at the end of the
 -- scene": nothing follows the last line's ending, and verdicts was read
@@ -93,13 +93,13 @@ outcomeAfter (Failed e) h = refused e
 outcomeAfter Passed h = held h
 
 -- what the lines alone give, the reader's own two rows aside
-unfoldable pub run : ReaderState → List (List ℕ) → ReaderOutcome
-run h ls = outcomeAfter (decide Passed (linesRows h ls)) (linesPut h ls)
+unfoldable pub linesOutcome : ReaderState → List (List ℕ) → ReaderOutcome
+linesOutcome h ls = outcomeAfter (decide Passed (linesRows h ls)) (linesPut h ls)
 
 -- 01: "both are zeroed first": a store of n bytes and a table of m entries; the table's first eight entries are for the counts
 -- of the kinds
-unfoldable pub start : ℕ → ℕ → ReaderState
-start n m = record { last = 0; seen = 0; used = 0; filled = 8; store = replicate n 0; table = replicate m 0 }
+unfoldable pub readerStart : ℕ → ℕ → ReaderState
+readerStart n m = record { last = 0; seen = 0; used = 0; filled = 8; store = replicate n 0; table = replicate m 0 }
 
 -- 01: "reader: above 1,048,576 bytes", 1; "reader: table below 2,048 entries", 6
 unfoldable pub sceneLimitRows : List ℕ → ℕ → List Row
@@ -107,11 +107,11 @@ sceneLimitRows scene m = row (leb (length scene) sceneMaxLength) SceneTooLong �
 
 -- 01, "Where each refusal is raised": the reader rows, then the line rows
 unfoldable pub sceneRows : List ℕ → ℕ → ℕ → List Row
-sceneRows scene n m = sceneLimitRows scene m ++ linesRows (start n m) (pieces lineEnd scene)
+sceneRows scene n m = sceneLimitRows scene m ++ linesRows (readerStart n m) (pieces lineEnd scene)
 
 -- what the reader finds, with a store of n bytes and a table of m entries: the first row that fails refuses the scene
 unfoldable pub readOf : List ℕ → ℕ → ℕ → ReaderOutcome
-readOf scene n m = outcomeAfter (decide Passed (sceneRows scene n m)) (linesPut (start n m) (pieces lineEnd scene))
+readOf scene n m = outcomeAfter (decide Passed (sceneRows scene n m)) (linesPut (readerStart n m) (pieces lineEnd scene))
 
 -- what the reader answers
 abbrev pub readerCheck : ReaderOutcome → Check

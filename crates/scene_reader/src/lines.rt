@@ -28,8 +28,8 @@ ghost use Rattle.scene_text.specs.Text.{pieces, comma, lineEnd};
 ghost use Rattle.scene_line.specs.Kind.{rank, fieldCount, firstForm, follows};
 ghost use Rattle.scene_line.specs.Line.{fieldsFound};
 ghost use Rattle.protocol.specs.Limits.{sceneMaxLength, tableMinEntries, kindMaxLines};
-ghost use Rattle.scene_reader.specs.Reader.{seenWith, lineRows, run, start};
-ghost use Rattle.scene_reader.specs.Room.{stepAs, step, finish, Ready, Kept, stateHolding, stepOutcome};
+ghost use Rattle.scene_reader.specs.Reader.{seenWith, lineRows, linesOutcome, readerStart};
+ghost use Rattle.scene_reader.specs.Room.{lineOutcomeAs, lineOutcome, sceneEndOutcome, ReaderReady, ReadyAfter, stateHolding, stepOutcome};
 
 // How many lines of the kind of rank k were read, with this one.
 pub(crate) fn seen_with(last: usize, seen: usize, k: usize) -> usize
@@ -58,10 +58,10 @@ fn check_line(k: Kind, s: State, found: FieldsFound, room: usize) -> Check
 
 // A line of kind k: its rows, and then it is put down.
 fn read_as(k: Kind, fields: &[u8], s: State, store: &mut [u8], table: &mut [u32]) -> LineStep
-    requires { ⌜ Ready s (length (now fields)) (length (now store)) (length (now table)) ⌝ }
+    requires { ⌜ ReaderReady s (length (now fields)) (length (now store)) (length (now table)) ⌝ }
     requires { ⌜ ((rank k ≡ 0 → ⊥) → (length (pieces comma (now fields)) ≡ fieldCount k) × (follows (s .last) (rank k) ≡ true)) ⌝ }
-    ensures { λ r. ⌜ stepOutcome r (now (store .exit)) (now (table .exit)) ≡ stepAs (stateHolding s (now (store .entry)) (now (table .entry))) k (pieces comma (now (fields .entry))) ⌝ }
-    ensures { λ r. ⌜ Kept s (length (now (fields .entry))) (length (now (store .entry))) (length (now (table .entry))) r ⌝ }
+    ensures { λ r. ⌜ stepOutcome r (now (store .exit)) (now (table .exit)) ≡ lineOutcomeAs (stateHolding s (now (store .entry)) (now (table .entry))) k (pieces comma (now (fields .entry))) ⌝ }
+    ensures { λ r. ⌜ ReadyAfter s (length (now (fields .entry))) (length (now (store .entry))) (length (now (table .entry))) r ⌝ }
 {
     let found = check_fields(first_form(k), fields);
     match check_line(k, s, found, store.len()) {
@@ -72,9 +72,9 @@ fn read_as(k: Kind, fields: &[u8], s: State, store: &mut [u8], table: &mut [u32]
 
 // One line.
 fn read_line(line: &[u8], s: State, store: &mut [u8], table: &mut [u32]) -> LineStep
-    requires { ⌜ Ready s (length (now line)) (length (now store)) (length (now table)) ⌝ }
-    ensures { λ r. ⌜ stepOutcome r (now (store .exit)) (now (table .exit)) ≡ step (stateHolding s (now (store .entry)) (now (table .entry))) (now (line .entry)) ⌝ }
-    ensures { λ r. ⌜ Kept s (length (now (line .entry))) (length (now (store .entry))) (length (now (table .entry))) r ⌝ }
+    requires { ⌜ ReaderReady s (length (now line)) (length (now store)) (length (now table)) ⌝ }
+    ensures { λ r. ⌜ stepOutcome r (now (store .exit)) (now (table .exit)) ≡ lineOutcome (stateHolding s (now (store .entry)) (now (table .entry))) (now (line .entry)) ⌝ }
+    ensures { λ r. ⌜ ReadyAfter s (length (now (line .entry))) (length (now (store .entry))) (length (now (table .entry))) r ⌝ }
 {
     let e = find(line, COMMA);
     if e == line.len() {
@@ -87,7 +87,7 @@ fn read_line(line: &[u8], s: State, store: &mut [u8], table: &mut [u32]) -> Line
 
 // The end of a scene: what follows the last line's ending.
 fn finish_at(s: State, rest: &[u8]) -> LineStep
-    ensures { λ r. ⌜ ((store table : List ℕ) → stepOutcome r store table ≡ finish (stateHolding s store table) (now (rest .entry))) ⌝ }
+    ensures { λ r. ⌜ ((store table : List ℕ) → stepOutcome r store table ≡ sceneEndOutcome (stateHolding s store table) (now (rest .entry))) ⌝ }
 {
     let checked = Check::Passed
         .require(rest.len() == 0, ProtocolError::InvalidLine)
@@ -102,7 +102,7 @@ fn finish_at(s: State, rest: &[u8]) -> LineStep
 pub(crate) fn read_lines(scene: &[u8], store: &mut [u8], table: &mut [u32]) -> LineStep
     requires { ⌜ (length (now scene) ≤ sceneMaxLength) × (tableMinEntries ≤ length (now table)) ⌝ }
     requires { ⌜ (now store ≡ replicate (length (now store)) 0) × (now table ≡ replicate (length (now table)) 0) ⌝ }
-    ensures { λ r. ⌜ stepOutcome r (now (store .exit)) (now (table .exit)) ≡ run (start (length (now (store .entry))) (length (now (table .entry)))) (pieces lineEnd (now (scene .entry))) ⌝ }
+    ensures { λ r. ⌜ stepOutcome r (now (store .exit)) (now (table .exit)) ≡ linesOutcome (readerStart (length (now (store .entry))) (length (now (table .entry)))) (pieces lineEnd (now (scene .entry))) ⌝ }
 {
     let mut rest = scene;
     let mut s = State {

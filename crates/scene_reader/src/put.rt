@@ -21,7 +21,7 @@ ghost use Rattle.scene_text.specs.Text.{pieces, comma};
 ghost use Rattle.scene_line.specs.Line.{fieldBytes, lineBytes, lineEntries};
 ghost use Rattle.scene_line.specs.Kind.{rank, firstForm};
 ghost use Rattle.protocol.specs.Limits.{sceneMaxLength, kindMaxLines};
-ghost use Rattle.scene_reader.specs.Reader.{put};
+ghost use Rattle.scene_reader.specs.Reader.{linePutAs};
 ghost use Rattle.scene_reader.specs.Room.{stateHolding};
 
 // Puts the bytes of a field into the store from at on, and says how many they are.
@@ -83,7 +83,7 @@ pub(crate) fn put_line(
     requires { ⌜ s .used + n ≤ length (now store) ⌝ }
     requires { ⌜ (length (now fields) ≤ sceneMaxLength) × (s .used ≤ sceneMaxLength) × (s .seen ≤ kindMaxLines) ⌝ }
     requires { ⌜ (rank k < length (now table)) × (s .filled + 1 + length (lineEntries (firstForm k) (pieces comma (now fields))) ≤ length (now table)) ⌝ }
-    ensures { λ r. ⌜ stateHolding r (now (store .exit)) (now (table .exit)) ≡ put (stateHolding s (now (store .entry)) (now (table .entry))) k (pieces comma (now (fields .entry))) ⌝ }
+    ensures { λ r. ⌜ stateHolding r (now (store .exit)) (now (table .exit)) ≡ linePutAs (stateHolding s (now (store .entry)) (now (table .entry))) k (pieces comma (now (fields .entry))) ⌝ }
 {
     let p = rank_of(k);
     let used = s.used;

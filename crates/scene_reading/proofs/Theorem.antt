@@ -11,7 +11,7 @@ use borrow.Author.Tests.{le-leb}
 use Rattle.protocol.specs.declared.check.Check.the-variants.{Passed}
 use Rattle.protocol.proofs.AllPass.{all-pass-passed, all-pass-split}
 use Rattle.scene_text.specs.Text.{pieces, lineEnd}
-use Rattle.scene_reader.specs.Reader.{ReaderState, ReaderOutcome, refused, held, run, start, sceneLimitRows, sceneRows, readOf, readerCheck}
+use Rattle.scene_reader.specs.Reader.{ReaderState, ReaderOutcome, refused, held, linesOutcome, readerStart, sceneLimitRows, sceneRows, readOf, readerCheck}
 use Rattle.scene_reader.proofs.Runs.{limits-within, limits-passed}
 use Rattle.scene_reader.proofs.Theorem as rows
 use Rattle.scene_table.specs.Scene.{sceneNumbers}
@@ -39,7 +39,7 @@ module _ (text : List ℕ) (n m : ℕ) where
       (w .0, (w .1, accepted-passes text n m (h .0) (sym (limits-passed text n m l) ∙ h .1)))
 
   -- within the limits the run decides
-  within-limits : length text ≤ sceneMaxLength → tableMinEntries ≤ m → readOf text n m ≡ run (start n m) (pieces lineEnd text)
+  within-limits : length text ≤ sceneMaxLength → tableMinEntries ≤ m → readOf text n m ≡ linesOutcome (readerStart n m) (pieces lineEnd text)
   unfolding sceneLimitRows
   within-limits a b = limits-passed text n m (all-pass-passed (sceneLimitRows text m) (le-leb (length text) sceneMaxLength a, (le-leb tableMinEntries m b, tt)))
 

@@ -6,7 +6,7 @@ use mathlib.Core.List.{List, _++_, append-assoc, map-id}
 use Prim.Native.Nat.{ℕ, _-_}
 use lib.ListN.{length, replicate}
 use Rattle.octets.proofs.Parts.{part-back}
-use Rattle.scene_table.specs.Scene.{Scene, sceneBytes, padded, sceneStore, sceneTable}
+use Rattle.scene_table.specs.Scene.{Scene, sceneBytes, zeroPadded, sceneStore, sceneTable}
 use Rattle.scene_table.specs.Lent.{storeBytes, sceneIn}
 use Rattle.scene_table.specs.Valid.{sceneOk}
 use Rattle.scene_table.proofs.PlaceLaws.{Given, lent-given}
@@ -15,7 +15,7 @@ use Rattle.scene_table.proofs.SceneBack.{sayable, scene-back}
 
 -- a part of a scene's bytes is read back from its store
 store-gives : (s : Scene) (n : ℕ) → Gives (storeBytes (sceneStore s n)) (λ q. q) (sceneBytes s)
-unfolding storeBytes sceneStore padded
+unfolding storeBytes sceneStore zeroPadded
 store-gives s n p q r at k e lp lq =
     let z : List ℕ = replicate (n - length (sceneBytes s)) 0 in
     let f : sceneBytes s ++ z ≡ p ++ (q ++ (r ++ z)) = ap (λ (b : List ℕ). b ++ z) e ∙ (append-assoc p (q ++ r) z ∙ ap (λ (b : List ℕ). p ++ b) (append-assoc q r z)) in

@@ -12,7 +12,7 @@ use Rattle.octets.proofs.Same.{same-eq, eq-same}
 use Rattle.octets.specs.Lists.{every}
 use Rattle.protocol.specs.Limits.{tableMinEntries}
 use Rattle.octets.proofs.Every.{every-map}
-use Rattle.scene_table.specs.Scene.{Cell, Input, Scene, Line, cellBytes, cellLengths, bytesLine, hashLine, inputLine, cellLine, linesOf, sceneBytes, countsOf, recordsFrom, sceneNumbers, padded, sceneTable}
+use Rattle.scene_table.specs.Scene.{Cell, Input, Scene, Line, cellBytes, cellLengths, bytesLine, hashLine, inputLine, cellLine, linesOf, sceneBytes, countsOf, recordsFrom, sceneNumbers, zeroPadded, sceneTable}
 use Rattle.scene_table.specs.Lent.{cellFrom, blankScene}
 use Rattle.scene_table.specs.Valid.{bytesOk, hashBytesOk, cellOk, inputOk, fewOf, digitsOk, sceneOk, validTable}
 use Rattle.scene_table.proofs.Lines.{total, total-joined, total-append, records-append}
@@ -106,7 +106,7 @@ zeroed-numbers s =
 
 zeroed-table : (s : Scene) (m : ℕ) → sceneTable (sceneWith zeroed s) m ≡ sceneTable s m
 unfolding sceneTable
-zeroed-table s m = ap (padded m) (zeroed-numbers s)
+zeroed-table s m = ap (zeroPadded m) (zeroed-numbers s)
 
 zeroed-long : (s : Scene) → length (sceneBytes (sceneWith zeroed s)) ≡ length (sceneBytes s)
 unfolding sceneBytes
