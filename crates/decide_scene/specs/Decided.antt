@@ -8,6 +8,7 @@ use Rattle.protocol.specs.declared.error.ProtocolError.the-variants.{SceneTooLo
 use Rattle.protocol.specs.declared.check.Check.the-variants.{Failed}
 use Rattle.protocol.specs.Rows.{checkNumber}
 use Rattle.scene_reader.specs.Reader.{ReaderOutcome, refused, held, readOf}
+use Rattle.account_lock.specs.declared.answer.LockAnswer.{LockAnswer}
 use Rattle.account_lock.specs.Lock as lock
 use Rattle.answer_line.specs.Line.{lineOf}
 use Rattle.protocol.specs.Limits.{tableMinEntries, answerBufferLength}
@@ -22,6 +23,10 @@ decidedBy (held h) room = lock.lockOf (h .table) (h .store) room
 unfoldable pub decided : List ℕ → ℕ → ℕ → ℕ → lock.Result
 decided scene n m room = decidedBy (readOf scene n m) room
 
+-- the same with a store, a table and an answer buffer as long as these
+abbrev pub decidedInto : List ℕ → List ℕ → List ℕ → List ℕ → lock.Result
+decidedInto scene store table answer = decided scene (length store) (length table) (length answer)
+
 -- 01: "A program reads a scene of up to 65,536 bytes (more is 1)"
 abbrev pub programSceneMaxLength : ℕ
 programSceneMaxLength = 65536
@@ -35,6 +40,10 @@ programDecides scene =
 -- "prints one line `answer,NUMBER,COUNT,LENGTH,DIGEST`"
 unfoldable pub resultLine : lock.Result → List ℕ
 resultLine r = lineOf (checkNumber (r .found)) (r .count) (length (r .made)) (r .reached) (r .digest)
+
+-- the line of what the lock answers in the code
+abbrev pub lockAnswerLine : LockAnswer → List ℕ
+lockAnswerLine found = lineOf (checkNumber (found .found)) (found .count) (found .length) (found .reached) (found .digest)
 
 -- the line that the program prints of a scene
 unfoldable pub programLine : List ℕ → List ℕ

@@ -113,6 +113,10 @@ sceneRows scene n m = sceneLimitRows scene m ++ linesRows (readerStart n m) (pie
 unfoldable pub readOf : List ℕ → ℕ → ℕ → ReaderOutcome
 readOf scene n m = outcomeAfter (decide Passed (sceneRows scene n m)) (linesPut (readerStart n m) (pieces lineEnd scene))
 
+-- the same with a store and a table as long as these
+abbrev pub readInto : List ℕ → List ℕ → List ℕ → ReaderOutcome
+readInto scene store table = readOf scene (length store) (length table)
+
 -- what the reader answers
 abbrev pub readerCheck : ReaderOutcome → Check
 readerCheck (refused e) = Failed e

@@ -7,6 +7,12 @@ use Rattle.protocol.specs.Rows.{decide}
 use Rattle.protocol.specs.declared.check.Check.the-variants.{Passed}
 use Rattle.scene_line.specs.declared.kind.Kind.{Kind}
 use Rattle.protocol.specs.Limits.{sceneMaxLength, tableMinEntries, kindMaxLines}
+use mathlib.Core.Path.{_≡_}
+use lib.ListN.{length}
+use Rattle.protocol.specs.declared.check.Check.{Check}
+use Rattle.scene_line.specs.declared.fields.FieldsFound.{FieldsFound}
+use Rattle.scene_line.specs.Line.{fieldsFound}
+use Rattle.scene_line.specs.Kind.{firstForm}
 use Rattle.scene_reader.specs.declared.state.State.{State}
 use Rattle.scene_reader.specs.declared.state.LineStep.{LineStep}
 use Rattle.scene_reader.specs.declared.state.LineStep.the-variants.{Next, Refused}
@@ -24,6 +30,12 @@ stepOutcome (Refused e) store table = refused e
 -- a line of kind k with the fields fs: its rows, and then it is put down
 abbrev pub lineOutcomeAs : ReaderState → Kind → List (List ℕ) → ReaderOutcome
 lineOutcomeAs h k fs = outcomeAfter (decide Passed (lineRows h k fs)) (linePutAs h k fs)
+
+-- what the checks of a line of kind k find, for all fields that are as found and every store of room bytes
+abbrev pub LineChecked : Kind → State → FieldsFound → ℕ → Check → Type 0
+LineChecked k s found room r =
+    (fs : List (List ℕ)) (store table : List ℕ) → found ≡ fieldsFound (firstForm k) fs → room ≡ length store
+    → r ≡ decide Passed (lineRows (stateHolding s store table) k fs)
 
 -- a line of the text
 abbrev pub lineOutcome : ReaderState → List ℕ → ReaderOutcome

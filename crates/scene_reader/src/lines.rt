@@ -22,14 +22,12 @@ ghost use mathlib.Core.Bool.{true};
 ghost use mathlib.Core.List.{List};
 ghost use Prim.Native.Nat.{ℕ, _+_, _≤_};
 ghost use lib.ListN.{length, replicate};
-ghost use Rattle.protocol.specs.Rows.{decide};
 ghost use Rattle.protocol.specs.declared.check.Check.the-variants.{Passed};
 ghost use Rattle.scene_text.specs.Text.{pieces, comma, lineEnd};
-ghost use Rattle.scene_line.specs.Kind.{rank, fieldCount, firstForm, follows};
-ghost use Rattle.scene_line.specs.Line.{fieldsFound};
+ghost use Rattle.scene_line.specs.Kind.{rank, fieldCount, follows};
 ghost use Rattle.protocol.specs.Limits.{sceneMaxLength, tableMinEntries, kindMaxLines};
-ghost use Rattle.scene_reader.specs.Reader.{seenWith, lineRows, linesOutcome, readerStart};
-ghost use Rattle.scene_reader.specs.Room.{lineOutcomeAs, lineOutcome, sceneEndOutcome, ReaderReady, ReadyAfter, stateHolding, stepOutcome};
+ghost use Rattle.scene_reader.specs.Reader.{seenWith, linesOutcome, readerStart};
+ghost use Rattle.scene_reader.specs.Room.{lineOutcomeAs, lineOutcome, sceneEndOutcome, ReaderReady, ReadyAfter, stateHolding, stepOutcome, LineChecked};
 
 // How many lines of the kind of rank k were read, with this one.
 pub(crate) fn seen_with(last: usize, seen: usize, k: usize) -> usize
@@ -45,7 +43,7 @@ pub(crate) fn seen_with(last: usize, seen: usize, k: usize) -> usize
 // What the rows of a line of kind k find, its fields and a store of room bytes being as found.
 fn check_line(k: Kind, s: State, found: FieldsFound, room: usize) -> Check
     requires { ⌜ (s .seen ≤ kindMaxLines) × (s .used + found .bytes ≤ sceneMaxLength) ⌝ }
-    ensures { λ r. ⌜ ((fs : List (List ℕ)) (store table : List ℕ) → found ≡ fieldsFound (firstForm k) fs → room ≡ length store → r ≡ decide Passed (lineRows (stateHolding s store table) k fs)) ⌝ }
+    ensures { λ r. ⌜ LineChecked k s found room r ⌝ }
 {
     let p = rank_of(k);
     let seen = seen_with(s.last, s.seen, p);
@@ -60,7 +58,8 @@ fn check_line(k: Kind, s: State, found: FieldsFound, room: usize) -> Check
 fn read_as(k: Kind, fields: &[u8], s: State, store: &mut [u8], table: &mut [u32]) -> LineStep
     requires { ⌜ ReaderReady s (length (now fields)) (length (now store)) (length (now table)) ⌝ }
     requires { ⌜ ((rank k ≡ 0 → ⊥) → (length (pieces comma (now fields)) ≡ fieldCount k) × (follows (s .last) (rank k) ≡ true)) ⌝ }
-    ensures { λ r. ⌜ stepOutcome r (now (store .exit)) (now (table .exit)) ≡ lineOutcomeAs (stateHolding s (now (store .entry)) (now (table .entry))) k (pieces comma (now (fields .entry))) ⌝ }
+    ensures { λ r. ⌜ stepOutcome r (now (store .exit)) (now (table .exit))
+        ≡ lineOutcomeAs (stateHolding s (now (store .entry)) (now (table .entry))) k (pieces comma (now (fields .entry))) ⌝ }
     ensures { λ r. ⌜ ReadyAfter s (length (now (fields .entry))) (length (now (store .entry))) (length (now (table .entry))) r ⌝ }
 {
     let found = check_fields(first_form(k), fields);
@@ -73,7 +72,8 @@ fn read_as(k: Kind, fields: &[u8], s: State, store: &mut [u8], table: &mut [u32]
 // One line.
 fn read_line(line: &[u8], s: State, store: &mut [u8], table: &mut [u32]) -> LineStep
     requires { ⌜ ReaderReady s (length (now line)) (length (now store)) (length (now table)) ⌝ }
-    ensures { λ r. ⌜ stepOutcome r (now (store .exit)) (now (table .exit)) ≡ lineOutcome (stateHolding s (now (store .entry)) (now (table .entry))) (now (line .entry)) ⌝ }
+    ensures { λ r. ⌜ stepOutcome r (now (store .exit)) (now (table .exit))
+        ≡ lineOutcome (stateHolding s (now (store .entry)) (now (table .entry))) (now (line .entry)) ⌝ }
     ensures { λ r. ⌜ ReadyAfter s (length (now (line .entry))) (length (now (store .entry))) (length (now (table .entry))) r ⌝ }
 {
     let e = find(line, COMMA);
@@ -102,7 +102,8 @@ fn finish_at(s: State, rest: &[u8]) -> LineStep
 pub(crate) fn read_lines(scene: &[u8], store: &mut [u8], table: &mut [u32]) -> LineStep
     requires { ⌜ (length (now scene) ≤ sceneMaxLength) × (tableMinEntries ≤ length (now table)) ⌝ }
     requires { ⌜ (now store ≡ replicate (length (now store)) 0) × (now table ≡ replicate (length (now table)) 0) ⌝ }
-    ensures { λ r. ⌜ stepOutcome r (now (store .exit)) (now (table .exit)) ≡ linesOutcome (readerStart (length (now (store .entry))) (length (now (table .entry)))) (pieces lineEnd (now (scene .entry))) ⌝ }
+    ensures { λ r. ⌜ stepOutcome r (now (store .exit)) (now (table .exit))
+        ≡ linesOutcome (readerStart (length (now (store .entry))) (length (now (table .entry)))) (pieces lineEnd (now (scene .entry))) ⌝ }
 {
     let mut rest = scene;
     let mut s = State {

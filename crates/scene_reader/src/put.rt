@@ -83,7 +83,8 @@ pub(crate) fn put_line(
     requires { ⌜ s .used + n ≤ length (now store) ⌝ }
     requires { ⌜ (length (now fields) ≤ sceneMaxLength) × (s .used ≤ sceneMaxLength) × (s .seen ≤ kindMaxLines) ⌝ }
     requires { ⌜ (rank k < length (now table)) × (s .filled + 1 + length (lineEntries (firstForm k) (pieces comma (now fields))) ≤ length (now table)) ⌝ }
-    ensures { λ r. ⌜ stateHolding r (now (store .exit)) (now (table .exit)) ≡ linePutAs (stateHolding s (now (store .entry)) (now (table .entry))) k (pieces comma (now (fields .entry))) ⌝ }
+    ensures { λ r. ⌜ stateHolding r (now (store .exit)) (now (table .exit))
+        ≡ linePutAs (stateHolding s (now (store .entry)) (now (table .entry))) k (pieces comma (now (fields .entry))) ⌝ }
 {
     let p = rank_of(k);
     let used = s.used;

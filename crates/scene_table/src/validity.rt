@@ -136,7 +136,8 @@ fn walk_records(
     walk: RecordsWalk,
 ) -> RecordsWalk
     requires { ⌜ first < 2 ^ 38 ⌝ }
-    ensures { λ r. ⌜ r ≡ walkRecords (now (table .entry)) (recordOk (now (table .entry)) form) (recordSize (now (table .entry)) form) (recordWidth form) n first walk ⌝ }
+    ensures { λ r. ⌜ r
+        ≡ walkRecords (now (table .entry)) (recordOk (now (table .entry)) form) (recordSize (now (table .entry)) form) (recordWidth form) n first walk ⌝ }
 {
     let width = record_width(form);
     let mut at = first;
