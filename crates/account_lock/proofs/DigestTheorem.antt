@@ -32,7 +32,7 @@ use Rattle.authorization.specs.Hashed.{hashedWitness}
 use Rattle.authorization.specs.Sighash.{hashedWitnesses, sighashInput}
 use Rattle.authorization.proofs.SighashTheorem.{sighash-theorem}
 use Rattle.scene_table.specs.Scene.{Input, Scene}
-use Rattle.scene_table.specs.Lent.{tableEntry, sceneFrom, storeBytes, sceneIn, blankScene, witnessCount}
+use Rattle.scene_table.specs.Lent.{tableEntry, sceneFrom, sceneIn, blankScene, witnessCount, transactionPlace}
 use Rattle.scene_table.specs.Valid.{validTable}
 use Rattle.octets.proofs.Truth.{and-both}
 use Rattle.scene_table.proofs.Records.{length-records}
@@ -44,6 +44,7 @@ use Rattle.state_transition.specs.Resolve.{resolveRows}
 use Rattle.account_state.specs.Fields.{sequenceOf}
 use Rattle.protocol.specs.Limits.{tableMinEntries, kindMaxLines}
 use Rattle.octets.proofs.Every.{every-split}
+use Rattle.octets.specs.Places.{bytesAt}
 use Rattle.account_lock.specs.Lock.{account, operation, current, statesRows, lateRows, earlyRows, digest, Result, refused, walked, orWalked, walkResult, lockScene, lockOf}
 use Rattle.account_lock.proofs.LockLaws.{group-table}
 use Rattle.account_lock.proofs.LockTheorem.{late, lock-valid}
@@ -130,7 +131,7 @@ few-witnesses table store n v =
 
 -- the transaction hash has at most 32 bytes
 short-transaction : (table store : List ℕ) → length (sceneIn table store .transaction) ≤ 32
-unfolding sceneIn sceneFrom storeBytes
+unfolding sceneIn sceneFrom transactionPlace bytesAt
 short-transaction table store = let n = length-take 32 (drop (tableEntry table 10) store) in omega arith
 
 -- every row before the proofs' passes, so all other hashed witnesses fit

@@ -4,8 +4,8 @@ use Prim.Native.Nat.{ℕ}
 use mathlib.Core.Bool.{cond}
 use mathlib.Core.List.{List}
 use lib.Dec.{ltb}
-use Rattle.scene_table.specs.Lent.{inputCount, outputCount, depCount}
-use Rattle.scene_table.specs.Places.{placeAt, inputPlaces, outputPlaces, depPlaces}
+use Rattle.scene_table.specs.Lent.{inputCount, outputCount, depCount, placeAt}
+use Rattle.scene_table.specs.Places.{inputPlaces, outputPlaces, depPlaces}
 use Rattle.scene_table.specs.declared.places.CellPlaces.{CellPlaces}
 use Rattle.cell_search.specs.declared.cells.Source.{Source}
 use Rattle.cell_search.specs.declared.cells.Source.the-variants.{Input, Output, CellDep}

@@ -14,13 +14,13 @@ use Rattle.octets.proofs.Parts.{part-back}
 use Rattle.octets.specs.Lists.{every}
 use Rattle.protocol.specs.Limits.{tableMinEntries}
 use Rattle.scene_table.specs.Scene.{linesOf, recordsFrom, countsOf, sceneBytes, sceneNumbers, zeroPadded, sceneTable}
-use Rattle.scene_table.specs.Lent.{tableEntry, inputsAt, outputsAt, depsAt, witnessesAt, verdictsAt, recordsAt, inputFrom, cellRecordFrom, bytesFrom, sceneFrom, blankScene, inputCount, outputCount, depCount, witnessCount, digitCount}
+use Rattle.scene_table.specs.Lent.{tableEntry, inputsAt, outputsAt, depsAt, witnessesAt, verdictsAt, recordsAt, inputFrom, cellRecordFrom, bytesFrom, sceneFrom, blankScene, inputCount, outputCount, depCount, witnessCount, digitCount, bytesPlace, scriptPlace, transactionPlace, zerosAt}
 use Rattle.scene_table.specs.Valid.{validTable}
 use Rattle.scene_table.specs.RecordsWalk.{recordsStart, walkLines, countsOk, zerosBehind, restOk}
 use Rattle.scene_table.proofs.Records.{length-records}
 use Rattle.scene_table.proofs.Lines.{total, total-joined, cut, cut-take}
 use Rattle.octets.proofs.Truth.{and-both, both-and, same-truth}
-use Rattle.scene_table.proofs.WholeWalk.{blank, span, Groups, whole}
+use Rattle.scene_table.proofs.WholeWalk.{span, Groups, whole}
 use Rattle.scene_table.proofs.BlankScene.{blank-ok}
 
 -- zeros, and lists that are
@@ -45,13 +45,13 @@ cut-entries table = refl
 module _ (table : List ℕ) where
   -- the counts that the table says
   said-counts : countsOf (blankScene table) ≡ 0 ∷ 1 ∷ 1 ∷ inputCount table ∷ outputCount table ∷ depCount table ∷ witnessCount table ∷ 1 ∷ []
-  unfolding countsOf blankScene sceneFrom
+  unfolding countsOf blankScene sceneFrom scriptPlace transactionPlace bytesPlace
   said-counts =
       rw (
-        length-records (inputFrom blank table) 6 (inputCount table) inputsAt,
-        length-records (cellRecordFrom blank table) 3 (outputCount table) (outputsAt table),
-        length-records (cellRecordFrom blank table) 3 (depCount table) (depsAt table),
-        length-records (bytesFrom blank table) 2 (witnessCount table) (witnessesAt table),
+        length-records (inputFrom zerosAt table) 6 (inputCount table) inputsAt,
+        length-records (cellRecordFrom zerosAt table) 3 (outputCount table) (outputsAt table),
+        length-records (cellRecordFrom zerosAt table) 3 (depCount table) (depsAt table),
+        length-records (bytesFrom zerosAt table) 2 (witnessCount table) (witnessesAt table),
       )
 
   -- the records end behind the last digit

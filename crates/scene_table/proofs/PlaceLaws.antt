@@ -7,8 +7,8 @@ use lib.Dec.{eqb}
 use lib.ListN.{length}
 use Rattle.octets.specs.Places as octets
 use Rattle.scene_table.specs.Scene.{Input, Scene}
-use Rattle.scene_table.specs.Lent.{tableEntry, inputsAt, outputsAt, depsAt, witnessesAt, verdictsAt, cellFrom, inputFrom, cellRecordFrom, bytesFrom, sceneFrom, storeBytes, sceneIn, blankScene, inputCount, outputCount, depCount, witnessCount, digitCount}
-use Rattle.scene_table.specs.Places.{placeAt, cellFieldPlaces, bytesPlace, recordPlaces, scriptPlace, transactionPlace, inputAt, inputGroup, inputSince, inputPlaces, outputPlaces, depPlaces, witnessPlace, verdictAt, verdictOf, cellIn}
+use Rattle.scene_table.specs.Lent.{tableEntry, inputsAt, outputsAt, depsAt, witnessesAt, verdictsAt, cellFrom, inputFrom, cellRecordFrom, bytesFrom, sceneFrom, sceneIn, blankScene, inputCount, outputCount, depCount, witnessCount, digitCount, cellFieldPlaces, bytesPlace, cellRecordPlaces, scriptPlace, transactionPlace, inputRecordPlaces}
+use Rattle.scene_table.specs.Places.{inputAt, inputGroup, inputSince, inputPlaces, outputPlaces, depPlaces, witnessPlace, verdictAt, verdictOf, cellIn}
 use Rattle.scene_table.proofs.Records.{Listed, length-records, records-listed}
 
 -- input i of a table and a store
@@ -36,14 +36,14 @@ pub record Given (table store : List ℕ) (s : Scene) : Type 0 where
   pub verdicts : (i : ℕ) → verdictAt (s .digits) i ≡ verdictOf table i
 
 pub lent-given : (table store : List ℕ) → Given table store (sceneIn table store)
-unfolding sceneIn blankScene sceneFrom lentInput inputAt inputSince inputPlaces outputPlaces depPlaces witnessPlace scriptPlace transactionPlace bytesPlace recordPlaces cellIn octets.bytesAt cellFieldPlaces placeAt inputFrom cellRecordFrom cellFrom bytesFrom storeBytes digitCount verdictOf
+unfolding sceneIn blankScene sceneFrom scriptPlace transactionPlace bytesPlace lentInput inputAt inputSince inputPlaces outputPlaces depPlaces witnessPlace cellRecordPlaces octets.bytesAt cellFieldPlaces inputFrom inputRecordPlaces cellFrom digitCount verdictOf
 lent-given table store = record {
   script = refl;
   transaction = refl;
-  inputs = records-listed (inputFrom (storeBytes store) table) 6 (inputCount table) inputsAt;
-  outputs = records-listed (cellRecordFrom (storeBytes store) table) 3 (outputCount table) (outputsAt table);
-  deps = records-listed (cellRecordFrom (storeBytes store) table) 3 (depCount table) (depsAt table);
-  witnesses = records-listed (bytesFrom (storeBytes store) table) 2 (witnessCount table) (witnessesAt table);
+  inputs = records-listed (inputFrom (octets.bytesAt store) table) 6 (inputCount table) inputsAt;
+  outputs = records-listed (cellRecordFrom (octets.bytesAt store) table) 3 (outputCount table) (outputsAt table);
+  deps = records-listed (cellRecordFrom (octets.bytesAt store) table) 3 (depCount table) (depsAt table);
+  witnesses = records-listed (bytesFrom (octets.bytesAt store) table) 2 (witnessCount table) (witnessesAt table);
   digits = length-records (tableEntry table) 1 (tableEntry table (verdictsAt table + 1)) (verdictsAt table + 2);
   verdicts = λ i. refl;
 }

@@ -11,8 +11,9 @@ use lib.Dec.{leb, ltb}
 use lib.ListN.{length, replicate, length-append}
 use Rattle.octets.proofs.Parts.{part-back}
 use Rattle.octets.specs.Lists.{every}
+use Rattle.octets.specs.declared.place.Place.{Place}
 use Rattle.scene_table.specs.Scene.{Cell, Input, Scene, Line, cellLengths, bytesLine, hashLine, inputLine, cellLine, digitsLine, linesOf, sceneBytes, countsOf, recordsFrom, sceneNumbers, zeroPadded, sceneTable}
-use Rattle.scene_table.specs.Lent.{tableEntry, inputsAt, outputsAt, depsAt, witnessesAt, verdictsAt, recordsAt, inputFrom, cellRecordFrom, bytesFrom, sceneFrom, inputCount, outputCount, depCount, witnessCount, digitCount}
+use Rattle.scene_table.specs.Lent.{tableEntry, inputsAt, outputsAt, depsAt, witnessesAt, verdictsAt, recordsAt, inputFrom, cellRecordFrom, bytesFrom, sceneFrom, inputCount, outputCount, depCount, witnessCount, digitCount, bytesPlace, scriptPlace, transactionPlace}
 use Rattle.scene_table.specs.Valid.{bytesOk, hashBytesOk, cellOk, inputOk, fewOf, digitsOk, sceneOk}
 use Rattle.scene_table.proofs.Lines.{total, records-append, cut, cut-take, fromInputs, fromOutputs, fromDeps, fromWitnesses, lines-by-kind}
 use Rattle.octets.proofs.Truth.{and-both}
@@ -168,7 +169,7 @@ module _ (s : Scene) (m : ℕ) where
   unfolding verdictsAt
   verdicts-place = rw (witnesses-place, counts .3)
 
-  module _ (from : ℕ → ℕ → List ℕ) (g : List ℕ → List ℕ) (gives : Gives from g (sceneBytes s)) (ok : Sayable s) where
+  module _ (from : Place → List ℕ) (g : List ℕ → List ℕ) (gives : Gives from g (sceneBytes s)) (ok : Sayable s) where
     T : List ℕ
     T = sceneTable s m
 
@@ -177,7 +178,7 @@ module _ (s : Scene) (m : ℕ) where
 
     -- a scene's table read back
     pub scene-back : sceneFrom from (sceneTable s m) ≡ sceneWith g s
-    unfolding sceneFrom sceneWith fromInputs fromOutputs fromDeps fromWitnesses inputsAt digitCount T B
+    unfolding sceneFrom scriptPlace transactionPlace bytesPlace sceneWith fromInputs fromOutputs fromDeps fromWitnesses inputsAt digitCount T B
     scene-back =
         let i = s .inputs in
         let o = s .outputs in

@@ -13,11 +13,10 @@ use Rattle.octets.specs.Lists.{every}
 use Rattle.protocol.specs.Limits.{tableMinEntries}
 use Rattle.octets.proofs.Every.{every-map}
 use Rattle.scene_table.specs.Scene.{Cell, Input, Scene, Line, cellBytes, cellLengths, bytesLine, hashLine, inputLine, cellLine, linesOf, sceneBytes, countsOf, recordsFrom, sceneNumbers, zeroPadded, sceneTable}
-use Rattle.scene_table.specs.Lent.{cellFrom, blankScene}
+use Rattle.scene_table.specs.Lent.{cellFrom, blankScene, cellFieldPlaces, zerosAt}
 use Rattle.scene_table.specs.Valid.{bytesOk, hashBytesOk, cellOk, inputOk, fewOf, digitsOk, sceneOk, validTable}
 use Rattle.scene_table.proofs.Lines.{total, total-joined, total-append, records-append}
 use Rattle.octets.proofs.Truth.{and-both}
-use Rattle.scene_table.proofs.WholeWalk.{blank}
 use Rattle.scene_table.proofs.BlankScene.{blank-bytes, blank-hash, blank-cell}
 use Rattle.scene_table.proofs.ReadBack.{cellWith, inputWith, sceneWith, hash-long, cell-hashes}
 use Rattle.scene_table.proofs.SceneBack.{Sayable, sayable, scene-back}
@@ -114,7 +113,7 @@ zeroed-long s = total-joined (linesOf (sceneWith zeroed s)) ∙ (alike-lines s .
 
 -- and one is a scene that a text can say where the other is
 zeroed-cell : (c : Cell) → cellOk c ≡ true → cellOk (cellWith zeroed c) ≡ true
-unfolding cellFrom cellWith
+unfolding cellFrom cellFieldPlaces cellWith
 zeroed-cell c h =
     let l = cell-hashes c h in
     rw (← l .0, l .1) (blank-cell 0 (length (c .typeScript)) (length (c .content)))
@@ -152,7 +151,7 @@ zeroed-ok s ok =
 -- a table says the zeroed scene of a scene that leaves it
 blank-scene : (s : Scene) (m : ℕ) → Sayable s → blankScene (sceneTable s m) ≡ sceneWith zeroed s
 unfolding blankScene
-blank-scene s m ok = scene-back s m blank zeroed (λ p q r at n e lp lq. rw lq) ok
+blank-scene s m ok = scene-back s m zerosAt zeroed (λ p q r at n e lp lq. rw lq) ok
 
 -- a table that a scene leaves passes
 pub scene-passes : (table : List ℕ) (n : ℕ) (s : Scene) → tableMinEntries ≤ length table → sceneOk s ≡ true → length (sceneBytes s) ≤ n → table ≡ sceneTable s (length table)

@@ -8,7 +8,7 @@ use native.Mathlib.Omega.{arith}
 use lib.ListN.{length, replicate, length-append, length-replicate}
 use Rattle.octets.specs.Lists.{every}
 use Rattle.scene_table.specs.Scene.{Line, cellBytes, cellLengths, bytesLine, hashLine, inputLine, cellLine, digitsLine, linesOf}
-use Rattle.scene_table.specs.Lent.{tableEntry, inputsAt, outputsAt, depsAt, witnessesAt, verdictsAt, recordsAt, cellFrom, inputFrom, cellRecordFrom, bytesFrom, sceneFrom, blankScene, inputCount, witnessCount, outputCount, depCount, digitCount}
+use Rattle.scene_table.specs.Lent.{tableEntry, inputsAt, outputsAt, depsAt, witnessesAt, verdictsAt, recordsAt, cellFrom, inputFrom, cellRecordFrom, bytesFrom, sceneFrom, blankScene, inputCount, witnessCount, outputCount, depCount, digitCount, cellRecordPlaces, cellFieldPlaces, bytesPlace, inputRecordPlaces, scriptPlace, transactionPlace, zerosAt, placeAt}
 use Rattle.scene_table.specs.RecordsWalk.{withRecord, cellSize, recordStep, walkRecords, anyRecord, groupOk, bytesSize, cellRecordSize, inputSize, recordsStart, walkHead, walkInputs, walkOutputs, walkDeps, walkWitnesses, walkLines}
 use Rattle.scene_table.specs.declared.validity.RecordsWalk.{RecordsWalk}
 use Rattle.scene_table.proofs.Records.{length-records}
@@ -17,9 +17,6 @@ use Rattle.scene_table.proofs.Lines.{cut, fromInputs, fromOutputs, from
 use Rattle.scene_table.proofs.Segments.{Segment, join, retest, record-segment, records-segment}
 
 -- bytes of a length, all zero
-abbrev pub blank : ℕ → ℕ → List ℕ
-blank at n = replicate n 0
-
 pub map-records : {A B : Type 0} (f : A → B) (read : ℕ → A) (w n at : ℕ) → map f (recordsAt read w n at) ≡ recordsAt (λ i. f (read i)) w n at
 unfolding recordsAt
 map-records f read w zero at = refl
@@ -33,24 +30,24 @@ every-any (x ∷ xs) = every-any xs
 length-blank : (n : ℕ) → length {A = ℕ} (replicate n 0) ≡ n
 length-blank n = length-replicate {A = ℕ} n 0
 
-blank-cell : (start script content : ℕ) → length (cellBytes (cellFrom blank start script content)) ≡ cellSize script content
-unfolding cellBytes cellFrom cellSize
+blank-cell : (start script content : ℕ) → length (cellBytes (cellFrom zerosAt (cellFieldPlaces start script content))) ≡ cellSize script content
+unfolding cellBytes cellFrom cellFieldPlaces cellSize
 blank-cell start script content = simp (length-append, length-replicate) (omega arith)
 
 module _ (table : List ℕ) where
   -- the table's own numbers
-  own-bytes : (at : ℕ) → bytesLine (bytesFrom blank table at) .numbers ≡ cut table 1 (at + 1)
-  unfolding bytesLine bytesFrom cut recordsAt
+  own-bytes : (at : ℕ) → bytesLine (bytesFrom zerosAt table at) .numbers ≡ cut table 1 (at + 1)
+  unfolding bytesLine bytesPlace cut recordsAt
   own-bytes at = rw (length-blank (tableEntry table (at + 1)))
 
-  own-cell : (at : ℕ) → cellLine (cellRecordFrom blank table at) .numbers ≡ cut table 2 (at + 1)
-  unfolding cellLine cellLengths cellRecordFrom cellFrom cut recordsAt
+  own-cell : (at : ℕ) → cellLine (cellRecordFrom zerosAt table at) .numbers ≡ cut table 2 (at + 1)
+  unfolding cellLine cellLengths cellRecordPlaces cellFieldPlaces cellFrom cut recordsAt
   own-cell at =
       let two : at + 1 + 1 ≡ at + 2 = omega arith in
       rw (two, length-blank (tableEntry table (at + 1)), length-blank (tableEntry table (at + 2)))
 
-  own-input : ((i : ℕ) → tableEntry table i < 2 ^ 32) → (at : ℕ) → inputLine (inputFrom blank table at) .numbers ≡ cut table 5 (at + 1)
-  unfolding inputLine cellLengths inputFrom cellFrom cut recordsAt
+  own-input : ((i : ℕ) → tableEntry table i < 2 ^ 32) → (at : ℕ) → inputLine (inputFrom zerosAt table at) .numbers ≡ cut table 5 (at + 1)
+  unfolding inputLine cellLengths inputFrom inputRecordPlaces cellFrom cellFieldPlaces cut recordsAt
   own-input small at =
       let two : at + 1 + 1 ≡ at + 2 = omega arith in
       let three : at + 2 + 1 ≡ at + 3 = omega arith in
@@ -88,33 +85,33 @@ module _ (table : List ℕ) where
 
   -- the lines that the table says, kind by kind
   inputRecords : List Line
-  inputRecords = recordsAt (λ i. inputLine (inputFrom blank table i)) 6 (inputCount table) inputsAt
+  inputRecords = recordsAt (λ i. inputLine (inputFrom zerosAt table i)) 6 (inputCount table) inputsAt
 
   cellRecords : ℕ → ℕ → List Line
-  cellRecords n at = recordsAt (λ i. cellLine (cellRecordFrom blank table i)) 3 n at
+  cellRecords n at = recordsAt (λ i. cellLine (cellRecordFrom zerosAt table i)) 3 n at
 
   witnessRecords : List Line
-  witnessRecords = recordsAt (λ i. bytesLine (bytesFrom blank table i)) 2 (witnessCount table) (witnessesAt table)
+  witnessRecords = recordsAt (λ i. bytesLine (bytesFrom zerosAt table i)) 2 (witnessCount table) (witnessesAt table)
 
   digitsRecord : Line
   digitsRecord = digitsLine (recordsAt (tableEntry table) 1 (digitCount table) (verdictsAt table + 2))
 
   kinds : List Line
   kinds =
-      (bytesLine (bytesFrom blank table 8) ∷ [])
-      ++ ((hashLine (blank (tableEntry table 10) 32) ∷ [])
+      (bytesLine (bytesFrom zerosAt table 8) ∷ [])
+      ++ ((hashLine (zerosAt (placeAt (tableEntry table 10) 32)) ∷ [])
       ++ (inputRecords
       ++ (cellRecords (outputCount table) (outputsAt table) ++ (cellRecords (depCount table) (depsAt table) ++ (witnessRecords ++ (digitsRecord ∷ []))))))
 
   lines-kinds : linesOf (blankScene table) ≡ kinds
-  unfolding blankScene sceneFrom digitCount inputRecords cellRecords witnessRecords digitsRecord kinds fromInputs fromOutputs fromDeps fromWitnesses
+  unfolding blankScene sceneFrom scriptPlace transactionPlace bytesPlace digitCount inputRecords cellRecords witnessRecords digitsRecord kinds fromInputs fromOutputs fromDeps fromWitnesses
   lines-kinds =
       lines-by-kind (blankScene table)
       ∙ rw (
-        map-records inputLine (inputFrom blank table) 6 (inputCount table) inputsAt,
-        map-records cellLine (cellRecordFrom blank table) 3 (outputCount table) (outputsAt table),
-        map-records cellLine (cellRecordFrom blank table) 3 (depCount table) (depsAt table),
-        map-records bytesLine (bytesFrom blank table) 2 (witnessCount table) (witnessesAt table),
+        map-records inputLine (inputFrom zerosAt table) 6 (inputCount table) inputsAt,
+        map-records cellLine (cellRecordFrom zerosAt table) 3 (outputCount table) (outputsAt table),
+        map-records cellLine (cellRecordFrom zerosAt table) 3 (depCount table) (depsAt table),
+        map-records bytesLine (bytesFrom zerosAt table) 2 (witnessCount table) (witnessesAt table),
       )
 
   -- how many entries they have
@@ -126,7 +123,7 @@ module _ (table : List ℕ) where
   Groups = every (groupOk table) (recordsAt (λ (i : ℕ). i) 6 (inputCount table) inputsAt) ≡ true
 
   pub whole : ((i : ℕ) → tableEntry table i < 2 ^ 32) → Segment table Groups recordsStart 8 span (linesOf (blankScene table)) (walkLines table)
-  unfolding walkLines walkWitnesses walkDeps walkOutputs walkInputs walkHead inputsAt outputsAt depsAt witnessesAt verdictsAt inputRecords cellRecords witnessRecords digitsRecord kinds span Groups bytesSize cellRecordSize inputSize bytesLine bytesFrom hashLine digitsLine inputLine cellLine inputFrom cellRecordFrom
+  unfolding walkLines walkWitnesses walkDeps walkOutputs walkInputs walkHead inputsAt outputsAt depsAt witnessesAt verdictsAt inputRecords cellRecords witnessRecords digitsRecord kinds span Groups bytesSize cellRecordSize inputSize bytesLine bytesPlace hashLine digitsLine inputLine cellLine inputFrom inputRecordPlaces cellRecordPlaces cellFieldPlaces
   whole small =
       rw
       lines-kinds
@@ -136,20 +133,20 @@ module _ (table : List ℕ) where
       (λ g. (tt, (tt, (g, (tt, (tt, (tt, tt)))))))
       (join
       table
-      (one (bytesSize table) recordsStart 8 1 (bytesLine (bytesFrom blank table 8)) (length-blank (tableEntry table 9)) (own-bytes 8))
+      (one (bytesSize table) recordsStart 8 1 (bytesLine (bytesFrom zerosAt table 8)) (length-blank (tableEntry table 9)) (own-bytes 8))
       (join
       table
-      (record-one 32 (recordStep table anyRecord (bytesSize table) recordsStart 8) 10 0 (hashLine (blank (tableEntry table 10) 32)) refl (own-hash (blank (tableEntry table 10) 32)))
+      (record-one 32 (recordStep table anyRecord (bytesSize table) recordsStart 8) 10 0 (hashLine (zerosAt (placeAt (tableEntry table 10) 32))) refl (own-hash (zerosAt (placeAt (tableEntry table 10) 32))))
       (join
       table
-      (records-segment table (groupOk table) (inputSize table) 5 (λ i. inputLine (inputFrom blank table i)) (λ i. blank-cell (tableEntry table i) (tableEntry table (i + 4)) (tableEntry table (i + 5))) (own-input small) (inputCount table) inputsAt (walkHead table))
+      (records-segment table (groupOk table) (inputSize table) 5 (λ i. inputLine (inputFrom zerosAt table i)) (λ i. blank-cell (tableEntry table i) (tableEntry table (i + 4)) (tableEntry table (i + 5))) (own-input small) (inputCount table) inputsAt (walkHead table))
       (join
       table
-      (many (cellRecordSize table) 2 (λ i. cellLine (cellRecordFrom blank table i)) (λ i. blank-cell (tableEntry table i) (tableEntry table (i + 1)) (tableEntry table (i + 2))) own-cell (outputCount table) (outputsAt table) (walkInputs table))
+      (many (cellRecordSize table) 2 (λ i. cellLine (cellRecordFrom zerosAt table i)) (λ i. blank-cell (tableEntry table i) (tableEntry table (i + 1)) (tableEntry table (i + 2))) own-cell (outputCount table) (outputsAt table) (walkInputs table))
       (join
       table
-      (many (cellRecordSize table) 2 (λ i. cellLine (cellRecordFrom blank table i)) (λ i. blank-cell (tableEntry table i) (tableEntry table (i + 1)) (tableEntry table (i + 2))) own-cell (depCount table) (depsAt table) (walkOutputs table))
+      (many (cellRecordSize table) 2 (λ i. cellLine (cellRecordFrom zerosAt table i)) (λ i. blank-cell (tableEntry table i) (tableEntry table (i + 1)) (tableEntry table (i + 2))) own-cell (depCount table) (depsAt table) (walkOutputs table))
       (join
       table
-      (many (bytesSize table) 1 (λ i. bytesLine (bytesFrom blank table i)) (λ i. length-blank (tableEntry table (i + 1))) own-bytes (witnessCount table) (witnessesAt table) (walkDeps table))
+      (many (bytesSize table) 1 (λ i. bytesLine (bytesFrom zerosAt table i)) (λ i. length-blank (tableEntry table (i + 1))) own-bytes (witnessCount table) (witnessesAt table) (walkDeps table))
       (record-one 0 (walkWitnesses table) (verdictsAt table) (suc (digitCount table)) (digitsLine (recordsAt (tableEntry table) 1 (digitCount table) (verdictsAt table + 2))) refl own-digits))))))))

@@ -3,9 +3,12 @@
 use Prim.Native.Nat.{ℕ, zero, suc, _+_, _*_, _^_}
 use mathlib.Core.Bool.{cond}
 use mathlib.Core.List.{List, [], _∷_}
-use lib.ListN.{take, drop, getD, replicate}
+use lib.ListN.{getD, replicate}
 use lib.Dec.{eqb}
+use Rattle.octets.specs.declared.place.Place.{Place}
+use Rattle.octets.specs.Places.{bytesAt}
 use Rattle.scene_table.specs.Scene.{Cell, Input, Scene}
+use Rattle.scene_table.specs.declared.places.CellPlaces.{CellPlaces}
 
 unfoldable pub tableEntry : List ℕ → ℕ → ℕ
 tableEntry table i = getD table i 0
@@ -99,32 +102,62 @@ recordsAt read w (suc n) at = read at ∷ recordsAt read w n (at + w)
 unfoldable pub hashLength : ℕ → ℕ
 hashLength script = cond (eqb script 0) 0 32
 
--- A cell, an input, a witness by `from`, which gives the bytes at a place of a length
-unfoldable pub cellFrom : (ℕ → ℕ → List ℕ) → ℕ → ℕ → ℕ → Cell
-cellFrom from start script content = record {
-  typeHash = from start (hashLength script);
-  dataHash = from (start + hashLength script) 32;
-  typeScript = from (start + hashLength script + 32) script;
-  content = from (start + hashLength script + 32 + script) content;
+-- a place of n bytes
+abbrev pub placeAt : ℕ → ℕ → Place
+placeAt start n = record { start = start; len = n }
+
+-- the fields of a cell, by where its bytes begin and the lengths of its type script and its data
+unfoldable pub cellFieldPlaces : ℕ → ℕ → ℕ → CellPlaces
+cellFieldPlaces start script content = record {
+  «type_hash» = placeAt start (hashLength script);
+  «data_hash» = placeAt (start + hashLength script) 32;
+  «type_script» = placeAt (start + hashLength script + 32) script;
+  content = placeAt (start + hashLength script + 32 + script) content;
 }
 
-unfoldable pub inputFrom : (ℕ → ℕ → List ℕ) → List ℕ → ℕ → Input
+-- the bytes of the script's or a witness's record
+unfoldable pub bytesPlace : List ℕ → ℕ → Place
+bytesPlace table at = placeAt (recordOffset table at) (bytesLength table at)
+
+-- the cell of an output's or a dep's record, and that of an input's
+unfoldable pub cellRecordPlaces : List ℕ → ℕ → CellPlaces
+cellRecordPlaces table at = cellFieldPlaces (recordOffset table at) (cellScriptLength table at) (cellDataLength table at)
+
+unfoldable pub inputRecordPlaces : List ℕ → ℕ → CellPlaces
+inputRecordPlaces table at = cellFieldPlaces (recordOffset table at) (inputScriptLength table at) (inputDataLength table at)
+
+unfoldable pub scriptPlace : List ℕ → Place
+scriptPlace table = bytesPlace table scriptAt
+
+unfoldable pub transactionPlace : List ℕ → Place
+transactionPlace table = placeAt (recordOffset table transactionAt) 32
+
+-- the scene of a table by `from`, which gives the bytes at a place
+unfoldable pub cellFrom : (Place → List ℕ) → CellPlaces → Cell
+cellFrom from p = record {
+  typeHash = from (p .«type_hash»);
+  dataHash = from (p .«data_hash»);
+  typeScript = from (p .«type_script»);
+  content = from (p .content);
+}
+
+unfoldable pub inputFrom : (Place → List ℕ) → List ℕ → ℕ → Input
 inputFrom from table at = record {
   group = inputRecordGroup table at;
   since = inputRecordSince table at;
-  cell = cellFrom from (recordOffset table at) (inputScriptLength table at) (inputDataLength table at);
+  cell = cellFrom from (inputRecordPlaces table at);
 }
 
-unfoldable pub cellRecordFrom : (ℕ → ℕ → List ℕ) → List ℕ → ℕ → Cell
-cellRecordFrom from table at = cellFrom from (recordOffset table at) (cellScriptLength table at) (cellDataLength table at)
+abbrev pub cellRecordFrom : (Place → List ℕ) → List ℕ → ℕ → Cell
+cellRecordFrom from table at = cellFrom from (cellRecordPlaces table at)
 
-unfoldable pub bytesFrom : (ℕ → ℕ → List ℕ) → List ℕ → ℕ → List ℕ
-bytesFrom from table at = from (recordOffset table at) (bytesLength table at)
+abbrev pub bytesFrom : (Place → List ℕ) → List ℕ → ℕ → List ℕ
+bytesFrom from table at = from (bytesPlace table at)
 
-unfoldable pub sceneFrom : (ℕ → ℕ → List ℕ) → List ℕ → Scene
+unfoldable pub sceneFrom : (Place → List ℕ) → List ℕ → Scene
 sceneFrom from table = record {
-  script = bytesFrom from table scriptAt;
-  transaction = from (recordOffset table transactionAt) 32;
+  script = from (scriptPlace table);
+  transaction = from (transactionPlace table);
   inputs = recordsAt (inputFrom from table) inputWidth (inputCount table) inputsAt;
   outputs = recordsAt (cellRecordFrom from table) cellWidth (outputCount table) (outputsAt table);
   deps = recordsAt (cellRecordFrom from table) cellWidth (depCount table) (depsAt table);
@@ -132,14 +165,14 @@ sceneFrom from table = record {
   digits = recordsAt (tableEntry table) 1 (digitCount table) (digitsAt table);
 }
 
--- the bytes at a place of the store
-unfoldable pub storeBytes : List ℕ → ℕ → ℕ → List ℕ
-storeBytes store at n = take n (drop at store)
-
 -- the scene in a table and a store
 unfoldable pub sceneIn : List ℕ → List ℕ → Scene
-sceneIn table store = sceneFrom (storeBytes store) table
+sceneIn table store = sceneFrom (bytesAt store) table
+
+-- as many zeros as a place has bytes
+abbrev pub zerosAt : Place → List ℕ
+zerosAt p = replicate (p .len) 0
 
 -- the scene of a table alone, every byte of the store zero
 unfoldable pub blankScene : List ℕ → Scene
-blankScene table = sceneFrom (λ at n. replicate n 0) table
+blankScene table = sceneFrom zerosAt table

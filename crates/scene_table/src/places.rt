@@ -2,8 +2,8 @@
 use octets::Place;
 ghost use mathlib.Core.Path.{_≡_};
 ghost use Prim.Native.Nat.{_≤_, _<_, _^_};
-ghost use Rattle.scene_table.specs.Lent.{tableEntry, outputsAt, depsAt, witnessesAt, verdictsAt, hashLength, digitCount, inputCount, outputCount, depCount, witnessCount};
-ghost use Rattle.scene_table.specs.Places.{cellFieldPlaces, bytesPlace, recordPlaces, scriptPlace, transactionPlace, inputGroup, inputSince, inputPlaces, outputPlaces, depPlaces, witnessPlace, verdictOf};
+ghost use Rattle.scene_table.specs.Lent.{tableEntry, outputsAt, depsAt, witnessesAt, verdictsAt, hashLength, digitCount, inputCount, outputCount, depCount, witnessCount, cellFieldPlaces, bytesPlace, cellRecordPlaces, scriptPlace, transactionPlace};
+ghost use Rattle.scene_table.specs.Places.{inputGroup, inputSince, inputPlaces, outputPlaces, depPlaces, witnessPlace, verdictOf};
 
 // How many entries the record of an input has, that of an output or a dep, and that of a witness.
 pub(crate) const INPUT_WIDTH: usize = 6;
@@ -111,7 +111,7 @@ fn bytes_place(table: &[u32], at: usize) -> Place
 // The places of the output or the dep whose record begins at `at`.
 fn record_places(table: &[u32], at: usize) -> CellPlaces
     requires { ⌜ at < 2 ^ 40 ⌝ }
-    ensures { λ r. ⌜ r ≡ recordPlaces (now (table .entry)) at ⌝ }
+    ensures { λ r. ⌜ r ≡ cellRecordPlaces (now (table .entry)) at ⌝ }
 {
     cell_places(
         table_entry(table, at),

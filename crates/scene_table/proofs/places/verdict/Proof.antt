@@ -2,7 +2,7 @@
 use mathlib.Core.Path.{_≡_, sym, _∙_}
 use Prim.Native.Nat.{_+_, _*_, _≤_, _<_}
 use native.Mathlib.Omega.{arith}
-use Rattle.scene_table.specs.Lent.{tableEntry, verdictsAt, sceneFrom, blankScene, digitCount}
+use Rattle.scene_table.specs.Lent.{tableEntry, verdictsAt, sceneFrom, blankScene, digitCount, bytesPlace, scriptPlace, transactionPlace}
 use Rattle.scene_table.specs.Places.{verdictAt, verdictOf}
 use Rattle.scene_table.proofs.Records.{record-nth, record-past}
 use borrow.Author.Needs.{needs}
@@ -10,7 +10,7 @@ use Rattle.scene_table.proofs.places.verdict.Statement.{statement}
 use Rattle.scene_table.proofs.places.verdict.Tie as tie
 
 returns : tie.Need-returns
-unfolding digitCount verdictAt verdictOf sceneFrom blankScene
+unfolding digitCount verdictAt verdictOf sceneFrom scriptPlace transactionPlace bytesPlace blankScene
 returns c =
     let a = c .before .before .before .before .before .args in
     let T = a .table .now in
@@ -19,7 +19,7 @@ returns c =
     rw (c .table-entry .ensures, c .before .verdicts-at .ensures .0) (sym (record-nth (tableEntry T) 1 (digitCount T) (verdictsAt T + 2) (a .i) 2 h ∙ rw e))
 
 returns-2 : tie.Need-returns-2
-unfolding digitCount verdictAt verdictOf sceneFrom blankScene
+unfolding digitCount verdictAt verdictOf sceneFrom scriptPlace transactionPlace bytesPlace blankScene
 returns-2 c =
     let a = c .before .before .before .args in
     let T = a .table .now in
