@@ -19,6 +19,7 @@ use Rattle.scene_table.specs.Lent.{sceneIn}
 use Rattle.scene_table.specs.Valid.{validTable}
 use Rattle.decision.specs.Proofs.{contextFor}
 use Rattle.decision.proofs.RoomEnough.{state-aux, lock-room}
+use Rattle.protocol.specs.Limits.{answerBufferLength}
 use Rattle.account_lock.specs.Lock.{witnessLock, current, digest, earlyRows, contextOf, refused, walked, orWalked, walkResult, lockScene, lockOf}
 use Rattle.account_lock.proofs.LockLaws.{group-length, group-count}
 use Rattle.account_lock.proofs.LockTheorem.{late, state-passes}
@@ -26,14 +27,14 @@ use Rattle.account_lock.proofs.DigestTheorem.{length-hash}
 use Rattle.account_lock.proofs.Numbers.{early-number}
 
 -- where the early rows pass, the walk has room for every request
-early-room : (s : Scene) (room : ℕ) → 148992 ≤ room → AllPass (earlyRows s) → checkNumber (walkResult s room .found) ≢ 5
+early-room : (s : Scene) (room : ℕ) → answerBufferLength ≤ room → AllPass (earlyRows s) → checkNumber (walkResult s room .found) ≢ 5
 unfolding walkResult walked contextOf contextFor digest digestOf
 early-room s room r h =
     let group = late s h .0 in
     lock-room (contextOf s room) (witnessLock s) (length-hash _) (state-aux (current s) (state-passes s h)) (group-length s group) (group-count s group) r
 
 -- a scene with 148,992 bytes for the answer is never refused with 5
-scene-never-five : (s : Scene) (room : ℕ) → 148992 ≤ room → checkNumber (lockScene s room .found) ≢ 5
+scene-never-five : (s : Scene) (room : ℕ) → answerBufferLength ≤ room → checkNumber (lockScene s room .found) ≢ 5
 unfolding lockScene orWalked refused
 scene-never-five s room r = go (decide Passed (earlyRows s)) refl
   where
@@ -42,7 +43,7 @@ scene-never-five s room r = go (decide Passed (earlyRows s)) refl
     go (Failed e) h = λ z. omega (arith, early-number s e h .0 .0)
 
 -- nor is any table and store: an invalid table is 7
-pub lock-never-five : (table store : List ℕ) (room : ℕ) → 148992 ≤ room → checkNumber (lockOf table store room .found) ≢ 5
+pub lock-never-five : (table store : List ℕ) (room : ℕ) → answerBufferLength ≤ room → checkNumber (lockOf table store room .found) ≢ 5
 unfolding lockOf refused
 lock-never-five table store room r = go (validTable table (length store))
   where

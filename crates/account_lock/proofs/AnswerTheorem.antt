@@ -13,8 +13,7 @@ use Rattle.octets.specs.Le.{Bytes}
 use Rattle.octets.specs.Places as octets
 use Rattle.octets.proofs.LeLaws.{bytes-drop, bytes-take}
 use Rattle.authorization.specs.Digest.{digestOf}
-use Rattle.scene_table.specs.Lent.{storeBytes, sceneIn}
-use Rattle.scene_table.specs.Places as places
+use Rattle.scene_table.specs.Lent.{sceneIn, cellFrom}
 use Rattle.cell_search.specs.declared.cells.Source.{Source}
 use Rattle.cell_search.specs.Search.{cellsOf, cellAt, noCell}
 use Rattle.cell_search.specs.Cells.{cellCount, sourcePlaces}
@@ -35,7 +34,7 @@ use Rattle.account_lock.proofs.DigestTheorem.{length-hash, early-walked
 -- the data of a cell are bytes of the store
 content-bytes : (from : Source) (table store : List ℕ) (i : ℕ) → Bytes store
     → Bytes (cellAt (cellsOf from (sceneIn table store)) i .content)
-unfolding places.cellIn octets.bytesAt noCell
+unfolding cellFrom octets.bytesAt noCell
 content-bytes from table store i b = go (ltb i (cellCount from table)) refl
   where
     go : (t : Bool) → ltb i (cellCount from table) ≡ t → Bytes (cellAt (cellsOf from (sceneIn table store)) i .content)

@@ -3,7 +3,7 @@
 -- and store, also where a later row refuses.
 -- Assumes nothing.
 use mathlib.Core.Path.{_≡_, refl, sym, ap, _∙_}
-use mathlib.Core.Bool.{Bool, true, false, cond, _&&_, true≢false}
+use mathlib.Core.Bool.{Bool, true, false, cond, true≢false}
 use mathlib.Core.List.{List, [], _∷_, _++_}
 use Prim.Native.Nat.{ℕ, suc, _+_, _*_, _≤_}
 use native.Mathlib.Omega.{arith}
@@ -32,16 +32,19 @@ use Rattle.authorization.specs.Hashed.{hashedWitness}
 use Rattle.authorization.specs.Sighash.{hashedWitnesses, sighashInput}
 use Rattle.authorization.proofs.SighashTheorem.{sighash-theorem}
 use Rattle.scene_table.specs.Scene.{Input, Scene}
-use Rattle.scene_table.specs.Lent.{tableEntry, sceneFrom, storeBytes, sceneIn, blankScene}
+use Rattle.scene_table.specs.Lent.{tableEntry, sceneFrom, sceneIn, blankScene, witnessCount, transactionPlace}
 use Rattle.scene_table.specs.Valid.{validTable}
 use Rattle.octets.proofs.Truth.{and-both}
-use Rattle.scene_table.proofs.Rows.{length-rows}
+use Rattle.scene_table.proofs.Records.{length-records}
 use Rattle.scene_table.proofs.SceneBack.{sayable}
 use Rattle.scene_table.proofs.PlaceLaws.{lent-given}
 use Rattle.group_sighash.specs.Witnesses.{groupWitnesses, groupOf, firstWitness, otherWitnesses, firstWitnessRows, witnessFits, groupRows, otherRows}
 use Rattle.group_sighash.specs.GroupSighash.{groupSighash}
 use Rattle.state_transition.specs.Resolve.{resolveRows}
 use Rattle.account_state.specs.Fields.{sequenceOf}
+use Rattle.protocol.specs.Limits.{tableMinEntries, kindMaxLines}
+use Rattle.octets.proofs.Every.{every-split}
+use Rattle.octets.specs.Places.{bytesAt}
 use Rattle.account_lock.specs.Lock.{account, operation, current, statesRows, lateRows, earlyRows, digest, Result, refused, walked, orWalked, walkResult, lockScene, lockOf}
 use Rattle.account_lock.proofs.LockLaws.{group-table}
 use Rattle.account_lock.proofs.LockTheorem.{late, lock-valid}
@@ -58,14 +61,6 @@ length-hash xs =
 hashed-length : (w : List ℕ) → length (hashedWitness w) ≡ 8 + length w
 unfolding hashedWitness
 hashed-length w = length-append (toLe 8 (length w)) w ∙ ap (λ (n : ℕ). n + length w) (length-to 8 (length w))
-
-every-split : {A : Type 0} (p : A → Bool) (x : A) (xs : List A) → every p (x ∷ xs) ≡ true → (p x ≡ true) × (every p xs ≡ true)
-unfolding every
-every-split p x xs = go (p x) (every p xs)
-  where
-    go : (a b : Bool) → a && b ≡ true → (a ≡ true) × (b ≡ true)
-    go true b e = (refl, e)
-    go false b e = absurd (true≢false (sym e))
 
 others-length : (ws : List (List ℕ)) → every witnessFits ws ≡ true → length (hashedWitnesses ws) ≤ length ws * 132104
 unfolding hashedWitnesses joined witnessFits
@@ -100,7 +95,7 @@ module _ (s : Scene) where
       let g = group-few (s .inputs) (s .witnesses) in
       omega arith
 
-  pub sighash-hash : length (s .transaction) ≤ 32 → length (s .witnesses) ≤ 64 → AllPass (groupRows s) → AllPass (otherRows s)
+  pub sighash-hash : length (s .transaction) ≤ 32 → length (s .witnesses) ≤ kindMaxLines → AllPass (groupRows s) → AllPass (otherRows s)
       → groupSighash s ≡ ckbHash (sighashInput (s .transaction) (canonicalOf (firstWitness s)) (otherWitnesses s))
   unfolding groupSighash sighashInput groupRows firstWitnessRows otherRows
   sighash-hash t few g o =
@@ -117,26 +112,26 @@ module _ (s : Scene) where
       let k₅ = others-few in
       sighash-theorem (s .transaction) first others (omega arith)
 
-  pub digest-hash : length (s .transaction) ≤ 32 → length (s .witnesses) ≤ 64 → AllPass (groupRows s) → AllPass (otherRows s)
+  pub digest-hash : length (s .transaction) ≤ 32 → length (s .witnesses) ≤ kindMaxLines → AllPass (groupRows s) → AllPass (otherRows s)
       → digest s ≡ ckbHash (digestInput (operation s) (account s) (sequenceOf (current s)) (current s) (ckbHash (sighashInput (s .transaction) (canonicalOf (firstWitness s)) (otherWitnesses s))))
   unfolding digest digestOf
   digest-hash t few g o = rw (sighash-hash t few g o)
 
 -- ---- the lock's digest
 
--- a valid table has at most 64 witnesses
-few-witnesses : (table store : List ℕ) (n : ℕ) → validTable table n ≡ true → length (sceneIn table store .witnesses) ≤ 64
+-- a valid table has at most `kindMaxLines` witnesses
+few-witnesses : (table store : List ℕ) (n : ℕ) → validTable table n ≡ true → length (sceneIn table store .witnesses) ≤ kindMaxLines
 unfolding validTable blankScene sceneFrom
 few-witnesses table store n v =
-    let ok : length (blankScene table .witnesses) ≤ 64 =
-    sayable (blankScene table) (and-both _ _ (and-both (leb 2048 (length table)) _ v .1) .0) .fewWitnesses in
-    let m : length (blankScene table .witnesses) ≡ tableEntry table 6 = length-rows _ 2 (tableEntry table 6) _ in
-    let k : length (sceneIn table store .witnesses) ≡ tableEntry table 6 = lent-given table store .witnesses .long in
+    let ok : length (blankScene table .witnesses) ≤ kindMaxLines =
+    sayable (blankScene table) (and-both _ _ (and-both (leb tableMinEntries (length table)) _ v .1) .0) .fewWitnesses in
+    let m : length (blankScene table .witnesses) ≡ witnessCount table = length-records _ 2 (witnessCount table) _ in
+    let k : length (sceneIn table store .witnesses) ≡ witnessCount table = lent-given table store .witnesses .long in
     omega arith
 
 -- the transaction hash has at most 32 bytes
 short-transaction : (table store : List ℕ) → length (sceneIn table store .transaction) ≤ 32
-unfolding sceneIn sceneFrom storeBytes
+unfolding sceneIn sceneFrom transactionPlace bytesAt
 short-transaction table store = let n = length-take 32 (drop (tableEntry table 10) store) in omega arith
 
 -- every row before the proofs' passes, so all other hashed witnesses fit

@@ -8,7 +8,7 @@ use native.Mathlib.Omega.{arith}
 use borrow.Author.Tests.{lt-ltb, le-ltb}
 use lib.ListN.{length, drop, getD, set, drop-of-length-le}
 use lib.Seq.{sets, drop-cons}
-use Rattle.scene_reading.specs.Print.{digitText, hexText, decimalText}
+use Rattle.scene_text.specs.Print.{digitText, hexText, decimalText}
 
 -- no digit at all
 pub decimal-none : (n v : ℕ) → n ≡ 0 → decimalText n v ≡ []

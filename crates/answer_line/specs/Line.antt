@@ -2,7 +2,8 @@
 use Prim.Native.Nat.{ℕ}
 use mathlib.Core.Bool.{Bool, cond}
 use mathlib.Core.List.{List, [], _∷_, _++_}
-use Rattle.scene_reading.specs.Print.{lineText, hexText, decimalText}
+use Rattle.scene_text.specs.Print.{lineText, hexText, decimalText}
+use Rattle.scene_text.specs.Text.{lineEnd}
 
 -- the word `answer`
 unfoldable pub answerWord : List ℕ
@@ -18,4 +19,4 @@ digestText reached digest = cond reached (hexText digest) []
 
 unfoldable pub lineOf : ℕ → ℕ → ℕ → Bool → List ℕ → List ℕ
 lineOf number count total reached digest =
-    lineText answerWord (numberText number ∷ numberText count ∷ numberText total ∷ digestText reached digest ∷ []) ++ (10 ∷ [])
+    lineText answerWord (numberText number ∷ numberText count ∷ numberText total ∷ digestText reached digest ∷ []) ++ (lineEnd ∷ [])

@@ -5,23 +5,22 @@ use crate::put::put_byte;
 use crate::put::put_decimal;
 use crate::put::put_hex;
 use octets::store_bytes;
+use scene_text::COMMA;
+use scene_text::LINE_END;
 ghost use mathlib.Core.Path.{_≡_};
 ghost use mathlib.Core.List.{_∷_};
 ghost use Prim.Native.Nat.{_+_, _≤_};
 ghost use lib.ListN.{length};
 ghost use lib.Seq.{sets};
+ghost use Rattle.scene_text.specs.Text.{comma};
 ghost use Rattle.answer_line.specs.Line.{numberText, digestText, lineOf};
-
-const COMMA: u8 = 44;
-
-const LINE_END: u8 = 10;
 
 // A comma and a number from `at` on; where they end.
 fn put_number(out: &mut [u8], at: usize, value: usize) -> usize
     requires { ⌜ at ≤ 1000 ⌝ }
-    ensures { λ r. ⌜ r ≡ at + length (44 ∷ numberText value) ⌝ }
+    ensures { λ r. ⌜ r ≡ at + length (comma ∷ numberText value) ⌝ }
     ensures { λ r. ⌜ r ≤ at + 21 ⌝ }
-    ensures { λ _. ⌜ now (out .exit) ≡ sets (now (out .entry)) at (44 ∷ numberText value) ⌝ }
+    ensures { λ _. ⌜ now (out .exit) ≡ sets (now (out .entry)) at (comma ∷ numberText value) ⌝ }
 {
     put_byte(out, at, COMMA);
     put_decimal(out, at + 1, 20, value)
@@ -30,9 +29,9 @@ fn put_number(out: &mut [u8], at: usize, value: usize) -> usize
 // A comma and the digest, if there is one, from `at` on; where they end.
 fn put_digest(out: &mut [u8], at: usize, reached: bool, digest: &[u8; 32]) -> usize
     requires { ⌜ at ≤ 1000 ⌝ }
-    ensures { λ r. ⌜ r ≡ at + length (44 ∷ digestText reached (now (digest .entry))) ⌝ }
+    ensures { λ r. ⌜ r ≡ at + length (comma ∷ digestText reached (now (digest .entry))) ⌝ }
     ensures { λ r. ⌜ r ≤ at + 65 ⌝ }
-    ensures { λ _. ⌜ now (out .exit) ≡ sets (now (out .entry)) at (44 ∷ digestText reached (now (digest .entry))) ⌝ }
+    ensures { λ _. ⌜ now (out .exit) ≡ sets (now (out .entry)) at (comma ∷ digestText reached (now (digest .entry))) ⌝ }
 {
     put_byte(out, at, COMMA);
     if reached {

@@ -4,7 +4,7 @@ ghost use mathlib.Core.List.{[], _∷_};
 ghost use Prim.Native.Nat.{_+_, _*_, _≤_, _<_};
 ghost use lib.ListN.{length};
 ghost use lib.Seq.{sets};
-ghost use Rattle.scene_reading.specs.Print.{digitText, hexText, decimalText};
+ghost use Rattle.scene_text.specs.Print.{digitText, hexText, decimalText};
 
 pub(crate) fn put_byte(out: &mut [u8], at: usize, byte: u8)
     ensures { λ _. ⌜ now (out .exit) ≡ sets (now (out .entry)) at (byte ∷ []) ⌝ }

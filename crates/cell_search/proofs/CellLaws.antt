@@ -14,9 +14,9 @@ use denote.Enum.Declared.{tagOf, declared}
 use Rattle.octets.specs.Lists.{same}
 use Rattle.octets.specs.Places.{bytesAt}
 use Rattle.scene_table.specs.Scene.{Cell, Input}
-use Rattle.scene_table.specs.Lent.{sceneIn}
+use Rattle.scene_table.specs.Lent.{sceneIn, cellFrom}
 use Rattle.scene_table.specs.Places as places
-use Rattle.scene_table.proofs.Rows.{Listed, listed}
+use Rattle.scene_table.proofs.Records.{Listed, listed}
 use Rattle.scene_table.proofs.PlaceLaws.{lentInput, lent-given}
 use Rattle.cell_search.specs.declared.cells.Source.{Source}
 use Rattle.cell_search.specs.declared.cells.Source.the-variants as source
@@ -60,7 +60,7 @@ module _ (from : Source) (table store : List ℕ) (i : ℕ) where
 
   -- either way it is what stands at its places
   pub cell-within : places.cellIn store (placesWithin from table i) ≡ cellAt (cellsOf from (sceneIn table store)) i
-  unfolding placesWithin noPlaces noCell places.cellIn bytesAt places.placeAt
+  unfolding placesWithin noPlaces noCell cellFrom bytesAt
   cell-within = go (ltb i (cellCount from table)) refl
     where
       go : (b : Bool) → ltb i (cellCount from table) ≡ b

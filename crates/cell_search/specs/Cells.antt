@@ -4,16 +4,16 @@ use Prim.Native.Nat.{ℕ}
 use mathlib.Core.Bool.{cond}
 use mathlib.Core.List.{List}
 use lib.Dec.{ltb}
-use Rattle.scene_table.specs.Lent.{tableEntry}
-use Rattle.scene_table.specs.Places.{placeAt, inputPlaces, outputPlaces, depPlaces}
+use Rattle.scene_table.specs.Lent.{inputCount, outputCount, depCount, placeAt}
+use Rattle.scene_table.specs.Places.{inputPlaces, outputPlaces, depPlaces}
 use Rattle.scene_table.specs.declared.places.CellPlaces.{CellPlaces}
 use Rattle.cell_search.specs.declared.cells.Source.{Source}
 use Rattle.cell_search.specs.declared.cells.Source.the-variants.{Input, Output, CellDep}
 
 unfoldable pub cellCount : Source → List ℕ → ℕ
-cellCount Input table = tableEntry table 3
-cellCount Output table = tableEntry table 4
-cellCount CellDep table = tableEntry table 5
+cellCount Input table = inputCount table
+cellCount Output table = outputCount table
+cellCount CellDep table = depCount table
 
 unfoldable pub sourcePlaces : Source → List ℕ → ℕ → CellPlaces
 sourcePlaces Input table i = inputPlaces table i

@@ -4,12 +4,12 @@ use mathlib.Core.Path.{_≡_, refl}
 use mathlib.Core.List.{[], _∷_}
 use Rattle.protocol.specs.Rows.{_▷_, decide}
 use Rattle.scene_text.specs.Text.{pieces}
-use Rattle.scene_reader.specs.Reader.{sceneEndRows, linesRows, linesPut, start, sceneLimitRows, sceneRows, readOf}
-use Rattle.scene_reading.specs.Print.{commaed, lineText, decimalText}
+use Rattle.scene_reader.specs.Reader.{sceneEndRows, linesRows, linesPut, readerStart, sceneLimitRows, sceneRows, readOf}
 use Rattle.account_lock.specs.Lock as lock
 use Rattle.answer_line.specs.Line.{answerWord, numberText, digestText, lineOf}
+use Rattle.scene_text.specs.Print.{partedBy, lineText, decimalText}
 use Rattle.decide_scene.specs.Decided.{decidedBy, decided, programDecides, resultLine, programLine}
 
 pub empty-input : programLine [] ≡ 97 ∷ 110 ∷ 115 ∷ 119 ∷ 101 ∷ 114 ∷ 44 ∷ 50 ∷ 44 ∷ 48 ∷ 44 ∷ 48 ∷ 44 ∷ 10 ∷ []
-unfolding programLine resultLine programDecides decided decidedBy readOf sceneRows sceneLimitRows linesRows linesPut sceneEndRows start decide _▷_ pieces lock.refused lineOf lineText commaed answerWord numberText digestText decimalText
+unfolding programLine resultLine programDecides decided decidedBy readOf sceneRows sceneLimitRows linesRows linesPut sceneEndRows readerStart decide _▷_ pieces lock.refused lineOf lineText partedBy answerWord numberText digestText decimalText
 empty-input = refl

@@ -16,14 +16,15 @@ use Rattle.protocol.specs.declared.error.ProtocolError.the-variants.{SceneTooLo
 use Rattle.protocol.specs.declared.check.Check.{Check}
 use Rattle.protocol.specs.declared.check.Check.the-variants.{Passed, Failed}
 use Rattle.protocol.proofs.Each.{Each, Refuses, each-append, each-refuses}
-use Rattle.scene_text.specs.Text.{pieces}
-use Rattle.scene_reader.specs.Reader.{ReaderState, ReaderOutcome, refused, held, outcomeAfter, lineRows, rowsOfLine, linePut, sceneEndRows, linesRows, linesPut, start, sceneLimitRows, sceneRows, readOf, readerCheck}
+use Rattle.scene_text.specs.Text.{pieces, lineEnd}
+use Rattle.scene_reader.specs.Reader.{ReaderState, ReaderOutcome, refused, held, outcomeAfter, lineRows, rowsOfLine, linePut, sceneEndRows, linesRows, linesPut, readerStart, sceneLimitRows, sceneRows, readOf, readerCheck}
 use Rattle.scene_table.specs.Valid.{validTable}
 use Rattle.scene_reading.proofs.Accessors.{left-store-length, reader-leaves-valid}
 use Rattle.account_lock.specs.Lock as lock
 use Rattle.account_lock.proofs.Numbers.{lock-seven, lock-never-six}
 use Rattle.account_lock.proofs.AnswerRoom.{lock-never-five}
-use Rattle.decide_scene.specs.Decided.{decidedBy, decided, programDecides}
+use Rattle.protocol.specs.Limits.{answerBufferLength, tableMinEntries}
+use Rattle.decide_scene.specs.Decided.{decidedBy, decided, programDecides, programSceneMaxLength}
 use Rattle.decide_scene.proofs.StoreEnough.{reader-never-six}
 
 -- ---- the reader
@@ -51,14 +52,14 @@ lines-errors h (l ∷ m ∷ ls) = each-append ReaderError (rowsOfLine h l) _ (li
 -- of a scene
 scene-errors : (scene : List ℕ) (n m : ℕ) → Each ReaderError (sceneRows scene n m)
 unfolding sceneRows sceneLimitRows
-scene-errors scene n m = (inl (omega arith), (inr refl, lines-errors (start n m) (pieces 10 scene)))
+scene-errors scene n m = (inl (omega arith), (inr refl, lines-errors (readerStart n m) (pieces lineEnd scene)))
 
 -- every number that the reader gives is 0 to 4, or 6
 pub reader-numbers : (scene : List ℕ) (n m : ℕ) → ReaderNumber (checkNumber (readerCheck (readOf scene n m)))
 unfolding readOf
 reader-numbers scene n m = go (decide Passed (sceneRows scene n m)) (each-refuses ReaderError (sceneRows scene n m) (scene-errors scene n m))
   where
-    go : (c : Check) → Refuses ReaderError c → ReaderNumber (checkNumber (readerCheck (outcomeAfter c (linesPut (start n m) (pieces 10 scene)))))
+    go : (c : Check) → Refuses ReaderError c → ReaderNumber (checkNumber (readerCheck (outcomeAfter c (linesPut (readerStart n m) (pieces lineEnd scene)))))
     go Passed f = inl (omega arith)
     go (Failed e) f = f
 
@@ -82,14 +83,14 @@ decided-never k room (held h) reader locks = locks h refl
 
 module _ (scene : List ℕ) (n m room : ℕ) where
   -- 5 is not given with an answer buffer of 148,992 bytes
-  pub decided-never-five : 148992 ≤ room → checkNumber (decided scene n m room .found) ≢ 5
+  pub decided-never-five : answerBufferLength ≤ room → checkNumber (decided scene n m room .found) ≢ 5
   unfolding decided
   decided-never-five long =
       decided-never 5 room (readOf scene n m) (not-five (checkNumber (readerCheck (readOf scene n m))) (reader-numbers scene n m))
       (λ h e. lock-never-five (h .table) (h .store) room long)
 
   -- 6 is not given with a store as long as the scene and a table of 2,048 entries
-  pub decided-never-six : length scene ≤ n → 2048 ≤ m → checkNumber (decided scene n m room .found) ≢ 6
+  pub decided-never-six : length scene ≤ n → tableMinEntries ≤ m → checkNumber (decided scene n m room .found) ≢ 6
   unfolding decided
   decided-never-six hn hm =
       decided-never 6 room (readOf scene n m) (reader-never-six scene n m hn hm) (λ h e. lock-never-six (h .table) (h .store) room)
@@ -115,23 +116,23 @@ module _ (scene : List ℕ) (n m room : ℕ) where
 
 module _ (scene : List ℕ) where
   -- a number is not given, which is not 1 and not decided with the program's buffers
-  program-never : (k : ℕ) → 1 ≢ k → (length scene ≤ 65536 → checkNumber (decided scene 65536 2048 148992 .found) ≢ k)
+  program-never : (k : ℕ) → 1 ≢ k → (length scene ≤ programSceneMaxLength → checkNumber (decided scene programSceneMaxLength tableMinEntries answerBufferLength .found) ≢ k)
       → checkNumber (programDecides scene .found) ≢ k
   unfolding programDecides lock.refused
-  program-never k long short = go (ltb 65536 (length scene)) refl
+  program-never k long short = go (ltb programSceneMaxLength (length scene)) refl
     where
-      go : (b : Bool) → ltb 65536 (length scene) ≡ b
-          → checkNumber (cond b (lock.refused (Failed SceneTooLong)) (decided scene 65536 2048 148992) .found) ≢ k
+      go : (b : Bool) → ltb programSceneMaxLength (length scene) ≡ b
+          → checkNumber (cond b (lock.refused (Failed SceneTooLong)) (decided scene programSceneMaxLength tableMinEntries answerBufferLength) .found) ≢ k
       go true e = long
-      go false e = short (ltb-false 65536 (length scene) e)
+      go false e = short (ltb-false programSceneMaxLength (length scene) e)
 
   -- 01: "The program's buffers are long enough that it never gives 5 or 6"
   pub program-never-five : checkNumber (programDecides scene .found) ≢ 5
-  program-never-five = program-never 5 (λ q. absurd (omega arith)) (λ l. decided-never-five scene 65536 2048 148992 (omega arith))
+  program-never-five = program-never 5 (λ q. absurd (omega arith)) (λ l. decided-never-five scene programSceneMaxLength tableMinEntries answerBufferLength (omega arith))
 
   pub program-never-six : checkNumber (programDecides scene .found) ≢ 6
-  program-never-six = program-never 6 (λ q. absurd (omega arith)) (λ l. decided-never-six scene 65536 2048 148992 l (omega arith))
+  program-never-six = program-never 6 (λ q. absurd (omega arith)) (λ l. decided-never-six scene programSceneMaxLength tableMinEntries answerBufferLength l (omega arith))
 
   -- nor 7
   pub program-never-seven : checkNumber (programDecides scene .found) ≢ 7
-  program-never-seven = program-never 7 (λ q. absurd (omega arith)) (λ l. decided-never-seven scene 65536 2048 148992)
+  program-never-seven = program-never 7 (λ q. absurd (omega arith)) (λ l. decided-never-seven scene programSceneMaxLength tableMinEntries answerBufferLength)

@@ -10,11 +10,12 @@ use Rattle.protocol.specs.declared.error.ProtocolError.the-variants.{SceneTooLo
 use Rattle.protocol.specs.declared.check.Check.the-variants.{Passed, Failed}
 use Rattle.protocol.specs.Rows.{checkNumber}
 use Rattle.protocol.proofs.AllPass.{failed-passed}
-use Rattle.scene_reader.specs.Reader.{ReaderOutcome, refused, held, readOf, readerCheck, readerStore, readerTable}
+use Rattle.scene_reader.specs.Reader.{ReaderOutcome, refused, held, readerCheck, readerStore, readerTable}
 use Rattle.account_lock.specs.declared.answer.LockAnswer.{LockAnswer}
 use Rattle.account_lock.specs.Lock as lock
 use Rattle.answer_line.specs.Line.{lineOf}
-use Rattle.decide_scene.specs.Decided.{decidedBy, decided, programDecides, resultLine}
+use Rattle.protocol.specs.Limits.{tableMinEntries, answerBufferLength}
+use Rattle.decide_scene.specs.Decided.{decidedBy, decided, programDecides, resultLine, programSceneMaxLength}
 
 -- the reader refuses
 pub refused-decides : (o : ReaderOutcome) (e : ProtocolError) (room : ℕ) → readerCheck o ≡ Failed e → decidedBy o room ≡ lock.refused (Failed e)
@@ -34,13 +35,13 @@ unfolding resultLine lock.answerOf
 told-line a r e = rw e
 
 -- a scene that is too long for the program
-pub long-decides : (scene : List ℕ) → 65536 < length scene → programDecides scene ≡ lock.refused (Failed SceneTooLong)
+pub long-decides : (scene : List ℕ) → programSceneMaxLength < length scene → programDecides scene ≡ lock.refused (Failed SceneTooLong)
 unfolding programDecides
-long-decides scene h = rw (lt-ltb 65536 (length scene) h)
+long-decides scene h = rw (lt-ltb programSceneMaxLength (length scene) h)
 
 -- a scene that is not, decided with buffers as long as the program's
-pub short-answers : (scene : List ℕ) (n m room : ℕ) {a : LockAnswer} → a ≡ lock.answerOf (decided scene n m room) → length scene ≤ 65536
-    → n ≡ 65536 → m ≡ 2048 → room ≡ 148992 → a ≡ lock.answerOf (programDecides scene)
+pub short-answers : (scene : List ℕ) (n m room : ℕ) {a : LockAnswer} → a ≡ lock.answerOf (decided scene n m room) → length scene ≤ programSceneMaxLength
+    → n ≡ programSceneMaxLength → m ≡ tableMinEntries → room ≡ answerBufferLength → a ≡ lock.answerOf (programDecides scene)
 unfolding programDecides
 short-answers scene n m room e h store table answer =
-    rw (le-ltb 65536 (length scene) h, ← store, ← table, ← answer) e
+    rw (le-ltb programSceneMaxLength (length scene) h, ← store, ← table, ← answer) e

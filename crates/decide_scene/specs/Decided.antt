@@ -8,8 +8,10 @@ use Rattle.protocol.specs.declared.error.ProtocolError.the-variants.{SceneTooLo
 use Rattle.protocol.specs.declared.check.Check.the-variants.{Failed}
 use Rattle.protocol.specs.Rows.{checkNumber}
 use Rattle.scene_reader.specs.Reader.{ReaderOutcome, refused, held, readOf}
+use Rattle.account_lock.specs.declared.answer.LockAnswer.{LockAnswer}
 use Rattle.account_lock.specs.Lock as lock
 use Rattle.answer_line.specs.Line.{lineOf}
+use Rattle.protocol.specs.Limits.{tableMinEntries, answerBufferLength}
 
 -- the lock over what the reader leaves, with an answer buffer of `room` bytes; 01: "COUNT and LENGTH being 0 where the reader
 -- refuses", and there is no digest
@@ -21,14 +23,27 @@ decidedBy (held h) room = lock.lockOf (h .table) (h .store) room
 unfoldable pub decided : List ℕ → ℕ → ℕ → ℕ → lock.Result
 decided scene n m room = decidedBy (readOf scene n m) room
 
--- 01: "A program reads a scene of up to 65,536 bytes (more is 1)"; its store has 65,536 bytes, its table 2,048 entries, its answer
--- buffer 148,992 bytes
+-- the same with a store, a table and an answer buffer as long as these
+abbrev pub decidedInto : List ℕ → List ℕ → List ℕ → List ℕ → lock.Result
+decidedInto scene store table answer = decided scene (length store) (length table) (length answer)
+
+-- 01: "A program reads a scene of up to 65,536 bytes (more is 1)"
+abbrev pub programSceneMaxLength : ℕ
+programSceneMaxLength = 65536
+
+-- its store is as long as the longest scene; "The program's buffers are long enough that it never gives 5 or 6"
 unfoldable pub programDecides : List ℕ → lock.Result
-programDecides scene = cond (ltb 65536 (length scene)) (lock.refused (Failed SceneTooLong)) (decided scene 65536 2048 148992)
+programDecides scene =
+    cond (ltb programSceneMaxLength (length scene)) (lock.refused (Failed SceneTooLong))
+    (decided scene programSceneMaxLength tableMinEntries answerBufferLength)
 
 -- "prints one line `answer,NUMBER,COUNT,LENGTH,DIGEST`"
 unfoldable pub resultLine : lock.Result → List ℕ
 resultLine r = lineOf (checkNumber (r .found)) (r .count) (length (r .made)) (r .reached) (r .digest)
+
+-- the line of what the lock answers in the code
+abbrev pub lockAnswerLine : LockAnswer → List ℕ
+lockAnswerLine found = lineOf (checkNumber (found .found)) (found .count) (found .length) (found .reached) (found .digest)
 
 -- the line that the program prints of a scene
 unfoldable pub programLine : List ℕ → List ℕ

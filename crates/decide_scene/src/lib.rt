@@ -3,8 +3,10 @@ use account_lock::LockAnswer;
 use account_lock::lock;
 use account_lock::refused;
 use answer_line::answer_line;
+use protocol::ANSWER_BUFFER_LEN;
 use protocol::Check;
 use protocol::ProtocolError;
+use protocol::TABLE_MIN_ENTRIES;
 use protocol::check_number;
 use scene_reader::read_scene;
 ghost use mathlib.Core.Path.{_≡_};
@@ -12,15 +14,13 @@ ghost use Prim.Native.Nat.{_≤_};
 ghost use lib.ListN.{length};
 ghost use lib.Seq.{sets};
 ghost use Rattle.octets.specs.Lists.{arrayOf};
-ghost use Rattle.protocol.specs.Rows.{checkNumber};
-ghost use Rattle.scene_reader.specs.Reader.{readOf, readerStore, readerTable};
+ghost use Rattle.scene_reader.specs.Reader.{readerStore, readerTable, readInto};
 ghost use Rattle.decision.specs.Walk.{answered};
 ghost use Rattle.account_lock.specs.Lock.{answerOf};
-ghost use Rattle.answer_line.specs.Line.{lineOf};
-ghost use Rattle.decide_scene.specs.Decided.{decided, programDecides, programLine};
+ghost use Rattle.decide_scene.specs.Decided.{programDecides, programLine, decidedInto, lockAnswerLine};
 
 // The longest scene that the program reads.
-const PROGRAM_MAX_LEN: usize = 65536;
+const PROGRAM_SCENE_MAX_LEN: usize = 65_536;
 
 // The line that the program prints: the first `length` bytes.
 pub struct ProgramLine {
@@ -35,10 +35,11 @@ pub fn decide_scene(
     table: &mut [u32],
     answer: &mut [u8],
 ) -> LockAnswer
-    ensures { λ r. ⌜ r ≡ answerOf (decided (now (scene .entry)) (length (now (store .entry))) (length (now (table .entry))) (length (now (answer .entry)))) ⌝ }
-    ensures { λ _. ⌜ now (store .exit) ≡ readerStore (length (now (store .entry))) (readOf (now (scene .entry)) (length (now (store .entry))) (length (now (table .entry)))) ⌝ }
-    ensures { λ _. ⌜ now (table .exit) ≡ readerTable (length (now (table .entry))) (readOf (now (scene .entry)) (length (now (store .entry))) (length (now (table .entry)))) ⌝ }
-    ensures { λ _. ⌜ now (answer .exit) ≡ answered (now (answer .entry)) (decided (now (scene .entry)) (length (now (store .entry))) (length (now (table .entry))) (length (now (answer .entry))) .made) ⌝ }
+    ensures { λ r. ⌜ r ≡ answerOf (decidedInto (now (scene .entry)) (now (store .entry)) (now (table .entry)) (now (answer .entry))) ⌝ }
+    ensures { λ _. ⌜ now (store .exit) ≡ readerStore (length (now (store .entry))) (readInto (now (scene .entry)) (now (store .entry)) (now (table .entry))) ⌝ }
+    ensures { λ _. ⌜ now (table .exit) ≡ readerTable (length (now (table .entry))) (readInto (now (scene .entry)) (now (store .entry)) (now (table .entry))) ⌝ }
+    ensures { λ _. ⌜ now (answer .exit)
+        ≡ answered (now (answer .entry)) (decidedInto (now (scene .entry)) (now (store .entry)) (now (table .entry)) (now (answer .entry)) .made) ⌝ }
 {
     match read_scene(scene, store, table) {
         Check::Failed(error) => refused(error),
@@ -47,9 +48,9 @@ pub fn decide_scene(
 }
 
 fn put_answer(found: LockAnswer, line: &mut [u8]) -> usize
-    ensures { λ r. ⌜ r ≡ length (lineOf (checkNumber (found .found)) (found .count) (found .length) (found .reached) (found .digest)) ⌝ }
+    ensures { λ r. ⌜ r ≡ length (lockAnswerLine found) ⌝ }
     ensures { λ r. ⌜ r ≤ 135 ⌝ }
-    ensures { λ _. ⌜ now (line .exit) ≡ sets (now (line .entry)) 0 (lineOf (checkNumber (found .found)) (found .count) (found .length) (found .reached) (found .digest)) ⌝ }
+    ensures { λ _. ⌜ now (line .exit) ≡ sets (now (line .entry)) 0 (lockAnswerLine found) ⌝ }
 {
     let check = found.found;
     let digest = found.digest;
@@ -67,14 +68,14 @@ fn put_answer(found: LockAnswer, line: &mut [u8]) -> usize
 fn program_answer(scene: &[u8]) -> LockAnswer
     ensures { λ r. ⌜ r ≡ answerOf (programDecides (now (scene .entry))) ⌝ }
 {
-    if PROGRAM_MAX_LEN < scene.len() {
+    if PROGRAM_SCENE_MAX_LEN < scene.len() {
         return refused(ProtocolError::SceneTooLong);
     }
     // As long as the longest scene.
-    let mut store = [0u8; 65536];
-    let mut table = [0u32; 2048];
+    let mut store = [0u8; PROGRAM_SCENE_MAX_LEN];
+    let mut table = [0u32; TABLE_MIN_ENTRIES];
     // Room for the requests of any scene.
-    let mut answer = [0u8; 148992];
+    let mut answer = [0u8; ANSWER_BUFFER_LEN];
     decide_scene(scene, &mut store, &mut table, &mut answer)
 }
 

@@ -30,6 +30,7 @@ use Rattle.account_witness.proofs.WalkLaws.{proof-holds}
 use Rattle.verifier_request.specs.Fields.{requestSize}
 use Rattle.verifier_request.specs.Writer.{requestTotal}
 use Rattle.verifier_request.proofs.Form.{length-request}
+use Rattle.protocol.specs.Limits.{answerBufferLength}
 use Rattle.decision.specs.Proofs.{Context, noEntry, entryFor, requestLimitRows, authenticatorRows, proofRows, requestContent, requestOf, requestsOf}
 use Rattle.decision.specs.Walk.{WalkOutcome, walkOutcome, verdict, approvedWeight, lastRows, unlessFailed, walkFrom, proofsUntilFault, walkList, walkLock}
 use Rattle.decision.proofs.Listed.{listed-stops, listed-goes, listed-rising, ListBehind}
@@ -228,7 +229,7 @@ state-aux s h =
 
 -- 96 · 16 + 16,384 + 131,072 = 148,992
 pub lock-room : (c : Context) (lock : List ℕ) → length (c .digest) ≡ 32 → auxFrom 0 (c .entries) ≤ 16384
-    → length lock ≤ 131072 → proofCountOf lock ≤ 16 → 148992 ≤ c .room → checkNumber (walkLock c lock .found) ≢ 5
+    → length lock ≤ 131072 → proofCountOf lock ≤ 16 → answerBufferLength ≤ c .room → checkNumber (walkLock c lock .found) ≢ 5
 unfolding walkLock walkList
 lock-room c lock d a l n r =
     let ps = proofsUntilFault lock (proofCountOf lock) 16 0 .proofs in

@@ -21,7 +21,7 @@ use Rattle.molecule.specs.Table3.{tableRows}
 use Rattle.authorization.specs.Hashed.{hashedWitness}
 use Rattle.authorization.specs.Sighash.{hashedWitnesses}
 use Rattle.scene_table.specs.Scene.{Input, Scene}
-use Rattle.scene_table.specs.Lent.{tableEntry, sceneIn}
+use Rattle.scene_table.specs.Lent.{sceneIn, inputCount, witnessCount}
 use Rattle.scene_table.specs.Places.{inputGroup}
 use Rattle.scene_table.proofs.PlaceLaws.{lent-group, lent-given}
 use Rattle.group_sighash.specs.Witnesses.{groupWitnesses, groupOf, headOf, firstWitness, otherWitnesses, witnessFits, otherRows}
@@ -51,79 +51,79 @@ group-none [] = refl
 group-none (i ∷ is) = refl
 
 module _ (table store : List ℕ) (i : ℕ) where
-  group-yes : i < tableEntry table 3 → i < tableEntry table 6 → inputGroup table i ≡ true
+  group-yes : i < inputCount table → i < witnessCount table → inputGroup table i ≡ true
       → groupFrom table store i ≡ witnessAt table store i ∷ groupFrom table store (i + 1)
   unfolding groupFrom groupWitnesses witnessAt
   group-yes n w g = rw (lent-given table store .inputs .turn i n, lent-given table store .witnesses .turn i w, lent-group table store i, g)
 
-  group-no : i < tableEntry table 3 → i < tableEntry table 6 → inputGroup table i ≡ false
+  group-no : i < inputCount table → i < witnessCount table → inputGroup table i ≡ false
       → groupFrom table store i ≡ groupFrom table store (i + 1)
   unfolding groupFrom groupWitnesses
   group-no n w g = rw (lent-given table store .inputs .turn i n, lent-given table store .witnesses .turn i w, lent-group table store i, g)
 
-  group-past : tableEntry table 3 ≤ i → groupFrom table store i ≡ []
+  group-past : inputCount table ≤ i → groupFrom table store i ≡ []
   unfolding groupFrom groupWitnesses
   group-past n = rw (lent-given table store .inputs .none i n)
 
-  group-end : tableEntry table 6 ≤ i → groupFrom table store i ≡ []
+  group-end : witnessCount table ≤ i → groupFrom table store i ≡ []
   unfolding groupFrom
   group-end w = rw (lent-given table store .witnesses .none i w) (group-none (drop i (sceneIn table store .inputs)))
 
   -- a hashed witness
-  pub hashed-take : i < tableEntry table 6 → isHashed table i ≡ true
+  pub hashed-take : i < witnessCount table → isHashed table i ≡ true
       → hashedFrom table store i ≡ witnessAt table store i ∷ hashedFrom table store (i + 1)
   unfolding isHashed hashedFrom hashedOf witnessAt
-  hashed-take w = go (leb (tableEntry table 3) i) refl
+  hashed-take w = go (leb (inputCount table) i) refl
     where
-      go : (b : Bool) → leb (tableEntry table 3) i ≡ b → cond b true (inputGroup table i) ≡ true
+      go : (b : Bool) → leb (inputCount table) i ≡ b → cond b true (inputGroup table i) ≡ true
           → hashedFrom table store i ≡ witnessAt table store i ∷ hashedFrom table store (i + 1)
       go true e g =
-          let n : tableEntry table 3 ≤ i = leb-true _ _ e in
-          let m : tableEntry table 3 ≤ i + 1 = omega arith in
+          let n : inputCount table ≤ i = leb-true _ _ e in
+          let m : inputCount table ≤ i + 1 = omega arith in
           rw (lent-given table store .inputs .none i n, lent-given table store .inputs .none (i + 1) m, lent-given table store .witnesses .turn i w)
       go false e g =
           rw (lent-given table store .inputs .turn i (leb-false _ _ e), lent-given table store .witnesses .turn i w, lent-group table store i, g)
 
   -- one that is not
-  pub hashed-skip : i < tableEntry table 6 → isHashed table i ≡ false → hashedFrom table store i ≡ hashedFrom table store (i + 1)
+  pub hashed-skip : i < witnessCount table → isHashed table i ≡ false → hashedFrom table store i ≡ hashedFrom table store (i + 1)
   unfolding isHashed hashedFrom hashedOf
-  hashed-skip w = go (leb (tableEntry table 3) i) refl
+  hashed-skip w = go (leb (inputCount table) i) refl
     where
-      go : (b : Bool) → leb (tableEntry table 3) i ≡ b → cond b true (inputGroup table i) ≡ false
+      go : (b : Bool) → leb (inputCount table) i ≡ b → cond b true (inputGroup table i) ≡ false
           → hashedFrom table store i ≡ hashedFrom table store (i + 1)
       go true e g = absurd (true≢false g)
       go false e g =
           rw (lent-given table store .inputs .turn i (leb-false _ _ e), lent-given table store .witnesses .turn i w, lent-group table store i, g)
 
-  pub group-skip : i < tableEntry table 6 → isHashed table i ≡ false → groupFrom table store i ≡ groupFrom table store (i + 1)
+  pub group-skip : i < witnessCount table → isHashed table i ≡ false → groupFrom table store i ≡ groupFrom table store (i + 1)
   unfolding isHashed
-  group-skip w = go (leb (tableEntry table 3) i) refl
+  group-skip w = go (leb (inputCount table) i) refl
     where
-      go : (b : Bool) → leb (tableEntry table 3) i ≡ b → cond b true (inputGroup table i) ≡ false
+      go : (b : Bool) → leb (inputCount table) i ≡ b → cond b true (inputGroup table i) ≡ false
           → groupFrom table store i ≡ groupFrom table store (i + 1)
       go true e g = absurd (true≢false g)
       go false e g = group-no (leb-false _ _ e) w g
 
-  pub hashed-end : tableEntry table 6 ≤ i → hashedFrom table store i ≡ []
+  pub hashed-end : witnessCount table ≤ i → hashedFrom table store i ≡ []
   unfolding hashedFrom
   hashed-end w = rw (lent-given table store .witnesses .none i w) (hashed-none (drop i (sceneIn table store .inputs)))
 
 -- there is an input and a witness at the place
 pub record Both (table : List ℕ) (i : ℕ) : Type 0 where
-  pub input : i < tableEntry table 3
-  pub witness : i < tableEntry table 6
+  pub input : i < inputCount table
+  pub witness : i < witnessCount table
 
 pub input-both : (table : List ℕ) (i : ℕ) → isInput table i ≡ true → Both table i
 unfolding isInput
-input-both table i = go (leb (tableEntry table 6) i) refl
+input-both table i = go (leb (witnessCount table) i) refl
   where
-    go : (b : Bool) → leb (tableEntry table 6) i ≡ b → cond b false (ltb i (tableEntry table 3)) ≡ true → Both table i
+    go : (b : Bool) → leb (witnessCount table) i ≡ b → cond b false (ltb i (inputCount table)) ≡ true → Both table i
     go true e g = absurd (true≢false (sym g))
     go false e g = record { input = ltb-true _ _ g; witness = leb-false _ _ e }
 
-hashed-group : (table : List ℕ) (i : ℕ) → i < tableEntry table 3 → isHashed table i ≡ true → inputGroup table i ≡ true
+hashed-group : (table : List ℕ) (i : ℕ) → i < inputCount table → isHashed table i ≡ true → inputGroup table i ≡ true
 unfolding isHashed
-hashed-group table i n e = rw (lt-leb (tableEntry table 3) i n) at e
+hashed-group table i n e = rw (lt-leb (inputCount table) i n) at e
 
 -- the first hashed witness, from the front on
 module _ (table store : List ℕ) (r : ℕ) (first : Next table 0 r) where
@@ -135,9 +135,9 @@ module _ (table store : List ℕ) (r : ℕ) (first : Next table 0 r) where
 
   group-missing : isInput table r ≡ false → groupOf (sceneIn table store) ≡ []
   unfolding groupOf groupFrom isInput
-  group-missing = go (leb (tableEntry table 6) r) refl
+  group-missing = go (leb (witnessCount table) r) refl
     where
-      go : (b : Bool) → leb (tableEntry table 6) r ≡ b → cond b false (ltb r (tableEntry table 3)) ≡ false → groupOf (sceneIn table store) ≡ []
+      go : (b : Bool) → leb (witnessCount table) r ≡ b → cond b false (ltb r (inputCount table)) ≡ false → groupOf (sceneIn table store) ≡ []
       go true e g = first .group store ∙ group-end table store r (leb-true _ _ e)
       go false e g = first .group store ∙ group-past table store r (ltb-false _ _ g)
 
@@ -161,7 +161,7 @@ module _ (table store : List ℕ) (r : ℕ) (first : Next table 0 r) where
   other-there e =
       let is = sceneIn table store .inputs in
       let ws = sceneIn table store .witnesses in
-      let n : length is ≡ tableEntry table 3 = lent-given table store .inputs .long in
+      let n : length is ≡ inputCount table = lent-given table store .inputs .long in
       let b = input-both table r e .input in
       let m : r + 1 + (length is - (r + 1)) ≡ length is = rw n (omega arith) in
       rw (group-first e)
@@ -176,13 +176,13 @@ module _ (table store : List ℕ) (r : ℕ) (first : Next table 0 r) where
 
 -- A loop over the hashed witnesses that stands at witness i: what the loop is to find is a function of those from i on
 pub record Left {A : Type 0} (table store : List ℕ) (count i : ℕ) (whole : A) (of : List (List ℕ) → A) : Type 0 where
-  pub counted : count ≡ tableEntry table 6
+  pub counted : count ≡ witnessCount table
   pub hashed : i < count → isHashed table i ≡ true
   pub left : whole ≡ of (hashedFrom table store i)
 
 module _ {A : Type 0} {table : List ℕ} (store : List ℕ) {count : ℕ} where
   -- it begins at the first behind the first of the group
-  pub left-first : {from i : ℕ} (of : List (List ℕ) → A) → count ≡ tableEntry table 6 → FirstOther table from → Next table from i
+  pub left-first : {from i : ℕ} (of : List (List ℕ) → A) → count ≡ witnessCount table → FirstOther table from → Next table from i
       → Left table store count i (of (otherWitnesses (sceneIn table store))) of
   left-first of e other next = record { counted = e; hashed = λ h. next .hit (rw e at h); left = ap of (other store ∙ next .hashed store) }
 

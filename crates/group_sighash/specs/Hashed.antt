@@ -7,7 +7,7 @@ use mathlib.Core.List.{List, [], _∷_}
 use lib.ListN.{drop}
 use lib.Dec.{eqb, leb, ltb}
 use Rattle.scene_table.specs.Scene.{Input}
-use Rattle.scene_table.specs.Lent.{tableEntry, sceneIn}
+use Rattle.scene_table.specs.Lent.{sceneIn, inputCount, witnessCount}
 use Rattle.scene_table.specs.Places.{inputGroup, witnessPlace}
 use Rattle.octets.specs.Places.{bytesAt}
 use Rattle.group_sighash.specs.Witnesses.{groupWitnesses, otherWitnesses}
@@ -30,17 +30,17 @@ witnessAt table store i = bytesAt store (witnessPlace table i)
 
 -- witness i is one of them, and one of the group
 unfoldable pub isHashed : List ℕ → ℕ → Bool
-isHashed table i = cond (leb (tableEntry table 3) i) true (inputGroup table i)
+isHashed table i = cond (leb (inputCount table) i) true (inputGroup table i)
 
 unfoldable pub isInput : List ℕ → ℕ → Bool
-isInput table i = cond (leb (tableEntry table 6) i) false (ltb i (tableEntry table 3))
+isInput table i = cond (leb (witnessCount table) i) false (ltb i (inputCount table))
 
 -- no witness before r is hashed, from one on
 pub record Next (table : List ℕ) (from r : ℕ) : Type 0 where
   pub behind : from ≤ r
   pub hashed : (store : List ℕ) → hashedFrom table store from ≡ hashedFrom table store r
   pub group : (store : List ℕ) → groupFrom table store from ≡ groupFrom table store r
-  pub hit : r < tableEntry table 6 → isHashed table r ≡ true
+  pub hit : r < witnessCount table → isHashed table r ≡ true
 
 -- the hashed witnesses from r on are those behind the first of the group
 abbrev pub FirstOther : List ℕ → ℕ → Type 0

@@ -1,4 +1,5 @@
 pub mod Truth
+pub mod Every
 pub mod LeLaws
 pub mod Stores
 pub mod LayoutLaws

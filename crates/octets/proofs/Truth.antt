@@ -8,6 +8,12 @@ pub and-both : (a b : Bool) → (a && b) ≡ true → (a ≡ true) × (b ≡ tru
 and-both true b h = (refl, h)
 and-both false b h = absurd (false≢true h)
 
+pub and-left : (a b : Bool) → (a && b) ≡ true → a ≡ true
+and-left a b h = and-both a b h .0
+
+pub and-right : (a b : Bool) → (a && b) ≡ true → b ≡ true
+and-right a b h = and-both a b h .1
+
 -- and the other way
 pub both-and : (a b : Bool) → a ≡ true → b ≡ true → (a && b) ≡ true
 both-and a b p q = rw (p, q)

@@ -4,3 +4,4 @@ pub mod Policy
 pub mod Write
 pub mod Reading
 pub mod Args
+pub mod Limits

@@ -1,6 +1,7 @@
-// What every format of the account shares: constants, refusals and their numbers, rows of checks, algorithms and
+// What every format of the account shares: constants, limits, refusals and their numbers, rows of checks, algorithms and
 // operations, and the lock's args.
 mod constants; // constants.rt
+mod limits; // limits.rt
 mod error; // error.rt
 mod check; // check.rt
 mod policy; // policy.rt
@@ -47,6 +48,11 @@ pub use self::constants::VERIFIER_MAX_REQUEST_LEN;
 pub use self::constants::VERIFIER_REQUEST_HEADER_LEN;
 pub use self::error::ProtocolError;
 pub use self::error::error_number;
+pub use self::limits::ANSWER_BUFFER_LEN;
+pub use self::limits::DIGITS_MAX_COUNT;
+pub use self::limits::KIND_MAX_LINES;
+pub use self::limits::SCENE_MAX_LEN;
+pub use self::limits::TABLE_MIN_ENTRIES;
 pub use self::policy::OperationCapability;
 pub use self::policy::capability_for_operation;
 pub use self::policy::is_operation;

@@ -77,7 +77,7 @@ kindOf w =
 -- 01: "in this order of kinds", "Script, tx and verdicts stand once; each other kind 0 to 64 times": whether a line of rank k
 -- may follow one of rank last, 0 at the start: script, tx, then the others in order up to verdicts
 unfoldable pub follows : ℕ → ℕ → Bool
-follows last k = cond (ltb last 2) (eqb k (last + 1)) (leb 3 k && (leb last k && not (eqb last 7)))
+follows last k = cond (ltb last (rank Tx)) (eqb k (last + 1)) (leb (rank Input) k && (leb last k && not (eqb last (rank Verdicts))))
 
 -- 01: "line: kind, order, field count", 2: a line's kind by its word and fields, Unknown where this row refuses the line
 unfoldable pub lineKind : ℕ → List (List ℕ) → Kind

@@ -8,6 +8,7 @@ use Rattle.octets.specs.Lists.{every}
 use Rattle.scene_text.specs.declared.decimal.Decimal.{Decimal}
 use Rattle.scene_text.specs.declared.decimal.Decimal.the-variants.{Value, Invalid}
 use Rattle.scene_text.specs.Text.{inRange, hexOk, hexVal, hexBytes, sinceOf}
+use Rattle.protocol.specs.Limits.{digitsMaxCount}
 use Rattle.scene_line.specs.declared.form.Form.{Form}
 use Rattle.scene_line.specs.declared.form.Form.the-variants.{Group, Since, TypeHash, Hash, TypeScript, Hex, Digits}
 use Rattle.scene_line.specs.declared.fields.FieldsFound.{FieldsFound}
@@ -41,7 +42,7 @@ fieldOk bare TypeHash f = eqb (length f) 0 || hashTextOk f
 fieldOk bare Hash f = hashTextOk f
 fieldOk bare TypeScript f = cond bare (eqb (length f) 0) (ltb 0 (length f) && hexOk f)
 fieldOk bare Hex f = hexOk f
-fieldOk bare Digits f = leb (length f) 16 && every (inRange 48 50) f
+fieldOk bare Digits f = leb (length f) digitsMaxCount && every (inRange 48 50) f
 
 -- whether the line's TYPEHASH is empty, after the field f
 abbrev pub bareAfter : Bool → Form → List ℕ → Bool

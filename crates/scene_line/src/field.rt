@@ -1,6 +1,7 @@
 // Whether a field has its form, and how many bytes it has.
 use crate::form::Form;
 use crate::form::hex_form;
+use protocol::DIGITS_MAX_COUNT;
 use scene_text::Decimal;
 use scene_text::all_between;
 use scene_text::hex_ok;
@@ -63,7 +64,7 @@ pub(crate) fn field_ok(bare: bool, t: Form, f: &[u8]) -> bool
         Form::TypeScript => type_script_ok(bare, f),
         Form::Hex => hex_ok(f),
         Form::Digits => {
-            if 16 < f.len() {
+            if DIGITS_MAX_COUNT < f.len() {
                 return false;
             }
             all_between(f, 48, 50)

@@ -4,13 +4,14 @@ use crate::field::field_ok;
 use crate::field::field_size;
 use crate::form::Form;
 use crate::form::next_form;
+use scene_text::COMMA;
 use scene_text::find;
 use scene_text::head;
 use scene_text::tail;
 ghost use mathlib.Core.Path.{_≡_};
 ghost use Prim.Native.Nat.{_≤_};
 ghost use lib.ListN.{length};
-ghost use Rattle.scene_text.specs.Text.{pieces};
+ghost use Rattle.scene_text.specs.Text.{pieces, comma};
 ghost use Rattle.scene_line.specs.Line.{fieldsFound};
 
 // Whether each field has its form, and how many bytes the fields have.
@@ -21,7 +22,7 @@ pub struct FieldsFound {
 
 // What the fields are, the first one of form `first`.
 pub fn check_fields(first: Form, fields: &[u8]) -> FieldsFound
-    ensures { λ r. ⌜ r ≡ fieldsFound first (pieces 44 (now (fields .entry))) ⌝ }
+    ensures { λ r. ⌜ r ≡ fieldsFound first (pieces comma (now (fields .entry))) ⌝ }
     ensures { λ r. ⌜ r .bytes ≤ length (now (fields .entry)) ⌝ }
 {
     let mut rest = fields;
@@ -30,7 +31,7 @@ pub fn check_fields(first: Form, fields: &[u8]) -> FieldsFound
     let mut ok = true;
     let mut bytes = 0;
     loop {
-        let e = find(rest, 44);
+        let e = find(rest, COMMA);
         let f = head(rest, e);
         ok = ok & field_ok(bare, t, f);
         bytes += field_size(t, f);

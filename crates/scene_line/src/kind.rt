@@ -1,11 +1,12 @@
 // The kinds of lines.
 use crate::form::Form;
 use octets::same_bytes;
+use scene_text::COMMA;
 use scene_text::count;
 ghost use mathlib.Core.Path.{_≡_};
 ghost use mathlib.Core.Bool.{cond};
 ghost use mathlib.Core.List.{_∷_};
-ghost use Rattle.scene_text.specs.Text.{pieces};
+ghost use Rattle.scene_text.specs.Text.{pieces, comma};
 ghost use Rattle.scene_line.specs.Kind.{rank, fieldCount, firstForm, kindOf, follows, lineKind};
 
 pub enum Kind {
@@ -19,18 +20,25 @@ pub enum Kind {
     Unknown,
 }
 
-// A kind's place in the order, 0 for none.
+// The ranks that a line's order is told by.
+const TX_RANK: usize = 2;
+
+const INPUT_RANK: usize = 3;
+
+pub const VERDICTS_RANK: usize = 7;
+
+// A kind's rank in the order, 0 for none.
 pub fn rank_of(k: Kind) -> usize
     ensures { λ r. ⌜ r ≡ rank k ⌝ }
 {
     match k {
         Kind::Script => 1,
-        Kind::Tx => 2,
-        Kind::Input => 3,
+        Kind::Tx => TX_RANK,
+        Kind::Input => INPUT_RANK,
         Kind::Output => 4,
         Kind::Dep => 5,
         Kind::Witness => 6,
-        Kind::Verdicts => 7,
+        Kind::Verdicts => VERDICTS_RANK,
         Kind::Unknown => 0,
     }
 }
@@ -87,31 +95,31 @@ fn kind_of(w: &[u8]) -> Kind
     pick(same_bytes(w, b"script"), Kind::Script, k)
 }
 
-// Whether a line at place k may follow one at place last.
+// Whether a line of rank k may follow one of rank last.
 fn may_follow(last: usize, k: usize) -> bool
     ensures { λ r. ⌜ r ≡ follows last k ⌝ }
 {
-    if last < 2 {
+    if last < TX_RANK {
         return k == last + 1;
     }
-    if k < 3 {
+    if k < INPUT_RANK {
         return false;
     }
     if k < last {
         return false;
     }
-    last != 7
+    last != VERDICTS_RANK
 }
 
-// The kind of a line with this word and these fields, Unknown where its word, its place or its count of fields is wrong.
+// The kind of a line with this word and these fields, Unknown where its word, its rank or its count of fields is wrong.
 pub fn line_kind(word: &[u8], fields: &[u8], last: usize) -> Kind
-    ensures { λ r. ⌜ r ≡ lineKind last (now (word .entry) ∷ pieces 44 (now (fields .entry))) ⌝ }
+    ensures { λ r. ⌜ r ≡ lineKind last (now (word .entry) ∷ pieces comma (now (fields .entry))) ⌝ }
 {
     let k = kind_of(word);
     if !may_follow(last, rank_of(k)) {
         return Kind::Unknown;
     }
-    if count(fields, 44) != field_count(k) {
+    if count(fields, COMMA) != field_count(k) {
         return Kind::Unknown;
     }
     k

@@ -10,6 +10,7 @@ pub use self::form::Form;
 pub use self::form::hex_form;
 pub use self::form::next_form;
 pub use self::kind::Kind;
+pub use self::kind::VERDICTS_RANK;
 pub use self::kind::first_form;
 pub use self::kind::line_kind;
 pub use self::kind::rank_of;

@@ -18,9 +18,10 @@ use Rattle.scene_text.specs.Text.{hexVal, sinceOf, inRange}
 use Rattle.scene_line.specs.Line.{nextForm, fieldEntries, lineEntries, formsOk}
 use Rattle.scene_line.proofs.KindLaws.{place-small}
 use Rattle.scene_line.specs.Kind.{rank, fieldCount, firstForm, follows}
+use Rattle.protocol.specs.Limits.{tableMinEntries}
+use Rattle.octets.proofs.Truth.{and-left, and-right}
 use Rattle.scene_reader.specs.Reader.{seenWith}
-use Rattle.scene_reader.specs.Room.{limit}
-use Rattle.scene_text.proofs.Tests.{and-left, and-right}
+use Rattle.scene_reader.specs.Room.{entriesLimit}
 use Rattle.scene_reader.proofs.NumberLaws.{halves-length}
 
 -- how many numbers n fields have at most, the first of form t; DIGITS apart
@@ -111,30 +112,30 @@ order last k e = go (ltb last 2) refl e
         )
 
 -- the limit, without its least and its differences
-limit-late : (k n : ℕ) → 3 ≤ k → n ≤ 64 → limit k n ≡ 20 + 400 * (k - 3) + 6 * n
-unfolding limit
-limit-late k n hk hn = omega arith
+entries-limit-late : (k n : ℕ) → 3 ≤ k → n ≤ 64 → entriesLimit k n ≡ 20 + 400 * (k - 3) + 6 * n
+unfolding entriesLimit
+entries-limit-late k n hk hn = omega arith
 
-limit-early : (k n : ℕ) → k ≤ 2 → limit k n ≡ 8 + 6 * k
-unfolding limit
-limit-early k n hk = omega arith
+entries-limit-early : (k n : ℕ) → k ≤ 2 → entriesLimit k n ≡ 8 + 6 * k
+unfolding entriesLimit
+entries-limit-early k n hk = omega arith
 
-module _ (last seen k n c filled : ℕ) (hk : k < 8) (hs : seen ≤ 64) (hn : n ≤ 64) (hf : filled ≤ limit last seen) (hc : c ≤ 6 + 12 * (k - 6)) where
+module _ (last seen k n c filled : ℕ) (hk : k < 8) (hs : seen ≤ 64) (hn : n ≤ 64) (hf : filled ≤ entriesLimit last seen) (hc : c ≤ 6 + 12 * (k - 6)) where
   -- a line of c entries: script or tx
-  grows-first : last < 2 → k ≡ last + 1 → filled + c ≤ limit k n
-  grows-first a b = omega (arith, limit-early last seen (omega arith), limit-early k n (omega arith))
+  grows-first : last < 2 → k ≡ last + 1 → filled + c ≤ entriesLimit k n
+  grows-first a b = omega (arith, entries-limit-early last seen (omega arith), entries-limit-early k n (omega arith))
 
   -- one behind tx
-  grows-second : last ≡ 2 → 3 ≤ k → 1 ≤ n → filled + c ≤ limit k n
-  grows-second a b d = omega (arith, limit-early last seen (omega arith), limit-late k n b hn)
+  grows-second : last ≡ 2 → 3 ≤ k → 1 ≤ n → filled + c ≤ entriesLimit k n
+  grows-second a b d = omega (arith, entries-limit-early last seen (omega arith), entries-limit-late k n b hn)
 
   -- one of the same kind as the last
-  grows-same : 3 ≤ last → k ≡ last → (last ≡ 7 → ⊥) → n ≡ seen + 1 → filled + c ≤ limit k n
-  grows-same a b d e = omega (arith, limit-late last seen a hs, limit-late k n (omega arith) hn)
+  grows-same : 3 ≤ last → k ≡ last → (last ≡ 7 → ⊥) → n ≡ seen + 1 → filled + c ≤ entriesLimit k n
+  grows-same a b d e = omega (arith, entries-limit-late last seen a hs, entries-limit-late k n (omega arith) hn)
 
   -- one of a later kind
-  grows-later : 3 ≤ last → last < k → n ≡ 1 → filled + c ≤ limit k n
-  grows-later a b e = omega (arith, limit-late last seen a hs, limit-late k n (omega arith) hn)
+  grows-later : 3 ≤ last → last < k → n ≡ 1 → filled + c ≤ entriesLimit k n
+  grows-later a b e = omega (arith, entries-limit-late last seen a hs, entries-limit-late k n (omega arith) hn)
 
 seen-either : (last seen k : ℕ) → ((k ≡ last) × (seenWith last seen k ≡ seen + 1)) ⊎ ((k ≡ last → ⊥) × (seenWith last seen k ≡ 1))
 seen-either last seen k = go (eqb k last) refl
@@ -144,9 +145,9 @@ seen-either last seen k = go (eqb k last) refl
     go false t = inr (eqb-false k last t, refl)
 
 -- the entries in use stay within the limit
-grows : (last seen k n c filled : ℕ) → k < 8 → seen ≤ 64 → n ≤ 64 → filled ≤ limit last seen → c ≤ 6 + 12 * (k - 6)
+grows : (last seen k n c filled : ℕ) → k < 8 → seen ≤ 64 → n ≤ 64 → filled ≤ entriesLimit last seen → c ≤ 6 + 12 * (k - 6)
     → ((last < 2) × (k ≡ last + 1)) ⊎ ((2 ≤ last) × (3 ≤ k) × (last ≤ k) × (last ≡ 7 → ⊥)) → ((k ≡ last) × (n ≡ seen + 1)) ⊎ ((k ≡ last → ⊥) × (n ≡ 1))
-    → filled + c ≤ limit k n
+    → filled + c ≤ entriesLimit k n
 grows last seen k n c filled hk hs hn hf hc (inl a) w = grows-first last seen k n c filled hk hs hn hf hc (a .0) (a .1)
 grows last seen k n c filled hk hs hn hf hc (inr a) (inl u) = grows-same last seen k n c filled hk hs hn hf hc (omega arith) (u .0) (a .3) (u .1)
 grows last seen k n c filled hk hs hn hf hc (inr a) (inr u) =
@@ -155,14 +156,14 @@ grows last seen k n c filled hk hs hn hf hc (inr a) (inr u) =
     (λ h. grows-later last seen k n c filled hk hs hn hf hc h (omega arith) (u .1))
     (eq-or-lt-of-le (a .0))
 
-pub fits : (last seen filled : ℕ) (k : Kind) (fs : List (List ℕ)) → last < 8 → seen ≤ 64 → filled ≤ limit last seen → seenWith last seen (rank k) ≤ 64
+pub fits : (last seen filled : ℕ) (k : Kind) (fs : List (List ℕ)) → last < 8 → seen ≤ 64 → filled ≤ entriesLimit last seen → seenWith last seen (rank k) ≤ 64
     → length fs ≡ fieldCount k → follows last (rank k) ≡ true → formsOk true (firstForm k) fs ≡ true
-    → filled + 1 + length (lineEntries (firstForm k) fs) ≤ limit (rank k) (seenWith last seen (rank k))
+    → filled + 1 + length (lineEntries (firstForm k) fs) ≤ entriesLimit (rank k) (seenWith last seen (rank k))
 fits last seen filled k fs hl hs hf hn n o ok =
     let h = grows last seen (rank k) (seenWith last seen (rank k)) (1 + length (lineEntries (firstForm k) fs)) filled (place-small k) hs hn hf (row-few k fs n ok) (order last (rank k) o) (seen-either last seen (rank k)) in
     let e : filled + 1 + length (lineEntries (firstForm k) fs) ≡ filled + (1 + length (lineEntries (firstForm k) fs)) = omega arith in
     rw e h
 
-pub limit-small : (k n : ℕ) → k < 8 → n ≤ 64 → limit k n ≤ 2048
-unfolding limit
-limit-small k n hk hn = omega arith
+pub entries-limit-small : (k n : ℕ) → k < 8 → n ≤ 64 → entriesLimit k n ≤ tableMinEntries
+unfolding entriesLimit
+entries-limit-small k n hk hn = omega arith

@@ -15,9 +15,9 @@ use Rattle.scene_line.specs.Kind.{rank, fieldCount, firstForm, follows}
 use Rattle.scene_line.proofs.KindLaws.{place-small}
 use Rattle.scene_reader.specs.declared.state.State.{State}
 use Rattle.scene_reader.specs.declared.state.LineStep.the-variants.{Next}
-use Rattle.scene_reader.specs.Reader.{ReaderState, held, seenWith, put}
-use Rattle.scene_reader.specs.Room.{stateHolding, stepAs, limit, Ready, Kept}
-use Rattle.scene_reader.proofs.Bounds.{fits, limit-small}
+use Rattle.scene_reader.specs.Reader.{ReaderState, held, seenWith, linePutAs}
+use Rattle.scene_reader.specs.Room.{stateHolding, lineOutcomeAs, entriesLimit, ReaderReady, ReadyAfter}
+use Rattle.scene_reader.proofs.Bounds.{fits, entries-limit-small}
 use Rattle.scene_reader.proofs.LineRows.{Passes}
 
 module _ (s : State) (st tb : List ℕ) (k : Kind) (fs : List (List ℕ)) where
@@ -26,8 +26,8 @@ module _ (s : State) (st tb : List ℕ) (k : Kind) (fs : List (List ℕ)) where
       → m ≡ length (lineBytes (firstForm k) fs) → end ≡ s .filled + 1 + length (lineEntries t fs)
       → st′ ≡ sets st (s .used) (lineBytes t fs)
       → tb′ ≡ sets (set (set tb p n) (s .filled) (s .used)) (s .filled + 1) (lineEntries t fs)
-      → stateHolding (record { last = p; seen = n; used = s .used + m; filled = end }) st′ tb′ ≡ put (stateHolding s st tb) k fs
-  unfolding put
+      → stateHolding (record { last = p; seen = n; used = s .used + m; filled = end }) st′ tb′ ≡ linePutAs (stateHolding s st tb) k fs
+  unfolding linePutAs
   is-put p n end m t st′ tb′ hp hn ht hm he hs hb = rw (he, hs, hb, hm, hn, hp, ht, add-one (s .filled))
 
   -- what was found of the fields is what they are, the first one of the kind's form
@@ -39,11 +39,11 @@ module _ (s : State) (st tb : List ℕ) (k : Kind) (fs : List (List ℕ)) where
   unfolding fieldsFound
   counted f hf = rw hf
 
-  module _ (n : ℕ) (ready : Ready s n (length st) (length tb))
+  module _ (n : ℕ) (ready : ReaderReady s n (length st) (length tb))
       (shape : (rank k ≡ 0 → ⊥) → (length fs ≡ fieldCount k) × (follows (s .last) (rank k) ≡ true))
       (z : Passes (stateHolding s st tb) k fs) where
     -- the entries in use with the line stay within the limit
-    within : s .filled + 1 + length (lineEntries (firstForm k) fs) ≤ limit (rank k) (seenWith (s .last) (s .seen) (rank k))
+    within : s .filled + 1 + length (lineEntries (firstForm k) fs) ≤ entriesLimit (rank k) (seenWith (s .last) (s .seen) (rank k))
     within =
         let o = shape (z .real) in
         fits (s .last) (s .seen) (s .filled) k fs (ready .known) (ready .few) (ready .fits) (z .few) (o .0) (o .1) (z .forms)
@@ -52,17 +52,17 @@ module _ (s : State) (st tb : List ℕ) (k : Kind) (fs : List (List ℕ)) where
     pub room : (rank k < length tb) × (s .filled + 1 + length (lineEntries (firstForm k) fs) ≤ length tb)
     room =
         let least = ready .enough in
-        let small = limit-small (rank k) (seenWith (s .last) (s .seen) (rank k)) (place-small k) (z .few) in
+        let small = entries-limit-small (rank k) (seenWith (s .last) (s .seen) (rank k)) (place-small k) (z .few) in
         (omega (arith, least, place-small k), omega (arith, least, small, within))
 
     -- what the line's step gives
-    pub stepped : (r : State) (st′ tb′ : List ℕ) → stateHolding r st′ tb′ ≡ put (stateHolding s st tb) k fs → held (stateHolding r st′ tb′) ≡ stepAs (stateHolding s st tb) k fs
+    pub stepped : (r : State) (st′ tb′ : List ℕ) → stateHolding r st′ tb′ ≡ linePutAs (stateHolding s st tb) k fs → held (stateHolding r st′ tb′) ≡ lineOutcomeAs (stateHolding s st tb) k fs
     stepped r st′ tb′ e = rw e (sym (z .put-down))
 
     -- the state after the line is ready
-    pub kept : (r : State) (st′ tb′ : List ℕ) → length (lineBytes (firstForm k) fs) ≤ n → stateHolding r st′ tb′ ≡ put (stateHolding s st tb) k fs
-        → Kept s n (length st) (length tb) (Next r)
-    unfolding put
+    pub kept : (r : State) (st′ tb′ : List ℕ) → length (lineBytes (firstForm k) fs) ≤ n → stateHolding r st′ tb′ ≡ linePutAs (stateHolding s st tb) k fs
+        → ReadyAfter s n (length st) (length tb) (Next r)
+    unfolding linePutAs
     kept r st′ tb′ few e =
         let last′ : r .last ≡ rank k = ap (λ (g : ReaderState). g .last) e in
         let seen′ : r .seen ≡ seenWith (s .last) (s .seen) (rank k) = ap (λ (g : ReaderState). g .seen) e in

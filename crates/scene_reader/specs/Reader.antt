@@ -10,10 +10,12 @@ use Rattle.protocol.specs.declared.error.ProtocolError.{ProtocolError}
 use Rattle.protocol.specs.declared.error.ProtocolError.the-variants.{SceneTooLong, InvalidLine, InvalidField, TooManyLines, StoreTooShort}
 use Rattle.protocol.specs.declared.check.Check.{Check}
 use Rattle.protocol.specs.declared.check.Check.the-variants.{Passed, Failed}
-use Rattle.scene_text.specs.Text.{pieces}
+use Rattle.scene_text.specs.Text.{pieces, comma, lineEnd}
 use Rattle.scene_line.specs.declared.kind.Kind.{Kind}
 use Rattle.scene_line.specs.Line.{formsOk, lineBytes, lineEntries}
 use Rattle.scene_line.specs.Kind.{rank, firstForm, lineKind, lineFields}
+use Rattle.protocol.specs.Limits.{sceneMaxLength, tableMinEntries, kindMaxLines}
+use Rattle.scene_line.specs.declared.kind.Kind.the-variants.{Verdicts}
 
 -- 01: "Lines are tested one by one": what is held between two lines. The rank of the last kind and how many lines of it were
 -- read, the store with its count of bytes, the table with its count of entries
@@ -37,8 +39,8 @@ seenWith last seen k = cond (eqb k last) (seen + 1) 1
 -- 01: "The reader puts the bytes of all hexadecimal fields end to end into a lent store, the rest into a lent u32 table": a line
 -- put down. Its kind's count stands at the table's entry `rank k`; behind the table's entries the place of its bytes in the
 -- store and its numbers; behind the store's bytes its bytes
-unfoldable pub put : ReaderState → Kind → List (List ℕ) → ReaderState
-put h k fs = record {
+unfoldable pub linePutAs : ReaderState → Kind → List (List ℕ) → ReaderState
+linePutAs h k fs = record {
   last = rank k;
   seen = seenWith (h .last) (h .seen) (rank k);
   used = h .used + length (lineBytes (firstForm k) fs);
@@ -53,23 +55,23 @@ put h k fs = record {
 unfoldable pub lineRows : ReaderState → Kind → List (List ℕ) → List Row
 lineRows h k fs =
     row (not (eqb (rank k) 0)) InvalidLine
-    ∷ row (leb (seenWith (h .last) (h .seen) (rank k)) 64) TooManyLines
+    ∷ row (leb (seenWith (h .last) (h .seen) (rank k)) kindMaxLines) TooManyLines
     ∷ row (formsOk true (firstForm k) fs) InvalidField
     ∷ row (leb (h .used + length (lineBytes (firstForm k) fs)) (length (h .store))) StoreTooShort
     ∷ []
 
 -- the line rows of a line of the text, by its word and its fields
 unfoldable pub rowsOfLine : ReaderState → List ℕ → List Row
-rowsOfLine h line = lineRows h (lineKind (h .last) (pieces 44 line)) (lineFields (pieces 44 line))
+rowsOfLine h line = lineRows h (lineKind (h .last) (pieces comma line)) (lineFields (pieces comma line))
 
 -- what is held once it is put down
 unfoldable pub linePut : ReaderState → List ℕ → ReaderState
-linePut h line = put h (lineKind (h .last) (pieces 44 line)) (lineFields (pieces 44 line))
+linePut h line = linePutAs h (lineKind (h .last) (pieces comma line)) (lineFields (pieces comma line))
 
 -- 01: "ending, or a needed line missing", 2; "A needed line is missing at the line that stands in its place, or at the end of the
 -- scene": nothing follows the last line's ending, and verdicts was read
 unfoldable pub sceneEndRows : ReaderState → List ℕ → List Row
-sceneEndRows h rest = row (eqb (length rest) 0) InvalidLine ∷ row (eqb (h .last) 7) InvalidLine ∷ []
+sceneEndRows h rest = row (eqb (length rest) 0) InvalidLine ∷ row (eqb (h .last) (rank Verdicts)) InvalidLine ∷ []
 
 -- 01: "Lines are tested one by one, each through the line rows below in their order, a row over all fields of the line before the
 -- next row": the rows of all lines, each line's over what is held once those before it are put down; the last piece, and a text has
@@ -91,25 +93,29 @@ outcomeAfter (Failed e) h = refused e
 outcomeAfter Passed h = held h
 
 -- what the lines alone give, the reader's own two rows aside
-unfoldable pub run : ReaderState → List (List ℕ) → ReaderOutcome
-run h ls = outcomeAfter (decide Passed (linesRows h ls)) (linesPut h ls)
+unfoldable pub linesOutcome : ReaderState → List (List ℕ) → ReaderOutcome
+linesOutcome h ls = outcomeAfter (decide Passed (linesRows h ls)) (linesPut h ls)
 
 -- 01: "both are zeroed first": a store of n bytes and a table of m entries; the table's first eight entries are for the counts
 -- of the kinds
-unfoldable pub start : ℕ → ℕ → ReaderState
-start n m = record { last = 0; seen = 0; used = 0; filled = 8; store = replicate n 0; table = replicate m 0 }
+unfoldable pub readerStart : ℕ → ℕ → ReaderState
+readerStart n m = record { last = 0; seen = 0; used = 0; filled = 8; store = replicate n 0; table = replicate m 0 }
 
 -- 01: "reader: above 1,048,576 bytes", 1; "reader: table below 2,048 entries", 6
 unfoldable pub sceneLimitRows : List ℕ → ℕ → List Row
-sceneLimitRows scene m = row (leb (length scene) 1048576) SceneTooLong ∷ row (leb 2048 m) StoreTooShort ∷ []
+sceneLimitRows scene m = row (leb (length scene) sceneMaxLength) SceneTooLong ∷ row (leb tableMinEntries m) StoreTooShort ∷ []
 
 -- 01, "Where each refusal is raised": the reader rows, then the line rows
 unfoldable pub sceneRows : List ℕ → ℕ → ℕ → List Row
-sceneRows scene n m = sceneLimitRows scene m ++ linesRows (start n m) (pieces 10 scene)
+sceneRows scene n m = sceneLimitRows scene m ++ linesRows (readerStart n m) (pieces lineEnd scene)
 
 -- what the reader finds, with a store of n bytes and a table of m entries: the first row that fails refuses the scene
 unfoldable pub readOf : List ℕ → ℕ → ℕ → ReaderOutcome
-readOf scene n m = outcomeAfter (decide Passed (sceneRows scene n m)) (linesPut (start n m) (pieces 10 scene))
+readOf scene n m = outcomeAfter (decide Passed (sceneRows scene n m)) (linesPut (readerStart n m) (pieces lineEnd scene))
+
+-- the same with a store and a table as long as these
+abbrev pub readInto : List ℕ → List ℕ → List ℕ → ReaderOutcome
+readInto scene store table = readOf scene (length store) (length table)
 
 -- what the reader answers
 abbrev pub readerCheck : ReaderOutcome → Check

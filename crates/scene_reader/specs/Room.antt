@@ -6,10 +6,17 @@ use mathlib.Core.List.{List}
 use Rattle.protocol.specs.Rows.{decide}
 use Rattle.protocol.specs.declared.check.Check.the-variants.{Passed}
 use Rattle.scene_line.specs.declared.kind.Kind.{Kind}
+use Rattle.protocol.specs.Limits.{sceneMaxLength, tableMinEntries, kindMaxLines}
+use mathlib.Core.Path.{_≡_}
+use lib.ListN.{length}
+use Rattle.protocol.specs.declared.check.Check.{Check}
+use Rattle.scene_line.specs.declared.fields.FieldsFound.{FieldsFound}
+use Rattle.scene_line.specs.Line.{fieldsFound}
+use Rattle.scene_line.specs.Kind.{firstForm}
 use Rattle.scene_reader.specs.declared.state.State.{State}
 use Rattle.scene_reader.specs.declared.state.LineStep.{LineStep}
 use Rattle.scene_reader.specs.declared.state.LineStep.the-variants.{Next, Refused}
-use Rattle.scene_reader.specs.Reader.{ReaderState, ReaderOutcome, refused, held, outcomeAfter, lineRows, rowsOfLine, sceneEndRows, put, linePut}
+use Rattle.scene_reader.specs.Reader.{ReaderState, ReaderOutcome, refused, held, outcomeAfter, lineRows, rowsOfLine, sceneEndRows, linePutAs, linePut}
 
 -- the state in the code, with the store and the table
 abbrev pub stateHolding : State → List ℕ → List ℕ → ReaderState
@@ -21,32 +28,38 @@ stepOutcome (Next s) store table = held (stateHolding s store table)
 stepOutcome (Refused e) store table = refused e
 
 -- a line of kind k with the fields fs: its rows, and then it is put down
-abbrev pub stepAs : ReaderState → Kind → List (List ℕ) → ReaderOutcome
-stepAs h k fs = outcomeAfter (decide Passed (lineRows h k fs)) (put h k fs)
+abbrev pub lineOutcomeAs : ReaderState → Kind → List (List ℕ) → ReaderOutcome
+lineOutcomeAs h k fs = outcomeAfter (decide Passed (lineRows h k fs)) (linePutAs h k fs)
+
+-- what the checks of a line of kind k find, for all fields that are as found and every store of room bytes
+abbrev pub LineChecked : Kind → State → FieldsFound → ℕ → Check → Type 0
+LineChecked k s found room r =
+    (fs : List (List ℕ)) (store table : List ℕ) → found ≡ fieldsFound (firstForm k) fs → room ≡ length store
+    → r ≡ decide Passed (lineRows (stateHolding s store table) k fs)
 
 -- a line of the text
-abbrev pub step : ReaderState → List ℕ → ReaderOutcome
-step h line = outcomeAfter (decide Passed (rowsOfLine h line)) (linePut h line)
+abbrev pub lineOutcome : ReaderState → List ℕ → ReaderOutcome
+lineOutcome h line = outcomeAfter (decide Passed (rowsOfLine h line)) (linePut h line)
 
 -- what follows the last line's ending
-abbrev pub finish : ReaderState → List ℕ → ReaderOutcome
-finish h rest = outcomeAfter (decide Passed (sceneEndRows h rest)) h
+abbrev pub sceneEndOutcome : ReaderState → List ℕ → ReaderOutcome
+sceneEndOutcome h rest = outcomeAfter (decide Passed (sceneEndRows h rest)) h
 
 -- the table's entries in use after lines up to the seen-th of the kind of rank last, at most: 8 counts, 6 for each line before
 -- verdicts, 18 for verdicts
-unfoldable pub limit : ℕ → ℕ → ℕ
-limit last seen = 8 + 6 * min last 2 + 400 * (last - 3) + 6 * min seen (64 * (last - 2))
+unfoldable pub entriesLimit : ℕ → ℕ → ℕ
+entriesLimit last seen = 8 + 6 * min last 2 + 400 * (last - 3) + 6 * min seen (kindMaxLines * (last - 2))
 
 -- a state with n bytes of text to come, a store of that many bytes and a table of that many entries
-pub record Ready (s : State) (n store table : ℕ) : Type 0 where
+pub record ReaderReady (s : State) (n store table : ℕ) : Type 0 where
   pub known : s .last < 8
-  pub few : s .seen ≤ 64
+  pub few : s .seen ≤ kindMaxLines
   pub inside : s .used ≤ store
-  pub small : s .used + n ≤ 1048576
-  pub enough : 2048 ≤ table
-  pub fits : s .filled ≤ limit (s .last) (s .seen)
+  pub small : s .used + n ≤ sceneMaxLength
+  pub enough : tableMinEntries ≤ table
+  pub fits : s .filled ≤ entriesLimit (s .last) (s .seen)
 
 -- what a step over n bytes leaves is ready
-abbrev pub Kept : State → ℕ → ℕ → ℕ → LineStep → Type 0
-Kept s n store table (Next t) = Ready t 0 store table × (t .used ≤ s .used + n)
-Kept s n store table (Refused e) = Unit {0}
+abbrev pub ReadyAfter : State → ℕ → ℕ → ℕ → LineStep → Type 0
+ReadyAfter s n store table (Next t) = ReaderReady t 0 store table × (t .used ≤ s .used + n)
+ReadyAfter s n store table (Refused e) = Unit {0}

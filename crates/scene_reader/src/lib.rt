@@ -11,19 +11,24 @@ use crate::lines::read_lines;
 use crate::state::LineStep;
 use protocol::Check;
 use protocol::ProtocolError;
+use protocol::SCENE_MAX_LEN;
+use protocol::TABLE_MIN_ENTRIES;
 ghost use mathlib.Core.Path.{_≡_};
 ghost use lib.ListN.{length, replicate};
-ghost use Rattle.scene_reader.specs.Reader.{readOf, readerCheck, readerStore, readerTable};
+ghost use Rattle.scene_reader.specs.Reader.{readerCheck, readerStore, readerTable, readInto};
 ghost use Rattle.scene_reader.specs.Room.{stepOutcome};
 
 // The limits, then the lines, into a store and a table that are all zero.
 fn read_checked(scene: &[u8], store: &mut [u8], table: &mut [u32]) -> LineStep
     requires { ⌜ (now store ≡ replicate (length (now store)) 0) × (now table ≡ replicate (length (now table)) 0) ⌝ }
-    ensures { λ r. ⌜ stepOutcome r (now (store .exit)) (now (table .exit)) ≡ readOf (now (scene .entry)) (length (now (store .entry))) (length (now (table .entry))) ⌝ }
+    ensures { λ r. ⌜ stepOutcome r (now (store .exit)) (now (table .exit)) ≡ readInto (now (scene .entry)) (now (store .entry)) (now (table .entry)) ⌝ }
 {
     let checked = Check::Passed
-        .require(scene.len() <= 1048576, ProtocolError::SceneTooLong)
-        .require(2048 <= table.len(), ProtocolError::StoreTooShort);
+        .require(scene.len() <= SCENE_MAX_LEN, ProtocolError::SceneTooLong)
+        .require(
+            TABLE_MIN_ENTRIES <= table.len(),
+            ProtocolError::StoreTooShort,
+        );
     match checked {
         Check::Failed(error) => LineStep::Refused(error),
         Check::Passed => read_lines(scene, store, table),
@@ -32,9 +37,9 @@ fn read_checked(scene: &[u8], store: &mut [u8], table: &mut [u32]) -> LineStep
 
 // Reads a scene into the store and the table. Both are all zero after a refusal.
 pub fn read_scene(scene: &[u8], store: &mut [u8], table: &mut [u32]) -> Check
-    ensures { λ r. ⌜ r ≡ readerCheck (readOf (now (scene .entry)) (length (now (store .entry))) (length (now (table .entry)))) ⌝ }
-    ensures { λ _. ⌜ now (store .exit) ≡ readerStore (length (now (store .entry))) (readOf (now (scene .entry)) (length (now (store .entry))) (length (now (table .entry)))) ⌝ }
-    ensures { λ _. ⌜ now (table .exit) ≡ readerTable (length (now (table .entry))) (readOf (now (scene .entry)) (length (now (store .entry))) (length (now (table .entry)))) ⌝ }
+    ensures { λ r. ⌜ r ≡ readerCheck (readInto (now (scene .entry)) (now (store .entry)) (now (table .entry))) ⌝ }
+    ensures { λ _. ⌜ now (store .exit) ≡ readerStore (length (now (store .entry))) (readInto (now (scene .entry)) (now (store .entry)) (now (table .entry))) ⌝ }
+    ensures { λ _. ⌜ now (table .exit) ≡ readerTable (length (now (table .entry))) (readInto (now (scene .entry)) (now (store .entry)) (now (table .entry))) ⌝ }
 {
     clear_bytes(store);
     clear_words(table);

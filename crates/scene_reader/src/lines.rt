@@ -3,13 +3,17 @@ use crate::put::put_line;
 use crate::state::LineStep;
 use crate::state::State;
 use protocol::Check;
+use protocol::KIND_MAX_LINES;
 use protocol::ProtocolError;
 use scene_line::FieldsFound;
 use scene_line::Kind;
+use scene_line::VERDICTS_RANK;
 use scene_line::check_fields;
 use scene_line::first_form;
 use scene_line::line_kind;
 use scene_line::rank_of;
+use scene_text::COMMA;
+use scene_text::LINE_END;
 use scene_text::find;
 use scene_text::head;
 use scene_text::tail;
@@ -18,17 +22,16 @@ ghost use mathlib.Core.Bool.{true};
 ghost use mathlib.Core.List.{List};
 ghost use Prim.Native.Nat.{ℕ, _+_, _≤_};
 ghost use lib.ListN.{length, replicate};
-ghost use Rattle.protocol.specs.Rows.{decide};
 ghost use Rattle.protocol.specs.declared.check.Check.the-variants.{Passed};
-ghost use Rattle.scene_text.specs.Text.{pieces};
-ghost use Rattle.scene_line.specs.Kind.{rank, fieldCount, firstForm, follows};
-ghost use Rattle.scene_line.specs.Line.{fieldsFound};
-ghost use Rattle.scene_reader.specs.Reader.{seenWith, lineRows, run, start};
-ghost use Rattle.scene_reader.specs.Room.{stepAs, step, finish, Ready, Kept, stateHolding, stepOutcome};
+ghost use Rattle.scene_text.specs.Text.{pieces, comma, lineEnd};
+ghost use Rattle.scene_line.specs.Kind.{rank, fieldCount, follows};
+ghost use Rattle.protocol.specs.Limits.{sceneMaxLength, tableMinEntries, kindMaxLines};
+ghost use Rattle.scene_reader.specs.Reader.{seenWith, linesOutcome, readerStart};
+ghost use Rattle.scene_reader.specs.Room.{lineOutcomeAs, lineOutcome, sceneEndOutcome, ReaderReady, ReadyAfter, stateHolding, stepOutcome, LineChecked};
 
-// How many lines of the kind at place k were read, with this one.
+// How many lines of the kind of rank k were read, with this one.
 pub(crate) fn seen_with(last: usize, seen: usize, k: usize) -> usize
-    requires { ⌜ seen ≤ 64 ⌝ }
+    requires { ⌜ seen ≤ kindMaxLines ⌝ }
     ensures { λ r. ⌜ r ≡ seenWith last seen k ⌝ }
 {
     if k == last {
@@ -39,24 +42,25 @@ pub(crate) fn seen_with(last: usize, seen: usize, k: usize) -> usize
 
 // What the rows of a line of kind k find, its fields and a store of room bytes being as found.
 fn check_line(k: Kind, s: State, found: FieldsFound, room: usize) -> Check
-    requires { ⌜ (s .seen ≤ 64) × (s .used + found .bytes ≤ 1048576) ⌝ }
-    ensures { λ r. ⌜ ((fs : List (List ℕ)) (store table : List ℕ) → found ≡ fieldsFound (firstForm k) fs → room ≡ length store → r ≡ decide Passed (lineRows (stateHolding s store table) k fs)) ⌝ }
+    requires { ⌜ (s .seen ≤ kindMaxLines) × (s .used + found .bytes ≤ sceneMaxLength) ⌝ }
+    ensures { λ r. ⌜ LineChecked k s found room r ⌝ }
 {
     let p = rank_of(k);
     let seen = seen_with(s.last, s.seen, p);
     Check::Passed
         .require(p != 0, ProtocolError::InvalidLine)
-        .require(seen <= 64, ProtocolError::TooManyLines)
+        .require(seen <= KIND_MAX_LINES, ProtocolError::TooManyLines)
         .require(found.ok, ProtocolError::InvalidField)
         .require(s.used + found.bytes <= room, ProtocolError::StoreTooShort)
 }
 
 // A line of kind k: its rows, and then it is put down.
 fn read_as(k: Kind, fields: &[u8], s: State, store: &mut [u8], table: &mut [u32]) -> LineStep
-    requires { ⌜ Ready s (length (now fields)) (length (now store)) (length (now table)) ⌝ }
-    requires { ⌜ ((rank k ≡ 0 → ⊥) → (length (pieces 44 (now fields)) ≡ fieldCount k) × (follows (s .last) (rank k) ≡ true)) ⌝ }
-    ensures { λ r. ⌜ stepOutcome r (now (store .exit)) (now (table .exit)) ≡ stepAs (stateHolding s (now (store .entry)) (now (table .entry))) k (pieces 44 (now (fields .entry))) ⌝ }
-    ensures { λ r. ⌜ Kept s (length (now (fields .entry))) (length (now (store .entry))) (length (now (table .entry))) r ⌝ }
+    requires { ⌜ ReaderReady s (length (now fields)) (length (now store)) (length (now table)) ⌝ }
+    requires { ⌜ ((rank k ≡ 0 → ⊥) → (length (pieces comma (now fields)) ≡ fieldCount k) × (follows (s .last) (rank k) ≡ true)) ⌝ }
+    ensures { λ r. ⌜ stepOutcome r (now (store .exit)) (now (table .exit))
+        ≡ lineOutcomeAs (stateHolding s (now (store .entry)) (now (table .entry))) k (pieces comma (now (fields .entry))) ⌝ }
+    ensures { λ r. ⌜ ReadyAfter s (length (now (fields .entry))) (length (now (store .entry))) (length (now (table .entry))) r ⌝ }
 {
     let found = check_fields(first_form(k), fields);
     match check_line(k, s, found, store.len()) {
@@ -67,11 +71,12 @@ fn read_as(k: Kind, fields: &[u8], s: State, store: &mut [u8], table: &mut [u32]
 
 // One line.
 fn read_line(line: &[u8], s: State, store: &mut [u8], table: &mut [u32]) -> LineStep
-    requires { ⌜ Ready s (length (now line)) (length (now store)) (length (now table)) ⌝ }
-    ensures { λ r. ⌜ stepOutcome r (now (store .exit)) (now (table .exit)) ≡ step (stateHolding s (now (store .entry)) (now (table .entry))) (now (line .entry)) ⌝ }
-    ensures { λ r. ⌜ Kept s (length (now (line .entry))) (length (now (store .entry))) (length (now (table .entry))) r ⌝ }
+    requires { ⌜ ReaderReady s (length (now line)) (length (now store)) (length (now table)) ⌝ }
+    ensures { λ r. ⌜ stepOutcome r (now (store .exit)) (now (table .exit))
+        ≡ lineOutcome (stateHolding s (now (store .entry)) (now (table .entry))) (now (line .entry)) ⌝ }
+    ensures { λ r. ⌜ ReadyAfter s (length (now (line .entry))) (length (now (store .entry))) (length (now (table .entry))) r ⌝ }
 {
-    let e = find(line, 44);
+    let e = find(line, COMMA);
     if e == line.len() {
         return LineStep::Refused(ProtocolError::InvalidLine);
     }
@@ -82,11 +87,11 @@ fn read_line(line: &[u8], s: State, store: &mut [u8], table: &mut [u32]) -> Line
 
 // The end of a scene: what follows the last line's ending.
 fn finish_at(s: State, rest: &[u8]) -> LineStep
-    ensures { λ r. ⌜ ((store table : List ℕ) → stepOutcome r store table ≡ finish (stateHolding s store table) (now (rest .entry))) ⌝ }
+    ensures { λ r. ⌜ ((store table : List ℕ) → stepOutcome r store table ≡ sceneEndOutcome (stateHolding s store table) (now (rest .entry))) ⌝ }
 {
     let checked = Check::Passed
         .require(rest.len() == 0, ProtocolError::InvalidLine)
-        .require(s.last == 7, ProtocolError::InvalidLine);
+        .require(s.last == VERDICTS_RANK, ProtocolError::InvalidLine);
     match checked {
         Check::Failed(error) => LineStep::Refused(error),
         Check::Passed => LineStep::Next(s),
@@ -95,9 +100,10 @@ fn finish_at(s: State, rest: &[u8]) -> LineStep
 
 // All lines, into a store and a table that are all zero.
 pub(crate) fn read_lines(scene: &[u8], store: &mut [u8], table: &mut [u32]) -> LineStep
-    requires { ⌜ (length (now scene) ≤ 1048576) × (2048 ≤ length (now table)) ⌝ }
+    requires { ⌜ (length (now scene) ≤ sceneMaxLength) × (tableMinEntries ≤ length (now table)) ⌝ }
     requires { ⌜ (now store ≡ replicate (length (now store)) 0) × (now table ≡ replicate (length (now table)) 0) ⌝ }
-    ensures { λ r. ⌜ stepOutcome r (now (store .exit)) (now (table .exit)) ≡ run (start (length (now (store .entry))) (length (now (table .entry)))) (pieces 10 (now (scene .entry))) ⌝ }
+    ensures { λ r. ⌜ stepOutcome r (now (store .exit)) (now (table .exit))
+        ≡ linesOutcome (readerStart (length (now (store .entry))) (length (now (table .entry)))) (pieces lineEnd (now (scene .entry))) ⌝ }
 {
     let mut rest = scene;
     let mut s = State {
@@ -107,7 +113,7 @@ pub(crate) fn read_lines(scene: &[u8], store: &mut [u8], table: &mut [u32]) -> L
         filled: 8,
     };
     loop {
-        let e = find(rest, 10);
+        let e = find(rest, LINE_END);
         if e == rest.len() {
             return finish_at(s, rest);
         }

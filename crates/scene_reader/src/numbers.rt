@@ -10,6 +10,7 @@ ghost use lib.ListN.{length, getD};
 ghost use lib.Seq.{sets};
 ghost use Rattle.scene_text.specs.Text.{hexVal, sinceOf};
 ghost use Rattle.scene_line.specs.Line.{sinceHalves, fieldEntries};
+ghost use Rattle.protocol.specs.Limits.{sceneMaxLength};
 
 // The value of the first digit of f.
 fn digit(f: &[u8]) -> u8
@@ -41,7 +42,7 @@ fn put_since(f: &[u8], table: &mut [u32], at: usize)
 // Puts the count of the digits f and each of them into the table from at on.
 fn put_digits(f: &[u8], table: &mut [u32], at: usize)
     requires { ⌜ at + 1 + length (now f) ≤ length (now table) ⌝ }
-    requires { ⌜ length (now f) ≤ 1048576 ⌝ }
+    requires { ⌜ length (now f) ≤ sceneMaxLength ⌝ }
     ensures { λ _. ⌜ now (table .exit) ≡ sets (now (table .entry)) at (length (now (f .entry)) ∷ map hexVal (now (f .entry))) ⌝ }
 {
     table[at] = f.len() as u32;
@@ -55,7 +56,7 @@ fn put_digits(f: &[u8], table: &mut [u32], at: usize)
 // Puts the numbers of a field into the table from at on, and says how many they are.
 pub(crate) fn put_number(t: Form, f: &[u8], table: &mut [u32], at: usize) -> usize
     requires { ⌜ at + length (fieldEntries t (now f)) ≤ length (now table) ⌝ }
-    requires { ⌜ length (now f) ≤ 1048576 ⌝ }
+    requires { ⌜ length (now f) ≤ sceneMaxLength ⌝ }
     ensures { λ r. ⌜ r ≡ length (fieldEntries t (now (f .entry))) ⌝ }
     ensures { λ _. ⌜ now (table .exit) ≡ sets (now (table .entry)) at (fieldEntries t (now (f .entry))) ⌝ }
 {

@@ -8,6 +8,7 @@ use scene_line::first_form;
 use scene_line::hex_form;
 use scene_line::next_form;
 use scene_line::rank_of;
+use scene_text::COMMA;
 use scene_text::decode;
 use scene_text::find;
 use scene_text::head;
@@ -16,10 +17,11 @@ ghost use mathlib.Core.Path.{_≡_};
 ghost use Prim.Native.Nat.{_+_, _<_, _≤_};
 ghost use lib.ListN.{length};
 ghost use lib.Seq.{sets};
-ghost use Rattle.scene_text.specs.Text.{pieces};
+ghost use Rattle.scene_text.specs.Text.{pieces, comma};
 ghost use Rattle.scene_line.specs.Line.{fieldBytes, lineBytes, lineEntries};
 ghost use Rattle.scene_line.specs.Kind.{rank, firstForm};
-ghost use Rattle.scene_reader.specs.Reader.{put};
+ghost use Rattle.protocol.specs.Limits.{sceneMaxLength, kindMaxLines};
+ghost use Rattle.scene_reader.specs.Reader.{linePutAs};
 ghost use Rattle.scene_reader.specs.Room.{stateHolding};
 
 // Puts the bytes of a field into the store from at on, and says how many they are.
@@ -44,18 +46,18 @@ fn put_fields(
     table: &mut [u32],
     filled: usize,
 ) -> usize
-    requires { ⌜ (length (now fields) ≤ 1048576) × (used ≤ 1048576) ⌝ }
-    requires { ⌜ filled + length (lineEntries first (pieces 44 (now fields))) ≤ length (now table) ⌝ }
-    ensures { λ r. ⌜ r ≡ filled + length (lineEntries first (pieces 44 (now (fields .entry)))) ⌝ }
-    ensures { λ _. ⌜ now (store .exit) ≡ sets (now (store .entry)) used (lineBytes first (pieces 44 (now (fields .entry)))) ⌝ }
-    ensures { λ _. ⌜ now (table .exit) ≡ sets (now (table .entry)) filled (lineEntries first (pieces 44 (now (fields .entry)))) ⌝ }
+    requires { ⌜ (length (now fields) ≤ sceneMaxLength) × (used ≤ sceneMaxLength) ⌝ }
+    requires { ⌜ filled + length (lineEntries first (pieces comma (now fields))) ≤ length (now table) ⌝ }
+    ensures { λ r. ⌜ r ≡ filled + length (lineEntries first (pieces comma (now (fields .entry)))) ⌝ }
+    ensures { λ _. ⌜ now (store .exit) ≡ sets (now (store .entry)) used (lineBytes first (pieces comma (now (fields .entry)))) ⌝ }
+    ensures { λ _. ⌜ now (table .exit) ≡ sets (now (table .entry)) filled (lineEntries first (pieces comma (now (fields .entry)))) ⌝ }
 {
     let mut rest = fields;
     let mut t = first;
     let mut at = used;
     let mut entry = filled;
     loop {
-        let e = find(rest, 44);
+        let e = find(rest, COMMA);
         let f = head(rest, e);
         entry += put_number(t, f, table, entry);
         at += put_bytes(t, f, store, at);
@@ -77,11 +79,12 @@ pub(crate) fn put_line(
     store: &mut [u8],
     table: &mut [u32],
 ) -> State
-    requires { ⌜ n ≡ length (lineBytes (firstForm k) (pieces 44 (now fields))) ⌝ }
+    requires { ⌜ n ≡ length (lineBytes (firstForm k) (pieces comma (now fields))) ⌝ }
     requires { ⌜ s .used + n ≤ length (now store) ⌝ }
-    requires { ⌜ (length (now fields) ≤ 1048576) × (s .used ≤ 1048576) × (s .seen ≤ 64) ⌝ }
-    requires { ⌜ (rank k < length (now table)) × (s .filled + 1 + length (lineEntries (firstForm k) (pieces 44 (now fields))) ≤ length (now table)) ⌝ }
-    ensures { λ r. ⌜ stateHolding r (now (store .exit)) (now (table .exit)) ≡ put (stateHolding s (now (store .entry)) (now (table .entry))) k (pieces 44 (now (fields .entry))) ⌝ }
+    requires { ⌜ (length (now fields) ≤ sceneMaxLength) × (s .used ≤ sceneMaxLength) × (s .seen ≤ kindMaxLines) ⌝ }
+    requires { ⌜ (rank k < length (now table)) × (s .filled + 1 + length (lineEntries (firstForm k) (pieces comma (now fields))) ≤ length (now table)) ⌝ }
+    ensures { λ r. ⌜ stateHolding r (now (store .exit)) (now (table .exit))
+        ≡ linePutAs (stateHolding s (now (store .entry)) (now (table .entry))) k (pieces comma (now (fields .entry))) ⌝ }
 {
     let p = rank_of(k);
     let used = s.used;

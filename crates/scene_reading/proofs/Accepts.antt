@@ -8,9 +8,9 @@ use native.Mathlib.Nat.{zero-add}
 use native.Mathlib.Omega.{arith}
 use lib.ListN.{length, replicate, length-append, length-replicate}
 use Rattle.octets.specs.Lists.{joined, every}
-use Rattle.scene_text.specs.Text.{pieces}
+use Rattle.scene_text.specs.Text.{pieces, lineEnd}
 use Rattle.scene_line.specs.Kind.{rank}
-use Rattle.scene_reader.specs.Reader.{ReaderState, held, seenWith, run, start}
+use Rattle.scene_reader.specs.Reader.{ReaderState, held, seenWith, linesOutcome, readerStart}
 use Rattle.scene_reading.specs.Lines.{LinesAccepted, kindOfLine, countOk, formOk, bytesOfLine}
 use Rattle.octets.proofs.Truth.{and-both, both-and}
 use Rattle.scene_reading.proofs.Order.{Order}
@@ -51,10 +51,10 @@ apart (l ∷ ls) last seen used size t =
 
 module _ (text : List ℕ) (n m : ℕ) where
   -- a text that the run accepts is refused by no row
-  pub accepted-passes : (g : ReaderState) → run (start n m) (pieces 10 text) ≡ held g → LinesAccepted text n
-  unfolding start
+  pub accepted-passes : (g : ReaderState) → linesOutcome (readerStart n m) (pieces lineEnd text) ≡ held g → LinesAccepted text n
+  unfolding readerStart
   accepted-passes g e =
-      let r : Ran (start n m) g (pieces 10 text) = run-text text (start n m) g e in
+      let r : Ran (readerStart n m) g (pieces lineEnd text) = run-text text (readerStart n m) g e in
       let t = together (r .lines) 0 0 0 (length (replicate n 0)) zero-le (r .pass) in
       let k = order-kinds (map kindOfLine (r .lines)) (t .order) in
       record {
@@ -75,16 +75,16 @@ module _ (text : List ℕ) (n m : ℕ) where
       }
 
   -- a text that no row refuses is accepted, and its lines are put down
-  pub passes-run : (p : LinesAccepted text n) → run (start n m) (pieces 10 text) ≡ held (putLines (start n m) (p .lines))
-  unfolding start
+  pub passes-run : (p : LinesAccepted text n) → linesOutcome (readerStart n m) (pieces lineEnd text) ≡ held (putLines (readerStart n m) (p .lines))
+  unfolding readerStart
   passes-run p =
       let order : Order 0 0 (map kindOfLine (p .lines)) =
       rw (p .ordered) (kinds-order (p .inputs) (p .outputs) (p .deps) (p .witnesses) (p .few-inputs) (p .few-outputs) (p .few-deps) (p .few-witnesses))
       in
       rw (p .ended)
-      (lines-run (p .lines) (start n m)
+      (lines-run (p .lines) (readerStart n m)
       (apart (p .lines) 0 0 0 (length (replicate n 0))
       (record { order = order; counts = p .counted; forms = p .formed; room = rw (zero-add, length-replicate {A = ℕ} n 0) (p .room) })))
 
-  pub passes-accepted : LinesAccepted text n → (g : ReaderState) × (run (start n m) (pieces 10 text) ≡ held g)
-  passes-accepted p = (putLines (start n m) (p .lines), passes-run p)
+  pub passes-accepted : LinesAccepted text n → (g : ReaderState) × (linesOutcome (readerStart n m) (pieces lineEnd text) ≡ held g)
+  passes-accepted p = (putLines (readerStart n m) (p .lines), passes-run p)

@@ -1,7 +1,7 @@
 -- What the lock reads in the table and the store of an accepted text is the scene that the text says; its test of a table
 -- passes exactly where an accepted text, its length aside, leaves that table; so it passes the table of every accepted text.
 -- Assumes nothing.
-use Prim.Native.Nat.{ℕ, _+_, _-_, _≤_}
+use Prim.Native.Nat.{ℕ, _-_, _≤_}
 use mathlib.Core.Bool.{true}
 use mathlib.Core.Path.{_≡_, sym, ap, _∙_}
 use mathlib.Core.List.{List}
@@ -11,11 +11,12 @@ use lib.ListN.{length, replicate, length-append, length-replicate}
 use Rattle.protocol.specs.declared.check.Check.the-variants.{Passed}
 use Rattle.scene_reader.specs.Reader as reader
 use Rattle.scene_reader.specs.Reader.{readOf, readerCheck}
-use Rattle.scene_table.specs.Scene.{Scene, sceneBytes, sceneNumbers, padded, sceneStore, sceneTable}
+use Rattle.scene_table.specs.Scene.{Scene, sceneBytes, sceneNumbers, zeroPadded, sceneStore, sceneTable}
 use Rattle.scene_table.specs.Lent.{sceneIn}
 use Rattle.scene_table.specs.Valid.{sceneOk, validTable}
 use Rattle.scene_table.proofs.Inverse.{lent-back}
 use Rattle.scene_table.proofs.ValidTheorem.{valid-table}
+use Rattle.protocol.specs.Limits.{tableMinEntries}
 use Rattle.scene_reading.specs.Lines.{LinesAccepted}
 use Rattle.scene_reading.specs.Reading.{sceneOf}
 use Rattle.scene_reading.specs.Print.{textOf}
@@ -34,7 +35,7 @@ accessors-give text n m e p =
     let l = scene-encodes text n m e p in
     rw (l .table, l .store) (lent-back (sceneOf (p .lines)) m n (l .ok))
 
-module _ (table : List ℕ) (n : ℕ) (long : 2048 ≤ length table) where
+module _ (table : List ℕ) (n : ℕ) (long : tableMinEntries ≤ length table) where
   -- the print of a scene leaves its table
   printed-leaves : (s : Scene) → sceneOk s ≡ true → length (sceneBytes s) ≤ n → table ≡ sceneTable s (length table) → Reachable table n
   printed-leaves s ok fits e =
@@ -56,15 +57,15 @@ module _ (table : List ℕ) (n : ℕ) (long : 2048 ≤ length table) where
       (s, ok, bytes-fit (l .text) n p, sym (l .same) ∙ passes-leaves (l .text) n p (length table) (l .left) (l .ran) .1 f)
 
 -- the lock's row for 7
-pub table-test : (table : List ℕ) (n : ℕ) → (validTable table n ≡ true) ↔ ((2048 ≤ length table) × Reachable table n)
+pub table-test : (table : List ℕ) (n : ℕ) → (validTable table n ≡ true) ↔ ((tableMinEntries ≤ length table) × Reachable table n)
 table-test table n = (
   λ e. let v = valid-table table n .0 e in (v .0, printed-leaves table n (v .0) (v .1) (v .2) (v .3) (v .4)),
   λ l. let s = left-scene table n (l .0) (l .1) in valid-table table n .1 (l .0, s .0, s .1, s .2, s .3),
 )
 
 -- as long as it is to be
-padded-length : (xs : List ℕ) (n : ℕ) → length xs ≤ n → length (padded n xs) ≡ n
-unfolding padded
+padded-length : (xs : List ℕ) (n : ℕ) → length xs ≤ n → length (zeroPadded n xs) ≡ n
+unfolding zeroPadded
 padded-length xs n h = omega (arith, length-append xs (replicate (n - length xs) 0), length-replicate {A = ℕ} (n - length xs) 0)
 
 module _ (text : List ℕ) (n m : ℕ) (e : readerCheck (readOf text n m) ≡ Passed) where

@@ -12,7 +12,7 @@ use Rattle.scene_line.specs.declared.kind.Kind.{Kind}
 use Rattle.scene_line.specs.declared.kind.Kind.the-variants.{Input, Output, Dep, Witness, Verdicts}
 use Rattle.scene_line.specs.Kind.{rank}
 use Rattle.scene_reader.specs.Reader.{seenWith}
-use Rattle.scene_reading.specs.Lines.{times, kindsOf}
+use Rattle.scene_reading.specs.Lines.{kindsOf}
 use Rattle.scene_line.proofs.KindLaws.{place-small}
 use Rattle.scene_reading.proofs.Ordered.{bodyKinds, body-right}
 
@@ -39,13 +39,13 @@ counted-behind (k ∷ ks) t last seen at vs h =
 -- a run of n lines of a kind, before others
 module _ (k : Kind) (ks : List Kind) (result : List ℕ) where
   one-more : (n last seen s : ℕ) (t : List ℕ) → seenWith last seen (rank k) ≡ s
-      → counted t last seen (times (suc n) k ++ ks) ≡ counted (set t (rank k) s) (rank k) s (times n k ++ ks)
-  unfolding counted times
-  one-more n last seen s t e = ap (λ (x : ℕ). counted (set t (rank k) x) (rank k) x (times n k ++ ks)) e
+      → counted t last seen (replicate (suc n) k ++ ks) ≡ counted (set t (rank k) s) (rank k) s (replicate n k ++ ks)
+  unfolding counted
+  one-more n last seen s t e = ap (λ (x : ℕ). counted (set t (rank k) x) (rank k) x (replicate n k ++ ks)) e
 
   counted-same : (n seen : ℕ) (t : List ℕ) → set t (rank k) seen ≡ t → ((l s : ℕ) → l ≤ rank k → counted (set t (rank k) (seen + n)) l s ks ≡ result)
-      → counted t (rank k) seen (times n k ++ ks) ≡ result
-  unfolding counted times
+      → counted t (rank k) seen (replicate n k ++ ks) ≡ result
+  unfolding counted
   counted-same zero seen t e next = rw (add-zero seen, e) at (next (rank k) seen (le-refl (rank k)))
   counted-same (suc n) seen t e next =
       let m : seen + 1 + n ≡ seen + suc n = omega arith in
@@ -54,8 +54,8 @@ module _ (k : Kind) (ks : List Kind) (result : List ℕ) where
       (λ l s h. rw (set-set t (rank k) (seen + 1) (seen + 1 + n), m) (next l s h)))
 
   counted-run : (n last seen : ℕ) (t : List ℕ) → last < rank k → set t (rank k) 0 ≡ t → ((l s : ℕ) → l ≤ rank k → counted (set t (rank k) n) l s ks ≡ result)
-      → counted t last seen (times n k ++ ks) ≡ result
-  unfolding counted times
+      → counted t last seen (replicate n k ++ ks) ≡ result
+  unfolding counted
   counted-run zero last seen t h e next = rw e at (next last seen (omega arith))
   counted-run (suc n) last seen t h e next =
       let m : 1 + n ≡ suc n = omega arith in
@@ -71,14 +71,14 @@ module _ (a b c d : ℕ) (r : List ℕ) where
   unfolding counted done
   verdicts-counted l s h = rw (ne-eqb 7 l (λ e. omega arith))
 
-  witnesses-counted : (l s : ℕ) → l ≤ 5 → counted (0 ∷ 1 ∷ 1 ∷ a ∷ b ∷ c ∷ 0 ∷ 0 ∷ r) l s (times d Witness ++ (Verdicts ∷ [])) ≡ done
+  witnesses-counted : (l s : ℕ) → l ≤ 5 → counted (0 ∷ 1 ∷ 1 ∷ a ∷ b ∷ c ∷ 0 ∷ 0 ∷ r) l s (replicate d Witness ++ (Verdicts ∷ [])) ≡ done
   witnesses-counted l s h = counted-run Witness (Verdicts ∷ []) done d l s (0 ∷ 1 ∷ 1 ∷ a ∷ b ∷ c ∷ 0 ∷ 0 ∷ r) (omega arith) refl verdicts-counted
 
-  deps-counted : (l s : ℕ) → l ≤ 4 → counted (0 ∷ 1 ∷ 1 ∷ a ∷ b ∷ 0 ∷ 0 ∷ 0 ∷ r) l s (times c Dep ++ (times d Witness ++ (Verdicts ∷ []))) ≡ done
+  deps-counted : (l s : ℕ) → l ≤ 4 → counted (0 ∷ 1 ∷ 1 ∷ a ∷ b ∷ 0 ∷ 0 ∷ 0 ∷ r) l s (replicate c Dep ++ (replicate d Witness ++ (Verdicts ∷ []))) ≡ done
   deps-counted l s h = counted-run Dep _ done c l s (0 ∷ 1 ∷ 1 ∷ a ∷ b ∷ 0 ∷ 0 ∷ 0 ∷ r) (omega arith) refl witnesses-counted
 
   outputs-counted : (l s : ℕ) → l ≤ 3
-      → counted (0 ∷ 1 ∷ 1 ∷ a ∷ 0 ∷ 0 ∷ 0 ∷ 0 ∷ r) l s (times b Output ++ (times c Dep ++ (times d Witness ++ (Verdicts ∷ [])))) ≡ done
+      → counted (0 ∷ 1 ∷ 1 ∷ a ∷ 0 ∷ 0 ∷ 0 ∷ 0 ∷ r) l s (replicate b Output ++ (replicate c Dep ++ (replicate d Witness ++ (Verdicts ∷ [])))) ≡ done
   outputs-counted l s h = counted-run Output _ done b l s (0 ∷ 1 ∷ 1 ∷ a ∷ 0 ∷ 0 ∷ 0 ∷ 0 ∷ r) (omega arith) refl deps-counted
 
   body-counted : counted (0 ∷ 1 ∷ 1 ∷ 0 ∷ 0 ∷ 0 ∷ 0 ∷ 0 ∷ r) 2 1 (bodyKinds a b c d) ≡ done

@@ -9,12 +9,12 @@ use lib.ListN.{length, drop, set, replicate, length-replicate}
 use lib.Seq.{sets}
 use Rattle.octets.specs.Lists.{joined}
 use Rattle.octets.proofs.Stores.{sets-append, sets-front}
-use Rattle.scene_text.specs.Text.{pieces}
+use Rattle.scene_text.specs.Text.{pieces, lineEnd}
 use Rattle.scene_line.specs.declared.kind.Kind.{Kind}
 use Rattle.scene_line.specs.Kind.{rank, firstForm}
 use Rattle.scene_line.specs.Line.{lineEntries}
-use Rattle.scene_reader.specs.Reader.{ReaderState, held, seenWith, put, run, start}
-use Rattle.scene_table.specs.Scene.{Scene, linesOf, countsOf, recordsFrom, sceneBytes, sceneNumbers, padded, sceneStore, sceneTable}
+use Rattle.scene_reader.specs.Reader.{ReaderState, held, seenWith, linePutAs, linesOutcome, readerStart}
+use Rattle.scene_table.specs.Scene.{Scene, linesOf, countsOf, recordsFrom, sceneBytes, sceneNumbers, zeroPadded, sceneStore, sceneTable}
 use Rattle.scene_reading.specs.Lines.{LinesAccepted, kindsOf, kindOfLine, fieldsOfLine, bytesOfLine}
 use Rattle.scene_reading.specs.Reading.{sceneOf}
 use Rattle.scene_table.proofs.SceneBack.{sayable}
@@ -30,13 +30,13 @@ use Rattle.scene_reading.proofs.CountLaws.{counted, counted-behind, cou
 
 module _ (h : ReaderState) (l : List ℕ) where
   store-line : (bs : List ℕ) → sets (putLine h l .store) (putLine h l .used) bs ≡ sets (h .store) (h .used) (bytesOfLine l ++ bs)
-  unfolding putLine put bytesOfLine
+  unfolding putLine linePutAs bytesOfLine
   store-line bs = sets-append (h .store) (h .used) (bytesOfLine l) bs _ refl
 
   table-line : (ks : List Kind) (rs : List ℕ) → 8 ≤ h .filled
       → sets (counted (putLine h l .table) (putLine h l .last) (putLine h l .seen) ks) (putLine h l .filled) rs
       ≡ sets (counted (h .table) (h .last) (h .seen) (kindOfLine l ∷ ks)) (h .filled) ((h .used ∷ rowOf l .numbers) ++ rs)
-  unfolding putLine put counted rowOf lineIn
+  unfolding putLine linePutAs counted rowOf lineIn
   table-line ks rs e =
       let k = kindOfLine l in
       let s = seenWith (h .last) (h .seen) (rank k) in
@@ -46,7 +46,7 @@ module _ (h : ReaderState) (l : List ℕ) where
       ∙ sets-append (counted t (rank k) s ks) (h .filled) v rs _ (omega arith)
 
   behind-counts : 8 ≤ h .filled → 8 ≤ putLine h l .filled
-  unfolding putLine put
+  unfolding putLine linePutAs
   behind-counts e = omega arith
 
 store-lines : (ls : List (List ℕ)) (h : ReaderState) → putLines h ls .store ≡ sets (h .store) (h .used) (joined (map bytesOfLine ls))
@@ -55,7 +55,7 @@ store-lines [] h = refl
 store-lines (l ∷ ls) h = store-lines ls (putLine h l) ∙ store-line h l (joined (map bytesOfLine ls))
 
 used-line : (h : ReaderState) (l : List ℕ) → putLine h l .used ≡ h .used + length (rowOf l .bytes)
-unfolding putLine put rowOf lineIn
+unfolding putLine linePutAs rowOf lineIn
 used-line h l = refl
 
 table-lines : (ls : List (List ℕ)) (h : ReaderState) → 8 ≤ h .filled
@@ -73,8 +73,8 @@ drop-zeros zero n = rw (sub-zero n)
 drop-zeros (suc k) zero = rw (zero-sub (suc k))
 drop-zeros (suc k) (suc n) = rw (suc-sub-suc n k) (drop-zeros k n)
 
-front-padded : (xs : List ℕ) (n : ℕ) → length xs ≤ n → sets (replicate n 0) 0 xs ≡ padded n xs
-unfolding padded
+front-padded : (xs : List ℕ) (n : ℕ) → length xs ≤ n → sets (replicate n 0) 0 xs ≡ zeroPadded n xs
+unfolding zeroPadded
 front-padded xs n h = sets-front (replicate n 0) xs (rw (length-replicate {A = ℕ} n 0) h) ∙ rw (drop-zeros (length xs) n)
 
 -- ---- a whole text
@@ -106,9 +106,9 @@ module _ (text : List ℕ) (n : ℕ) (p : LinesAccepted text n) where
 
   module _ (m : ℕ) where
     -- the store that they leave
-    store-left : putLines (start n m) (p .lines) .store ≡ sceneStore (sceneOf (p .lines)) n
-    unfolding start sceneStore scene
-    store-left = store-lines (p .lines) (start n m) ∙ rw bytes-said (front-padded (sceneBytes scene) n bytes-fit)
+    store-left : putLines (readerStart n m) (p .lines) .store ≡ sceneStore (sceneOf (p .lines)) n
+    unfolding readerStart sceneStore scene
+    store-left = store-lines (p .lines) (readerStart n m) ∙ rw bytes-said (front-padded (sceneBytes scene) n bytes-fit)
 
     -- the counts that they leave in the table
     counts-left : 8 ≤ m → counted (replicate m 0) 0 0 (map kindOfLine (p .lines)) ≡ sets (replicate m 0) 0 (countsOf scene)
@@ -121,19 +121,19 @@ module _ (text : List ℕ) (n : ℕ) (p : LinesAccepted text n) where
     counts-room h = let e = ap length numbers-said in omega arith
 
     -- the table that they leave
-    table-left : length (sceneNumbers scene) ≤ m → putLines (start n m) (p .lines) .table ≡ sceneTable scene m
-    unfolding start sceneTable countsOf
+    table-left : length (sceneNumbers scene) ≤ m → putLines (readerStart n m) (p .lines) .table ≡ sceneTable scene m
+    unfolding readerStart sceneTable countsOf
     table-left h =
-        table-lines (p .lines) (start n m) (omega arith)
+        table-lines (p .lines) (readerStart n m) (omega arith)
         ∙ (ap (λ (t : List ℕ). sets t 8 (recordsFrom 0 (map rowOf (p .lines)))) (counts-left (counts-room h))
         ∙ (sets-append (replicate m 0) 0 (countsOf scene) (recordsFrom 0 (map rowOf (p .lines))) 8 refl
         ∙ rw numbers-said (front-padded (sceneNumbers scene) m h)))
 
     -- what the run holds at the end
-    pub passes-leaves : (g : ReaderState) → run (start n m) (pieces 10 text) ≡ held g
+    pub passes-leaves : (g : ReaderState) → linesOutcome (readerStart n m) (pieces lineEnd text) ≡ held g
         → (g .store ≡ sceneStore (sceneOf (p .lines)) n)
         × (length (sceneNumbers (sceneOf (p .lines))) ≤ m → g .table ≡ sceneTable (sceneOf (p .lines)) m)
     unfolding scene
     passes-leaves g e =
-        let same : g ≡ putLines (start n m) (p .lines) = held-same g _ (sym e ∙ passes-run text n m p) in
+        let same : g ≡ putLines (readerStart n m) (p .lines) = held-same g _ (sym e ∙ passes-run text n m p) in
         (rw same store-left, λ h. rw same (table-left h))

@@ -6,7 +6,6 @@ pub mod LineRows
 pub mod CountLaws
 pub mod Leaves
 pub mod Theorem
-pub mod PrintLists
 pub mod PrintPieces
 pub mod PrintDigits
 pub mod PrintFields

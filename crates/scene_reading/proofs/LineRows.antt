@@ -14,7 +14,7 @@ use Rattle.scene_line.specs.Kind.{firstForm}
 use Rattle.scene_line.specs.Line.{sinceHalves, fieldBytes, lineBytes, lineEntries}
 use Rattle.scene_table.specs.Scene.{Line, cellBytes, cellLengths, bytesLine, hashLine, inputLine, cellLine, digitsLine}
 use Rattle.scene_reading.specs.Lines.{kindOfLine, fieldsOfLine}
-use Rattle.scene_reading.specs.Reading.{fieldAt, numberIn, cellOf, inputOf}
+use Rattle.scene_reading.specs.Reading.{numberIn, cellOf, inputOf}
 
 -- what the reader puts down of fields, the first of them of a form
 unfoldable pub lineIn : Form → List (List ℕ) → Line
@@ -47,9 +47,9 @@ halves-number Invalid = refl
 -- a line with the fields of a cell, and with those of an input
 module _ (a b c d : List ℕ) where
   pub cell-row : lineIn TypeHash (a ∷ b ∷ c ∷ d ∷ []) ≡ cellLine (cellOf 0 (a ∷ b ∷ c ∷ d ∷ []))
-  unfolding lineIn lineBytes lineEntries fieldBytes cellLine cellBytes cellLengths cellOf fieldAt
+  unfolding lineIn lineBytes lineEntries fieldBytes cellLine cellBytes cellLengths cellOf
   cell-row = simp (append-assoc, append-nil, hex-length)
 
   pub input-row : (g t : List ℕ) → lineIn Group (g ∷ t ∷ a ∷ b ∷ c ∷ d ∷ []) ≡ inputLine (inputOf (g ∷ t ∷ a ∷ b ∷ c ∷ d ∷ []))
-  unfolding lineIn lineBytes lineEntries fieldBytes inputLine cellBytes cellLengths inputOf cellOf fieldAt
+  unfolding lineIn lineBytes lineEntries fieldBytes inputLine cellBytes cellLengths inputOf cellOf
   input-row g t = simp (append-assoc, append-nil, hex-length, halves-number)

@@ -14,16 +14,17 @@ use Rattle.scene_line.specs.Kind.{rank, follows}
 use Rattle.scene_line.proofs.KindLaws.{place-small}
 use Rattle.scene_reader.specs.Reader.{seenWith}
 use Rattle.scene_table.proofs.Lines.{right-nested}
-use Rattle.scene_reading.specs.Lines.{times, kindsOf}
+use lib.ListN.{replicate}
+use Rattle.scene_reading.specs.Lines.{kindsOf}
 use Rattle.scene_reading.proofs.Order.{Order, left, left-next, follows-body, body-follows, left-before, left-behind}
 
 -- the kinds behind tx
 unfoldable pub bodyKinds : ℕ → ℕ → ℕ → ℕ → List Kind
-bodyKinds a b c d = times a Input ++ times b Output ++ times c Dep ++ times d Witness ++ (Verdicts ∷ [])
+bodyKinds a b c d = replicate a Input ++ replicate b Output ++ replicate c Dep ++ replicate d Witness ++ (Verdicts ∷ [])
 
-pub body-right : (a b c d : ℕ) → bodyKinds a b c d ≡ times a Input ++ (times b Output ++ (times c Dep ++ (times d Witness ++ (Verdicts ∷ []))))
+pub body-right : (a b c d : ℕ) → bodyKinds a b c d ≡ replicate a Input ++ (replicate b Output ++ (replicate c Dep ++ (replicate d Witness ++ (Verdicts ∷ []))))
 unfolding bodyKinds
-body-right a b c d = right-nested (times a Input) (times b Output) (times c Dep) (times d Witness) (Verdicts ∷ [])
+body-right a b c d = right-nested (replicate a Input) (replicate b Output) (replicate c Dep) (replicate d Witness) (Verdicts ∷ [])
 
 -- ---- a place tells the kind
 
@@ -63,7 +64,7 @@ order-from p last seen (k ∷ ks) h f r = let b = follows-body last (rank k) h (
 record Peeled (k : Kind) (last seen : ℕ) (ks : List Kind) : Type 0 where
   count : ℕ
   rest : List Kind
-  these : ks ≡ times count k ++ rest
+  these : ks ≡ replicate count k ++ rest
   few : count ≤ left last seen (rank k)
   last-behind : ℕ
   seen-behind : ℕ
@@ -75,7 +76,7 @@ record Peeled (k : Kind) (last seen : ℕ) (ks : List Kind) : Type 0 where
 module _ (k : Kind) (last seen : ℕ) (h : 2 ≤ last) (a : last ≤ rank k) (b : rank k < 7) where
   -- none of them
   peel-none : (j : Kind) (ks : List Kind) → (rank j ≡ rank k → ⊥) → rank k ≤ rank j → Order last seen (j ∷ ks) → Peeled k last seen (j ∷ ks)
-  unfolding times From
+  unfolding From
   peel-none j ks n f r =
       record {
         count = 0;
@@ -92,7 +93,6 @@ module _ (k : Kind) (last seen : ℕ) (h : 2 ≤ last) (a : last ≤ rank k) (b 
 
   -- one more
   peel-one : (ks : List Kind) → seenWith last seen (rank k) ≤ 64 → Peeled k (rank k) (seenWith last seen (rank k)) ks → Peeled k last seen (k ∷ ks)
-  unfolding times
   peel-one ks m p =
       record {
         count = suc (p .count);
@@ -215,8 +215,8 @@ order-kinds (k ∷ j ∷ ks) r =
 
 -- a run of n lines of a kind, before lines that may follow it
 order-run : (k : Kind) (ks : List Kind) (n last seen : ℕ) → 2 ≤ last → last ≤ rank k → 3 ≤ rank k → rank k < 7 → n ≤ left last seen (rank k)
-    → ((l s : ℕ) → 2 ≤ l → l ≤ rank k → Order l s ks) → Order last seen (times n k ++ ks)
-unfolding Order times
+    → ((l s : ℕ) → 2 ≤ l → l ≤ rank k → Order l s ks) → Order last seen (replicate n k ++ ks)
+unfolding Order
 order-run k ks zero last seen h a b c m next = next last seen h a
 order-run k ks (suc n) last seen h a b c m next =
     let p = left-behind last seen (rank k) n a m in
@@ -233,13 +233,13 @@ body-order : (a b c d : ℕ) → a ≤ 64 → b ≤ 64 → c ≤ 64 → d ≤ 64
 body-order a b c d ha hb hc hd = rw (body-right a b c d) (inputs 2 1 (omega arith) (omega arith))
   where
     w : List Kind
-    w = times d Witness ++ (Verdicts ∷ [])
+    w = replicate d Witness ++ (Verdicts ∷ [])
 
     p : List Kind
-    p = times c Dep ++ w
+    p = replicate c Dep ++ w
 
     o : List Kind
-    o = times b Output ++ p
+    o = replicate b Output ++ p
 
     witnesses : (l s : ℕ) → 2 ≤ l → l ≤ 5 → Order l s w
     witnesses l s h m =
@@ -252,7 +252,7 @@ body-order a b c d ha hb hc hd = rw (body-right a b c d) (inputs 2 1 (omega arit
     outputs : (l s : ℕ) → 2 ≤ l → l ≤ 3 → Order l s o
     outputs l s h m = order-run Output p b l s h (omega arith) (omega arith) (omega arith) (rw (left-next l s 4 (omega arith)) hb) deps
 
-    inputs : (l s : ℕ) → 2 ≤ l → l ≤ 2 → Order l s (times a Input ++ o)
+    inputs : (l s : ℕ) → 2 ≤ l → l ≤ 2 → Order l s (replicate a Input ++ o)
     inputs l s h m = order-run Input o a l s h (omega arith) (omega arith) (omega arith) (rw (left-next l s 3 (omega arith)) ha) outputs
 
 pub kinds-order : (a b c d : ℕ) → a ≤ 64 → b ≤ 64 → c ≤ 64 → d ≤ 64 → Order 0 0 (kindsOf a b c d)

@@ -6,16 +6,17 @@ use mathlib.Core.Bool.{Bool, true}
 use mathlib.Core.List.{List, [], _∷_, _++_, map, append-cancel-right}
 use native.Mathlib.Omega.{arith}
 use borrow.Author.Tests.{le-leb}
-use lib.ListN.{length}
+use lib.ListN.{length, replicate}
 use Rattle.octets.specs.Lists.{every}
-use Rattle.scene_text.proofs.Tests.{and-left, and-right}
 use Rattle.scene_line.specs.declared.kind.Kind.{Kind}
 use Rattle.scene_line.specs.declared.kind.Kind.the-variants as kind
 use Rattle.scene_line.specs.Kind.{script, tx, output, dep, witness, verdicts}
 use Rattle.scene_table.specs.Scene.{Input, Scene}
 use Rattle.scene_table.specs.Valid.{bytesOk, hashBytesOk, cellOk, inputOk, fewOf, digitsOk, sceneOk}
-use Rattle.scene_reading.specs.Lines.{LinesAccepted, kindsOf, times, kindOfLine, countOk, formOk}
-use Rattle.scene_reading.specs.Print.{lineText, digitsText, inputText, cellText, bytesText, textLines, textOf}
+use Rattle.octets.proofs.Truth.{and-left, and-right}
+use Rattle.scene_text.specs.Print.{lineText, digitsText}
+use Rattle.scene_reading.specs.Lines.{LinesAccepted, kindsOf, kindOfLine, countOk, formOk}
+use Rattle.scene_reading.specs.Print.{inputText, cellText, bytesText, textLines, textOf}
 use Rattle.scene_reading.specs.Reading.{sceneOf}
 use Rattle.scene_reading.proofs.PrintBackLines.{text-back, PrintOf, LinePasses, script-line, tx-line, input-line, output-line, dep-line, witness-line, verdicts-line}
 use Rattle.scene_reading.proofs.Printed.{printed-pieces, printed-reading}
@@ -57,8 +58,8 @@ record Segment {A : Type 0} (ok : A → Bool) (text : A → List ℕ) (n : ℕ) 
   print : map text values ≡ ls
 
 segment : {A : Type 0} (ok : A → Bool) (text : A → List ℕ) (k : Kind) → ((l : List ℕ) → LinePasses l k → PrintOf ok text l)
-    → (n : ℕ) {ls : List (List ℕ)} → EachPasses ls (times n k) → Segment ok text n ls
-unfolding times every
+    → (n : ℕ) {ls : List (List ℕ)} → EachPasses ls (replicate n k) → Segment ok text n ls
+unfolding every
 segment ok text k line zero none = record { values = []; count = refl; fit = refl; print = refl }
 segment ok text k line (suc n) (more p r) =
     let x = line _ p in
@@ -74,10 +75,10 @@ record Behind {A : Type 0} (ok : A → Bool) (text : A → List ℕ) (ks : List 
   print : first ++ map text values ≡ ls
 
 behind : {A : Type 0} (ok : A → Bool) (text : A → List ℕ) (k : Kind) → ((l : List ℕ) → LinePasses l k → PrintOf ok text l)
-    → (n : ℕ) → n ≤ 64 → (ks : List Kind) (ls : List (List ℕ)) → EachPasses ls (ks ++ times n k) → Behind ok text ks ls
+    → (n : ℕ) → n ≤ 64 → (ks : List Kind) (ls : List (List ℕ)) → EachPasses ls (ks ++ replicate n k) → Behind ok text ks ls
 unfolding fewOf
 behind ok text k line n h ks ls p =
-    let q = parted ls ks (times n k) p in
+    let q = parted ls ks (replicate n k) p in
     let s = segment ok text k line n (q .rests) in
     record {
       first = q .first;
@@ -148,10 +149,10 @@ said : (text : List ℕ) (n : ℕ) (p : LinesAccepted text n) → Said (p .lines
 unfolding kindsOf
 said text n p =
     let K₀ = kind.Script ∷ kind.Tx ∷ [] in
-    let K₁ = K₀ ++ times (p .inputs) kind.Input in
-    let K₂ = K₁ ++ times (p .outputs) kind.Output in
-    let K₃ = K₂ ++ times (p .deps) kind.Dep in
-    let K₄ = K₃ ++ times (p .witnesses) kind.Witness in
+    let K₁ = K₀ ++ replicate (p .inputs) kind.Input in
+    let K₂ = K₁ ++ replicate (p .outputs) kind.Output in
+    let K₃ = K₂ ++ replicate (p .deps) kind.Dep in
+    let K₄ = K₃ ++ replicate (p .witnesses) kind.Witness in
     let v = parted (p .lines) K₄ (kind.Verdicts ∷ []) (each-passes (p .lines) (K₄ ++ (kind.Verdicts ∷ [])) (p .ordered) (p .counted) (p .formed)) in
     let w = behind bytesOk (bytesText witness) kind.Witness witness-line (p .witnesses) (p .few-witnesses) K₃ (v .first) (v .firsts) in
     let d = behind cellOk (cellText dep) kind.Dep dep-line (p .deps) (p .few-deps) K₂ (w .first) (w .firsts) in

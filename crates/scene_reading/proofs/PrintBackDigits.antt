@@ -11,12 +11,13 @@ use lib.Dec.{ltb, eqb}
 use Rattle.octets.specs.Lists.{every}
 use Rattle.scene_text.specs.declared.decimal.Decimal.the-variants.{Value, Invalid}
 use Rattle.scene_text.specs.Text.{inRange, isHex, hexVal, hexOk, hexBytes, decimal, plain, numberOf, sinceOf}
-use Rattle.scene_text.proofs.Tests.{and-left, and-right, between-yes, between-low, between-high}
+use Rattle.scene_text.proofs.RangeLaws.{between-yes, between-low, between-high}
 use Rattle.scene_line.specs.Line.{isNumber}
 use Rattle.scene_table.specs.Valid.{bytesOk}
-use Rattle.scene_reading.specs.Print.{digitText, hexText, decimalText, digitsText}
+use Rattle.octets.proofs.Every.{every-left, every-right}
+use Rattle.octets.proofs.Truth.{and-left, and-right}
+use Rattle.scene_text.specs.Print.{digitText, hexText, decimalText, digitsText}
 use Rattle.scene_reading.specs.Reading.{numberIn}
-use Rattle.scene_reading.proofs.PrintLists.{all-left, all-right}
 use Rattle.scene_reading.proofs.PrintDigits.{Leads, decimal-append, tenth}
 
 -- a digit is the text of its value
@@ -116,8 +117,8 @@ module _ (n : ℕ) (again : (s : List ℕ) → every (inRange 48 57) s ≡ true 
   unfolding every
   decimal-step [] y d l h = one-digit n y (and-left (inRange 48 57 y) true d)
   decimal-step (z ∷ t) y d l h =
-      let dz = all-left (inRange 48 57) (z ∷ t) (y ∷ []) d in
-      let dy = and-left (inRange 48 57 y) true (all-right (inRange 48 57) (z ∷ t) (y ∷ []) d) in
+      let dz = every-left (inRange 48 57) (z ∷ t) (y ∷ []) d in
+      let dy = and-left (inRange 48 57 y) true (every-right (inRange 48 57) (z ∷ t) (y ∷ []) d) in
       let first : Leads (z ∷ t) = record { some = omega arith; lead = l .lead } in
       let k = tenth n (decimal 0 (z ∷ t) * 10 + (y - 48)) (rw (decimal-append 0 (z ∷ t) y) at h) in
       more-digits n y dy (z ∷ t) (decimal-positive (z ∷ t) dz first) (again (z ∷ t) dz first (omega arith))

@@ -10,17 +10,18 @@ use lib.ListN.{length, getD}
 use lib.Dec.{ltb, eqb}
 use Rattle.octets.specs.Lists.{every}
 use Rattle.scene_text.specs.Text.{inRange, hexOk, hexVal, hexBytes, sinceOf}
-use Rattle.scene_text.proofs.Tests.{and-left, and-right}
 use Rattle.scene_line.specs.declared.form.Form.the-variants.{Group, TypeHash}
 use Rattle.scene_line.specs.Line.{formsOk, isNumber}
 use Rattle.scene_table.specs.Valid.{bytesOk, hashBytesOk, cellOk, inputOk}
-use Rattle.scene_reading.specs.Print.{hexText, digitsText, cellFields, inputFields}
-use Rattle.scene_reading.specs.Reading.{cellOf, inputOf, fieldAt, numberIn}
-use Rattle.scene_reading.proofs.PrintDigits.{hex-length}
+use Rattle.octets.proofs.Truth.{and-left, and-right}
+use Rattle.scene_text.specs.Print.{hexText, digitsText}
+use Rattle.scene_text.proofs.HexLaws.{hex-text-length}
+use Rattle.scene_reading.specs.Print.{cellFields, inputFields}
+use Rattle.scene_reading.specs.Reading.{cellOf, inputOf, numberIn}
 use Rattle.scene_reading.proofs.PrintBackDigits.{HexPrint, hex-print, since-print, DigitsPrint, digits-print}
 
 hexes-length : (f : List ℕ) → HexPrint f → length f ≡ 2 * length (hexBytes f)
-hexes-length f h = ap length (sym (h .text)) ∙ hex-length (hexBytes f)
+hexes-length f h = ap length (sym (h .text)) ∙ hex-text-length (hexBytes f)
 
 -- a hash
 pub record HashPrint (f : List ℕ) : Type 0 where
@@ -69,8 +70,8 @@ unfoldable pub fieldsFrom : (ℕ → List ℕ) → ℕ → List (List ℕ)
 fieldsFrom f zero = []
 fieldsFrom f (suc n) = f 0 ∷ fieldsFrom (λ (i : ℕ). f (suc i)) n
 
-pub fields-from : (fs : List (List ℕ)) (n : ℕ) → length fs ≡ n → fs ≡ fieldsFrom (fieldAt fs) n
-unfolding fieldsFrom fieldAt
+pub fields-from : (fs : List (List ℕ)) (n : ℕ) → length fs ≡ n → fs ≡ fieldsFrom (λ (i : ℕ). getD fs i []) n
+unfolding fieldsFrom
 fields-from [] zero e = refl
 fields-from [] (suc n) e = absurd (omega arith)
 fields-from (f ∷ fs) zero e = absurd (omega arith)
@@ -82,7 +83,7 @@ pub record CellPrint (fs : List (List ℕ)) : Type 0 where
   pub text : cellFields (cellOf 0 fs) ≡ fs
 
 four-print : (a b c d : List ℕ) → formsOk true TypeHash (a ∷ b ∷ c ∷ d ∷ []) ≡ true → CellPrint (a ∷ b ∷ c ∷ d ∷ [])
-unfolding formsOk cellOk cellFields cellOf fieldAt
+unfolding formsOk cellOk cellFields cellOf
 four-print a b c d h =
     let e = eqb (length a) 0 in
     let fa = e || (eqb (length a) 64 && hexOk a) in
@@ -103,7 +104,7 @@ pub cell-print : (fs : List (List ℕ)) → length fs ≡ 4 → formsOk true Typ
 unfolding fieldsFrom
 cell-print fs n h =
     let e = fields-from fs 4 n in
-    rw e (four-print (fieldAt fs 0) (fieldAt fs 1) (fieldAt fs 2) (fieldAt fs 3) (rw e at h))
+    rw e (four-print (getD fs 0 []) (getD fs 1 []) (getD fs 2 []) (getD fs 3 []) (rw e at h))
 
 -- an input: its group, its since and its cell
 pub record InputPrint (fs : List (List ℕ)) : Type 0 where
@@ -123,7 +124,7 @@ group-print g h =
     (and-left (ltb (hexVal (getD g 0 0)) 2) true (d .each), d .text ∙ sym e)
 
 pub input-print : (fs : List (List ℕ)) → length fs ≡ 6 → formsOk true Group fs ≡ true → InputPrint fs
-unfolding formsOk inputOk inputFields inputOf cellOf fieldAt
+unfolding formsOk inputOk inputFields inputOf cellOf
 input-print [] n h = absurd (omega arith)
 input-print (g ∷ []) n h = absurd (omega arith)
 input-print (g ∷ t ∷ fs) n h =

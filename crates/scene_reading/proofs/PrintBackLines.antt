@@ -6,12 +6,11 @@ use mathlib.Core.Bool.{Bool, true, false, cond, _&&_}
 use mathlib.Core.List.{List, [], _∷_, _++_, map}
 use native.Mathlib.Omega.{arith}
 use borrow.Author.Tests.{eqb-true}
-use lib.ListN.{length, length-map}
+use lib.ListN.{length, length-map, getD}
 use lib.Dec.{lit<, eqb, leb}
 use Rattle.octets.specs.Lists.{same, every}
 use Rattle.octets.proofs.Same.{same-eq}
-use Rattle.scene_text.specs.Text.{inRange, before, pieces, hexOk, hexVal, hexBytes}
-use Rattle.scene_text.proofs.Tests.{and-left, and-right}
+use Rattle.scene_text.specs.Text.{inRange, before, pieces, hexOk, hexVal, hexBytes, lineEnd, comma}
 use Rattle.scene_text.proofs.Pieces.{before-none}
 use Rattle.scene_line.specs.declared.kind.Kind.{Kind}
 use Rattle.scene_line.specs.declared.kind.Kind.the-variants as kind
@@ -20,29 +19,26 @@ use Rattle.scene_line.specs.Kind.{rank, kindOf, fieldCount, firstForm, lineFiel
 use Rattle.scene_line.specs.Line.{formsOk}
 use Rattle.scene_table.specs.Scene.{Input}
 use Rattle.scene_table.specs.Valid.{bytesOk, hashBytesOk, cellOk, inputOk, digitsOk}
+use Rattle.octets.proofs.Truth.{and-left, and-right}
+use Rattle.scene_text.specs.Print.{partedBy, lineText, digitsText, endedLines}
 use Rattle.scene_reading.specs.Lines.{wordOf, kindOfLine, fieldsOfLine, countOk, formOk}
-use Rattle.scene_reading.specs.Print.{commaed, lineText, digitsText, cellFields, inputFields, inputText, cellText, bytesText, endedLines}
-use Rattle.scene_reading.specs.Reading.{cellOf, inputOf, fieldAt}
+use Rattle.scene_reading.specs.Print.{cellFields, inputFields, inputText, cellText, bytesText}
+use Rattle.scene_reading.specs.Reading.{cellOf, inputOf}
 use Rattle.scene_reading.proofs.PrintLines.{kindWord}
 use Rattle.scene_reading.proofs.PrintBackDigits.{hex-print, digits-print}
 use Rattle.scene_reading.proofs.PrintBackFields.{fieldsFrom, fields-from, hash-print, cell-print, input-print}
 
--- pieces with c before each
-parted : ℕ → List (List ℕ) → List ℕ
-parted c [] = []
-parted c (p ∷ ps) = c ∷ (p ++ parted c ps)
-
 -- pieces joined again, with c between them
 rejoined : ℕ → List (List ℕ) → List ℕ
 rejoined c [] = []
-rejoined c (p ∷ ps) = p ++ parted c ps
+rejoined c (p ∷ ps) = p ++ partedBy c ps
 
 no-pieces : {A : Type 0} → [] ≡ before [] [] → A
 unfolding before
 no-pieces e = absurd (let z : _≡_ {A = ℕ} 0 1 = ap length e in omega arith)
 
 pieces-rejoined : (c : ℕ) (s : List ℕ) → rejoined c (pieces c s) ≡ s
-unfolding rejoined parted pieces before
+unfolding rejoined partedBy pieces before
 pieces-rejoined c [] = refl
 pieces-rejoined c (x ∷ s) = go (eqb x c) refl (pieces c s) (before-none c s) (pieces-rejoined c s)
   where
@@ -52,29 +48,24 @@ pieces-rejoined c (x ∷ s) = go (eqb x c) refl (pieces c s) (before-none c s) (
     go false e (p ∷ ps) n h = ap (λ (l : List ℕ). x ∷ l) h
 
 -- lines with their endings
-ended-parted : (ls : List (List ℕ)) → parted 10 (ls ++ ([] ∷ [])) ≡ 10 ∷ endedLines ls
-unfolding parted endedLines
+ended-parted : (ls : List (List ℕ)) → partedBy lineEnd (ls ++ ([] ∷ [])) ≡ lineEnd ∷ endedLines ls
+unfolding partedBy endedLines
 ended-parted [] = refl
 ended-parted (l ∷ ls) = rw (ended-parted ls)
 
-pub text-back : (text : List ℕ) (ls : List (List ℕ)) → pieces 10 text ≡ ls ++ ([] ∷ []) → endedLines ls ≡ text
-unfolding rejoined endedLines parted
-text-back text ls e = go ls ∙ (ap (rejoined 10) (sym e) ∙ pieces-rejoined 10 text)
+pub text-back : (text : List ℕ) (ls : List (List ℕ)) → pieces lineEnd text ≡ ls ++ ([] ∷ []) → endedLines ls ≡ text
+unfolding rejoined endedLines partedBy
+text-back text ls e = go ls ∙ (ap (rejoined lineEnd) (sym e) ∙ pieces-rejoined lineEnd text)
   where
-    go : (ls : List (List ℕ)) → endedLines ls ≡ rejoined 10 (ls ++ ([] ∷ []))
+    go : (ls : List (List ℕ)) → endedLines ls ≡ rejoined lineEnd (ls ++ ([] ∷ []))
     go [] = refl
     go (l ∷ ls) = rw (ended-parted ls)
 
 -- a line's word and fields
-commaed-parted : (fs : List (List ℕ)) → commaed fs ≡ parted 44 fs
-unfolding commaed parted
-commaed-parted [] = refl
-commaed-parted (f ∷ fs) = rw (commaed-parted fs)
-
-line-rejoined : (ps : List (List ℕ)) → lineText (wordOf ps) (lineFields ps) ≡ rejoined 44 ps
-unfolding lineText wordOf lineFields rejoined commaed
+line-rejoined : (ps : List (List ℕ)) → lineText (wordOf ps) (lineFields ps) ≡ rejoined comma ps
+unfolding lineText wordOf lineFields rejoined partedBy
 line-rejoined [] = refl
-line-rejoined (w ∷ fs) = rw (commaed-parted fs)
+line-rejoined (w ∷ fs) = refl
 
 -- a word names the kind whose word it is, or none
 module _ (w : List ℕ) where
@@ -111,9 +102,9 @@ pub record LinePasses (l : List ℕ) (k : Kind) : Type 0 where
   pub formed : formOk l ≡ true
 
 module _ (l : List ℕ) (k : Kind) (p : LinePasses l k) where
-  named : 0 < rank k → wordOf (pieces 44 l) ≡ kindWord k
+  named : 0 < rank k → wordOf (pieces comma l) ≡ kindWord k
   unfolding kindOfLine
-  named = rw (p .is) at (kind-named (wordOf (pieces 44 l)))
+  named = rw (p .is) at (kind-named (wordOf (pieces comma l)))
 
   field-count : length (fieldsOfLine l) ≡ fieldCount k
   unfolding countOk
@@ -123,24 +114,24 @@ module _ (l : List ℕ) (k : Kind) (p : LinePasses l k) where
   unfolding formOk
   field-forms = rw (p .is) at (p .formed)
 
-  line-whole : (word : List ℕ) (fs : List (List ℕ)) → wordOf (pieces 44 l) ≡ word → fs ≡ fieldsOfLine l → lineText word fs ≡ l
+  line-whole : (word : List ℕ) (fs : List (List ℕ)) → wordOf (pieces comma l) ≡ word → fs ≡ fieldsOfLine l → lineText word fs ≡ l
   unfolding fieldsOfLine
-  line-whole word fs w e = rw (← w, e) (line-rejoined (pieces 44 l) ∙ pieces-rejoined 44 l)
+  line-whole word fs w e = rw (← w, e) (line-rejoined (pieces comma l) ∙ pieces-rejoined comma l)
 
-  one-field : fieldCount k ≡ 1 → fieldsOfLine l ≡ fieldAt (fieldsOfLine l) 0 ∷ []
+  one-field : fieldCount k ≡ 1 → fieldsOfLine l ≡ getD (fieldsOfLine l) 0 [] ∷ []
   unfolding fieldsFrom
   one-field e = fields-from (fieldsOfLine l) 1 (field-count ∙ e)
 
-  bytes-line : (word : List ℕ) → wordOf (pieces 44 l) ≡ word → fieldCount k ≡ 1 → firstForm k ≡ Hex → PrintOf bytesOk (bytesText word) l
+  bytes-line : (word : List ℕ) → wordOf (pieces comma l) ≡ word → fieldCount k ≡ 1 → firstForm k ≡ Hex → PrintOf bytesOk (bytesText word) l
   unfolding bytesText formsOk
   bytes-line word w n f =
       let e = one-field n in
-      let field = fieldAt (fieldsOfLine l) 0 in
+      let field = getD (fieldsOfLine l) 0 [] in
       let h : (hexOk field && true) ≡ true = rw (f, e) at field-forms in
       let x = hex-print field (and-left (hexOk field) true h) in
       record { value = hexBytes field; fits = x .bytes; print = rw (x .text) (line-whole word (field ∷ []) w (sym e)) }
 
-  cell-line : (word : List ℕ) → wordOf (pieces 44 l) ≡ word → fieldCount k ≡ 4 → firstForm k ≡ TypeHash → PrintOf cellOk (cellText word) l
+  cell-line : (word : List ℕ) → wordOf (pieces comma l) ≡ word → fieldCount k ≡ 4 → firstForm k ≡ TypeHash → PrintOf cellOk (cellText word) l
   unfolding cellText
   cell-line word w n f =
       let c = cell-print (fieldsOfLine l) (field-count ∙ n) (rw f at field-forms) in
@@ -154,7 +145,7 @@ module _ (l : List ℕ) where
   unfolding bytesText formsOk
   tx-line p =
       let e = one-field l kind.Tx p refl in
-      let field = fieldAt (fieldsOfLine l) 0 in
+      let field = getD (fieldsOfLine l) 0 [] in
       let h : (eqb (length field) 64 && hexOk field && true) ≡ true = rw e at (field-forms l kind.Tx p) in
       let x = hash-print field (and-left (eqb (length field) 64 && hexOk field) true h) in
       record { value = hexBytes field; fits = x .ok; print = rw (x .text) (line-whole l kind.Tx p tx (field ∷ []) (named l kind.Tx p (lit< tt)) (sym e)) }
@@ -182,7 +173,7 @@ module _ (l : List ℕ) where
   unfolding formsOk digitsOk
   verdicts-line p =
       let e = one-field l kind.Verdicts p refl in
-      let field = fieldAt (fieldsOfLine l) 0 in
+      let field = getD (fieldsOfLine l) 0 [] in
       let few = leb (length field) 16 in
       let digits = every (inRange 48 50) field in
       let h : (few && digits && true) ≡ true = rw e at (field-forms l kind.Verdicts p) in

@@ -12,10 +12,12 @@ use lib.Dec.{ltb, leb, eqb}
 use Rattle.octets.specs.Lists.{every}
 use Rattle.scene_text.specs.declared.decimal.Decimal.the-variants.{Value}
 use Rattle.scene_text.specs.Text.{inRange, isHex, hexVal, hexOk, hexBytes, decimal, plain, numberOf, sinceOf}
-use Rattle.scene_text.proofs.Tests.{and-left, and-right, between-yes}
+use Rattle.scene_text.proofs.RangeLaws.{between-yes}
 use Rattle.scene_table.specs.Valid.{bytesOk}
-use Rattle.scene_reading.specs.Print.{digitText, hexText, decimalText, digitsText}
-use Rattle.scene_reading.proofs.PrintLists.{all-append, all-more}
+use Rattle.octets.proofs.Every.{every-append, every-more}
+use Rattle.octets.proofs.Truth.{and-left, and-right}
+use Rattle.scene_text.specs.Print.{digitText, hexText, decimalText, digitsText}
+use Rattle.scene_text.proofs.HexLaws.{hex-text-length}
 
 -- what a digit's text is: a digit's value, its form, and no byte below 48
 record Digit (d x : ℕ) : Type 0 where
@@ -62,11 +64,6 @@ hex-back (b ∷ bs) h =
     let e : b / 16 * 16 + b % 16 ≡ b = omega arith in
     rw (upper b bs h .value, lower b bs h .value, e, hex-back bs (rest-bytes b bs h))
 
-pub hex-length : (bs : List ℕ) → length (hexText bs) ≡ 2 * length bs
-unfolding hexText
-hex-length [] = refl
-hex-length (b ∷ bs) = let e = hex-length bs in omega arith
-
 hex-forms : (bs : List ℕ) → bytesOk bs ≡ true → every isHex (hexText bs) ≡ true
 unfolding hexText every
 hex-forms [] h = refl
@@ -76,7 +73,7 @@ pub hex-ok : (bs : List ℕ) → bytesOk bs ≡ true → hexOk (hexText bs) ≡ 
 unfolding hexOk
 hex-ok bs h =
     let e : 2 * length bs % 2 ≡ 0 = omega arith in
-    rw (hex-length bs, e, hex-forms bs h)
+    rw (hex-text-length bs, e, hex-forms bs h)
 
 -- no byte of it is below 48, thus none is a comma or ends a line
 pub hex-high : (bs : List ℕ) → bytesOk bs ≡ true → every (leb 48) (hexText bs) ≡ true
@@ -97,7 +94,7 @@ decimal-digits (suc n) v = go (ltb v 10) refl (decimal-digits n (v / 10))
     go : (b : Bool) → ltb v 10 ≡ b → every (inRange 48 57) (decimalText n (v / 10)) ≡ true
         → every (inRange 48 57) (cond b ((48 + v) ∷ []) (decimalText n (v / 10) ++ ((48 + v % 10) ∷ []))) ≡ true
     go true e r = let l = ltb-true v 10 e in rw (between-yes 48 57 (48 + v) (omega arith) (omega arith))
-    go false e r = all-append (inRange 48 57) (decimalText n (v / 10)) ((48 + v % 10) ∷ []) r (rw (between-yes 48 57 (48 + v % 10) (omega arith) (omega arith)))
+    go false e r = every-append (inRange 48 57) (decimalText n (v / 10)) ((48 + v % 10) ∷ []) r (rw (between-yes 48 57 (48 + v % 10) (omega arith) (omega arith)))
 
 -- n digits are enough for a number below 10 ^ n
 pub tenth : (n v : ℕ) → v < 10 ^ suc n → v / 10 < 10 ^ n
@@ -156,7 +153,7 @@ decimal-back v h =
     rw (decimal-plain 19 v k, decimal-value 20 v k, lt-ltb v (2 ^ 64) h)
 
 between-high : (l h : ℕ) (s : List ℕ) → every (inRange l h) s ≡ true → every (leb l) s ≡ true
-between-high l h s e = all-more (inRange l h) (leb l) (λ x. and-left (leb l x) (leb x h)) s e
+between-high l h s e = every-more (inRange l h) (leb l) (λ x. and-left (leb l x) (leb x h)) s e
 
 pub decimal-high : (n v : ℕ) → every (leb 48) (decimalText n v) ≡ true
 decimal-high n v = between-high 48 57 (decimalText n v) (decimal-digits n v)

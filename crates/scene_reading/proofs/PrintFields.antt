@@ -10,14 +10,16 @@ use lib.ListN.{length, getD}
 use lib.Dec.{ltb, leb, eqb}
 use Rattle.octets.specs.Lists.{every}
 use Rattle.scene_text.specs.Text.{hexOk, hexVal}
-use Rattle.scene_text.proofs.Tests.{and-left, and-right}
 use Rattle.scene_line.specs.declared.form.Form.the-variants.{Group, TypeHash}
 use Rattle.scene_line.specs.Line.{formsOk}
 use Rattle.scene_table.specs.Scene.{Cell, Input}
 use Rattle.scene_table.specs.Valid.{bytesOk, hashBytesOk, cellOk, inputOk}
-use Rattle.scene_reading.specs.Print.{hexText, digitsText, cellFields, inputFields}
-use Rattle.scene_reading.specs.Reading.{cellOf, inputOf, fieldAt, numberIn}
-use Rattle.scene_reading.proofs.PrintDigits.{hex-back, hex-ok, hex-high, hex-length, decimal-back, decimal-high, digits-form, digits-high, digits-back}
+use Rattle.octets.proofs.Truth.{and-left, and-right}
+use Rattle.scene_text.specs.Print.{hexText, digitsText}
+use Rattle.scene_text.proofs.HexLaws.{hex-text-length}
+use Rattle.scene_reading.specs.Print.{cellFields, inputFields}
+use Rattle.scene_reading.specs.Reading.{cellOf, inputOf, numberIn}
+use Rattle.scene_reading.proofs.PrintDigits.{hex-back, hex-ok, hex-high, decimal-back, decimal-high, digits-form, digits-high, digits-back}
 
 -- a hash
 pub record HashHolds (hash : List ℕ) : Type 0 where
@@ -32,7 +34,7 @@ hash-holds hash h = record { long = eqb-true (length hash) 32 (and-left (eqb (le
 pub hash-form : (hash : List ℕ) → HashHolds hash → (eqb (length (hexText hash)) 64 && hexOk (hexText hash)) ≡ true
 hash-form hash h =
     let e : 2 * length hash ≡ 64 = let l = h .long in omega arith in
-    rw (hex-length hash, e) (hex-ok hash (h .bytes))
+    rw (hex-text-length hash, e) (hex-ok hash (h .bytes))
 
 -- a cell's type hash by its type script
 pub data Typed (hash script : List ℕ) : Type 0 where
@@ -89,15 +91,15 @@ module _ (c : Cell) (h : CellHolds c) where
   cell-form-by : Typed (c .typeHash) (c .typeScript) → formsOk true TypeHash (cellFields c) ≡ true
   unfolding cellFields formsOk
   cell-form-by (bare e s) =
-      rw (hex-length (c .typeHash), e, hash-form (c .dataHash) (h .hash), hex-length (c .typeScript), s, hex-ok (c .content) (h .content))
+      rw (hex-text-length (c .typeHash), e, hash-form (c .dataHash) (h .hash), hex-text-length (c .typeScript), s, hex-ok (c .content) (h .content))
   cell-form-by (typed t s) =
       let e : 2 * length (c .typeHash) ≡ 64 = let l = t .long in omega arith in
       rw (
-        hex-length (c .typeHash),
+        hex-text-length (c .typeHash),
         e,
         hex-ok (c .typeHash) hash-bytes,
         hash-form (c .dataHash) (h .hash),
-        hex-length (c .typeScript),
+        hex-text-length (c .typeScript),
         lt-ltb 0 (2 * length (c .typeScript)) (omega arith),
         hex-ok (c .typeScript) (h .script),
         hex-ok (c .content) (h .content),
@@ -107,7 +109,7 @@ module _ (c : Cell) (h : CellHolds c) where
   cell-form = cell-form-by (h .type)
 
   pub cell-back : cellOf 0 (cellFields c) ≡ c
-  unfolding cellFields cellOf fieldAt
+  unfolding cellFields cellOf
   cell-back =
       rw (
         hex-back (c .typeHash) hash-bytes,
@@ -146,7 +148,7 @@ module _ (i : Input) (h : InputHolds i) where
       rw (digits-form 2 (omega arith) (i .group ∷ []) (h .group), decimal-back (i .since) (h .since)) (cell-form (i .cell) (h .cell))
 
   pub input-back : inputOf (inputFields i) ≡ i
-  unfolding inputFields inputOf cellOf fieldAt numberIn digitsText
+  unfolding inputFields inputOf cellOf numberIn digitsText
   input-back =
       let g : hexVal (48 + i .group) ≡ i .group = ap (λ (ds : List ℕ). getD ds 0 0) (digits-back 2 (omega arith) (i .group ∷ []) (h .group)) in
       let e : cellOf 0 (cellFields (i .cell)) ≡ i .cell = cell-back (i .cell) (h .cell) in

@@ -6,10 +6,9 @@ use mathlib.Core.Bool.{Bool, true, not}
 use mathlib.Core.List.{List, [], _∷_, _++_, map, append-nil}
 use native.Mathlib.Omega.{arith}
 use borrow.Author.Tests.{leb-true, le-leb, ne-eqb}
-use lib.ListN.{length}
+use lib.ListN.{length, replicate}
 use lib.Dec.{leb, ltb, eqb}
 use Rattle.octets.specs.Lists.{same, every}
-use Rattle.scene_text.proofs.Tests.{and-left, and-right}
 use Rattle.scene_line.specs.declared.form.Form.the-variants.{TypeHash, Hex}
 use Rattle.scene_line.specs.declared.kind.Kind.{Kind}
 use Rattle.scene_line.specs.declared.kind.Kind.the-variants as kind
@@ -17,10 +16,13 @@ use Rattle.scene_line.specs.Kind.{kindOf, fieldCount, firstForm, lineFields, sc
 use Rattle.scene_line.specs.Line.{formsOk}
 use Rattle.scene_table.specs.Scene.{Cell, Input, Line, bytesLine, hashLine, inputLine, cellLine, digitsLine}
 use Rattle.scene_table.specs.Valid.{bytesOk}
-use Rattle.scene_reading.specs.Lines.{wordOf, kindOfLine, fieldsOfLine, times, countOk, formOk}
-use Rattle.scene_reading.specs.Print.{commaed, lineText, hexText, digitsText, cellFields, inputFields, inputText, cellText, bytesText}
+use Rattle.scene_text.specs.Text.{lineEnd, comma}
+use Rattle.octets.proofs.Every.{every-append, every-more}
+use Rattle.octets.proofs.Truth.{and-left, and-right}
+use Rattle.scene_text.specs.Print.{partedBy, lineText, hexText, digitsText}
+use Rattle.scene_reading.specs.Lines.{wordOf, kindOfLine, fieldsOfLine, countOk, formOk}
+use Rattle.scene_reading.specs.Print.{cellFields, inputFields, inputText, cellText, bytesText}
 use Rattle.scene_reading.proofs.LineRows.{lineIn, rowOf, hex-row, hash-row, digits-row, cell-row, input-row}
-use Rattle.scene_reading.proofs.PrintLists.{all-append, all-more}
 use Rattle.scene_reading.proofs.PrintPieces.{without, line-pieces}
 use Rattle.scene_reading.proofs.PrintDigits.{hex-back, hex-ok, hex-high, digits-form, digits-high, digits-length, digits-back}
 use Rattle.scene_reading.proofs.PrintFields.{HashHolds, hash-form, CellHolds, cell-high, cell-form, cell-back, InputHolds, input-high, input-form, input-back}
@@ -30,7 +32,7 @@ module _ (c : ℕ) (low : c < 48) where
   pub high-without : (s : List ℕ) → every (leb 48) s ≡ true → without c s ≡ true
   unfolding without
   high-without s h =
-      all-more (leb 48) (λ (x : ℕ). not (eqb x c)) (λ x e. let l = leb-true 48 x e in let n : x ≡ c → ⊥ = λ q. omega arith in rw (ne-eqb x c n)) s h
+      every-more (leb 48) (λ (x : ℕ). not (eqb x c)) (λ x e. let l = leb-true 48 x e in let n : x ≡ c → ⊥ = λ q. omega arith in rw (ne-eqb x c n)) s h
 
   fields-without : (fs : List (List ℕ)) → every (every (leb 48)) fs ≡ true → every (without c) fs ≡ true
   unfolding every
@@ -38,16 +40,16 @@ module _ (c : ℕ) (low : c < 48) where
   fields-without (f ∷ fs) h =
       rw (high-without f (and-left (every (leb 48) f) (every (every (leb 48)) fs) h)) (fields-without fs (and-right (every (leb 48) f) (every (every (leb 48)) fs) h))
 
-line-without : (word : List ℕ) (fs : List (List ℕ)) → every (leb 48) word ≡ true → every (every (leb 48)) fs ≡ true → without 10 (lineText word fs) ≡ true
-unfolding lineText commaed every without
-line-without word [] w h = rw append-nil (high-without 10 (omega arith) word w)
+line-without : (word : List ℕ) (fs : List (List ℕ)) → every (leb 48) word ≡ true → every (every (leb 48)) fs ≡ true → without lineEnd (lineText word fs) ≡ true
+unfolding lineText partedBy every without
+line-without word [] w h = rw append-nil (high-without lineEnd (omega arith) word w)
 line-without word (f ∷ fs) w h =
-    all-append (λ (x : ℕ). not (eqb x 10)) word (44 ∷ lineText f fs) (high-without 10 (omega arith) word w)
+    every-append (λ (x : ℕ). not (eqb x 10)) word (44 ∷ lineText f fs) (high-without lineEnd (omega arith) word w)
     (line-without f fs (and-left (every (leb 48) f) (every (every (leb 48)) fs) h) (and-right (every (leb 48) f) (every (every (leb 48)) fs) h))
 
 -- what is known of the text l of a line of kind k with the fields fs
 pub record Says (l : List ℕ) (k : Kind) (fs : List (List ℕ)) : Type 0 where
-  pub ended : without 10 l ≡ true
+  pub ended : without lineEnd l ≡ true
   pub kind : kindOfLine l ≡ k
   pub fields : fieldsOfLine l ≡ fs
 
@@ -79,7 +81,7 @@ line-says : (k : Kind) (fs : List (List ℕ)) → every (every (leb 48)) fs ≡ 
 unfolding kindOfLine fieldsOfLine wordOf lineFields
 line-says k fs h =
     let w = word-of k in
-    let e = line-pieces (kindWord k) fs (high-without 44 (omega arith) (kindWord k) (w .1)) (fields-without 44 (omega arith) fs h) in
+    let e = line-pieces (kindWord k) fs (high-without comma (omega arith) (kindWord k) (w .1)) (fields-without comma (omega arith) fs h) in
     record { ended = line-without (kindWord k) fs (w .1) h; kind = rw e (w .0); fields = rw e }
 
 -- and that no line row refuses it, and what the reader puts down of it
@@ -180,15 +182,15 @@ each-append (more p r) q = more p (each-append r q)
 
 -- n lines of one kind
 pub each-map : {A : Type 0} (ok : A → Bool) (text : A → List ℕ) (k : Kind) (line : A → Line) → ((x : A) → ok x ≡ true → Prints (text x) k (line x))
-    → (xs : List A) → every ok xs ≡ true → EachPrints (map text xs) (times (length xs) k) (map line xs)
-unfolding every times
+    → (xs : List A) → every ok xs ≡ true → EachPrints (map text xs) (replicate (length xs) k) (map line xs)
+unfolding every
 each-map ok text k line p [] h = none
 each-map ok text k line p (x ∷ xs) h =
     more (p x (and-left (ok x) (every ok xs) h)) (each-map ok text k line p xs (and-right (ok x) (every ok xs) h))
 
 -- what the line rows ask of all of them, and what the reader puts down of them
 pub record Rows (ls : List (List ℕ)) (ks : List Kind) (lines : List Line) : Type 0 where
-  pub ended : every (without 10) ls ≡ true
+  pub ended : every (without lineEnd) ls ≡ true
   pub ordered : map kindOfLine ls ≡ ks
   pub counted : every countOk ls ≡ true
   pub formed : every formOk ls ≡ true

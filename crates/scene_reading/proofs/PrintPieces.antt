@@ -7,10 +7,10 @@ use mathlib.Core.List.{List, [], _∷_, _++_, append-nil}
 use borrow.Author.Tests.{not-true, eq-eqb}
 use lib.Dec.{eqb}
 use Rattle.octets.specs.Lists.{every}
-use Rattle.scene_text.specs.Text.{before, pieces}
-use Rattle.scene_text.proofs.Tests.{and-left, and-right}
+use Rattle.scene_text.specs.Text.{before, pieces, comma, lineEnd}
 use Rattle.scene_text.proofs.Pieces.{before-before, before-none}
-use Rattle.scene_reading.specs.Print.{commaed, lineText, endedLines}
+use Rattle.octets.proofs.Truth.{and-left, and-right}
+use Rattle.scene_text.specs.Print.{partedBy, lineText, endedLines}
 
 -- c stands nowhere in s
 unfoldable pub without : ℕ → List ℕ → Bool
@@ -39,17 +39,17 @@ module _ (c : ℕ) where
       pieces-before s (c ∷ r) h ∙ rw (eq-eqb c c refl, append-nil s)
 
 -- a line's word and its fields
-pub line-pieces : (word : List ℕ) (fs : List (List ℕ)) → without 44 word ≡ true → every (without 44) fs ≡ true → pieces 44 (lineText word fs) ≡ word ∷ fs
-unfolding lineText commaed every
-line-pieces word [] w h = rw append-nil (piece-last 44 word w)
+pub line-pieces : (word : List ℕ) (fs : List (List ℕ)) → without comma word ≡ true → every (without comma) fs ≡ true → pieces comma (lineText word fs) ≡ word ∷ fs
+unfolding lineText partedBy every
+line-pieces word [] w h = rw append-nil (piece-last comma word w)
 line-pieces word (f ∷ fs) w h =
-    piece-cut 44 word (lineText f fs) w
-    ∙ ap (λ (ps : List (List ℕ)). word ∷ ps) (line-pieces f fs (and-left (without 44 f) (every (without 44) fs) h) (and-right (without 44 f) (every (without 44) fs) h))
+    piece-cut comma word (lineText f fs) w
+    ∙ ap (λ (ps : List (List ℕ)). word ∷ ps) (line-pieces f fs (and-left (without comma f) (every (without comma) fs) h) (and-right (without comma f) (every (without comma) fs) h))
 
 -- the lines of a text, and nothing behind the last ending
-pub lines-pieces : (ls : List (List ℕ)) → every (without 10) ls ≡ true → pieces 10 (endedLines ls) ≡ ls ++ ([] ∷ [])
+pub lines-pieces : (ls : List (List ℕ)) → every (without lineEnd) ls ≡ true → pieces lineEnd (endedLines ls) ≡ ls ++ ([] ∷ [])
 unfolding endedLines every pieces
 lines-pieces [] h = refl
 lines-pieces (l ∷ ls) h =
-    piece-cut 10 l (endedLines ls) (and-left (without 10 l) (every (without 10) ls) h)
-    ∙ ap (λ (ps : List (List ℕ)). l ∷ ps) (lines-pieces ls (and-right (without 10 l) (every (without 10) ls) h))
+    piece-cut lineEnd l (endedLines ls) (and-left (without lineEnd l) (every (without lineEnd) ls) h)
+    ∙ ap (λ (ps : List (List ℕ)). l ∷ ps) (lines-pieces ls (and-right (without lineEnd l) (every (without lineEnd) ls) h))

@@ -8,16 +8,17 @@ use native.Mathlib.Omega.{arith}
 use lib.ListN.{length}
 use lib.Dec.{eqb}
 use Rattle.octets.specs.Lists.{every}
-use Rattle.scene_text.specs.Text.{pieces, hexBytes, hexVal}
-use Rattle.scene_text.proofs.Tests.{and-left, and-right}
+use Rattle.scene_text.specs.Text.{pieces, hexBytes, hexVal, lineEnd}
 use Rattle.scene_line.specs.declared.kind.Kind.{Kind}
 use Rattle.scene_line.specs.declared.kind.Kind.the-variants as kind
 use Rattle.scene_line.specs.Kind.{rank, output, dep, witness}
 use Rattle.scene_table.specs.Scene.{Cell, Scene, Line, bytesLine, inputLine, cellLine, linesOf, sceneBytes}
 use Rattle.scene_table.specs.Valid.{bytesOk, cellOk, inputOk, sceneOk}
+use Rattle.octets.proofs.Truth.{and-left, and-right}
+use Rattle.scene_text.specs.Print.{hexText, digitsText}
 use Rattle.scene_reading.specs.Lines.{kindsOf, bytesOfLine, LinesAccepted}
-use Rattle.scene_reading.specs.Print.{hexText, digitsText, cellFields, inputFields, inputText, cellText, bytesText, textLines, textOf}
-use Rattle.scene_reading.specs.Reading.{fieldAt, cellOf, inputOf, bytesField, fieldsOfKind, onlyField, sceneOf}
+use Rattle.scene_reading.specs.Print.{cellFields, inputFields, inputText, cellText, bytesText, textLines, textOf}
+use Rattle.scene_reading.specs.Reading.{cellOf, inputOf, bytesField, fieldsOfKind, onlyField, sceneOf}
 use Rattle.scene_reading.proofs.LineRows.{lineIn, rowOf}
 use Rattle.scene_table.proofs.Lines.{right-nested}
 use Rattle.scene_table.proofs.SceneBack.{Sayable, sayable}
@@ -46,7 +47,7 @@ row-bytes [] = refl
 row-bytes (l ∷ ls) = ap (λ (t : List (List ℕ)). bytesOfLine l ∷ t) (row-bytes ls)
 
 -- the printed text is cut into its lines
-pub printed-pieces : (s : Scene) → sceneOk s ≡ true → pieces 10 (textOf s) ≡ textLines s ++ ([] ∷ [])
+pub printed-pieces : (s : Scene) → sceneOk s ≡ true → pieces lineEnd (textOf s) ≡ textLines s ++ ([] ∷ [])
 unfolding textOf
 printed-pieces s ok = lines-pieces (textLines s) (each-rows (scene-prints s (sayable s ok)) .ended)
 
@@ -149,7 +150,7 @@ cells-back = values-back cellOk cellFields (cellOf 0) (λ c e. cell-back c (cell
 
 -- and it says the scene, part by part
 pub printed-reading : (s : Scene) → sceneOk s ≡ true → sceneOf (textLines s) ≡ s
-unfolding sceneOf given onlyField bytesField bytesFields fieldAt
+unfolding sceneOf given onlyField bytesField bytesFields
 printed-reading s ok =
     let h = sayable s ok in
     let fields = printed-fields s h in

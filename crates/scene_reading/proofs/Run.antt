@@ -13,13 +13,13 @@ use Rattle.protocol.specs.Rows.{decide, AllPass}
 use Rattle.protocol.specs.declared.check.Check.{Check}
 use Rattle.protocol.specs.declared.check.Check.the-variants.{Passed, Failed}
 use Rattle.protocol.proofs.AllPass.{passed-all-pass, all-pass-passed}
-use Rattle.scene_text.specs.Text.{pieces}
+use Rattle.scene_text.specs.Text.{pieces, comma, lineEnd}
 use Rattle.scene_line.specs.declared.kind.Kind.{Kind}
 use Rattle.scene_line.specs.declared.kind.Kind.the-variants.{Unknown}
 use Rattle.scene_line.specs.Kind.{rank, fieldCount, firstForm, kindOf, follows, lineKind, lineFields}
 use Rattle.scene_line.specs.Line.{formsOk, lineBytes}
 use Rattle.octets.specs.Lists.{same}
-use Rattle.scene_reader.specs.Reader.{ReaderState, refused, held, seenWith, put, lineRows, rowsOfLine, linePut, sceneEndRows, run}
+use Rattle.scene_reader.specs.Reader.{ReaderState, refused, held, seenWith, linePutAs, lineRows, rowsOfLine, linePut, sceneEndRows, linesOutcome}
 use Rattle.scene_reader.proofs.Runs.{run-passed, run-failed, run-last, held-passed, pieces-some}
 use Rattle.scene_reading.specs.Lines.{wordOf, kindOfLine, fieldsOfLine, countOk, formOk, bytesOfLine}
 use Rattle.octets.proofs.Truth.{and-both}
@@ -41,7 +41,7 @@ LinesPass last seen used size (l ∷ ls) =
 
 -- the lines put down one behind another
 unfoldable pub putLine : ReaderState → List ℕ → ReaderState
-putLine h l = put h (kindOfLine l) (fieldsOfLine l)
+putLine h l = linePutAs h (kindOfLine l) (fieldsOfLine l)
 
 unfoldable pub putLines : ReaderState → List (List ℕ) → ReaderState
 putLines h [] = h
@@ -109,15 +109,15 @@ module _ (h : ReaderState) (l : List ℕ) where
   line-holds : LinePasses (h .last) (h .seen) (h .used) (length (h .store)) l → AllPass (rowsOfLine h l) × (linePut h l ≡ putLine h l)
   unfolding rowsOfLine linePut putLine kindOfLine fieldsOfLine countOk formOk bytesOfLine
   line-holds p =
-      let k = kind-known (h .last) (pieces 44 l) (p .order) (p .count) in
-      let known = ne-eqb (rank (kindOf (wordOf (pieces 44 l)))) 0 (follows-none (h .last) _ (p .order)) in
+      let k = kind-known (h .last) (pieces comma l) (p .order) (p .count) in
+      let known = ne-eqb (rank (kindOf (wordOf (pieces comma l)))) 0 (follows-none (h .last) _ (p .order)) in
       (rw k (of-rows h _ _ (record { known = known; few = p .few; form = p .form; room = p .room })), rw k)
 
   holds-line : AllPass (rowsOfLine h l) → LinePasses (h .last) (h .seen) (h .used) (length (h .store)) l × (linePut h l ≡ putLine h l)
   unfolding rowsOfLine linePut putLine kindOfLine fieldsOfLine countOk formOk bytesOfLine
   holds-line z =
-      let r = rows-of h (lineKind (h .last) (pieces 44 l)) (lineFields (pieces 44 l)) z in
-      let k = known-kind (h .last) (pieces 44 l) (r .known) in (
+      let r = rows-of h (lineKind (h .last) (pieces comma l)) (lineFields (pieces comma l)) z in
+      let k = known-kind (h .last) (pieces comma l) (r .known) in (
         record { order = k .0; count = k .1 .0; few = rw (k .1 .1) at (r .few); form = rw (k .1 .1) at (r .form); room = rw (k .1 .1) at (r .room) },
         rw (k .1 .1),
       )
@@ -128,16 +128,16 @@ module _ (h : ReaderState) (l : List ℕ) where
 module _ (h : ReaderState) (l : List ℕ) (ls : List (List ℕ)) where
   onto : LinesPass (rank (kindOfLine l)) (seenWith (h .last) (h .seen) (rank (kindOfLine l))) (h .used + length (bytesOfLine l)) (length (h .store)) ls
       → LinesPass (putLine h l .last) (putLine h l .seen) (putLine h l .used) (length (putLine h l .store)) ls
-  unfolding putLine put bytesOfLine
+  unfolding putLine linePutAs bytesOfLine
   onto p = rw (length-sets (h .store) (h .used) _) p
 
   from : LinesPass (putLine h l .last) (putLine h l .seen) (putLine h l .used) (length (putLine h l .store)) ls
       → LinesPass (rank (kindOfLine l)) (seenWith (h .last) (h .seen) (rank (kindOfLine l))) (h .used + length (bytesOfLine l)) (length (h .store)) ls
-  unfolding putLine put bytesOfLine
+  unfolding putLine linePutAs bytesOfLine
   from p = rw (length-sets (h .store) (h .used) _) at p
 
 -- behind a line that passes come those behind it, and the end
-line-run : (h : ReaderState) (l : List ℕ) (ls : List (List ℕ)) → decide Passed (rowsOfLine h l) ≡ Passed → run h (l ∷ (ls ++ ([] ∷ []))) ≡ run (linePut h l) (ls ++ ([] ∷ []))
+line-run : (h : ReaderState) (l : List ℕ) (ls : List (List ℕ)) → decide Passed (rowsOfLine h l) ≡ Passed → linesOutcome h (l ∷ (ls ++ ([] ∷ []))) ≡ linesOutcome (linePut h l) (ls ++ ([] ∷ []))
 line-run h l [] e = run-passed h l [] [] e
 line-run h l (k ∷ ls) e = run-passed h l k (ls ++ ([] ∷ [])) e
 
@@ -148,7 +148,7 @@ ends h e = (refl, (eq-eqb (h .last) 7 e, tt))
 
 -- lines that pass are put down
 pub lines-run : (ls : List (List ℕ)) (h : ReaderState) → LinesPass (h .last) (h .seen) (h .used) (length (h .store)) ls
-    → run h (ls ++ ([] ∷ [])) ≡ held (putLines h ls)
+    → linesOutcome h (ls ++ ([] ∷ [])) ≡ held (putLines h ls)
 unfolding LinesPass putLines
 lines-run [] h p = run-last h [] _ refl ∙ rw (all-pass-passed (sceneEndRows h []) (ends h p))
 lines-run (l ∷ ls) h p =
@@ -166,19 +166,19 @@ no-bytes : (l : List ℕ) → eqb (length l) 0 ≡ true → l ≡ []
 no-bytes [] e = refl
 no-bytes (x ∷ l) e = absurd (let z : suc (length l) ≡ 0 = eqb-true (suc (length l)) 0 e in omega arith)
 
-ran-last : (h g : ReaderState) (l : List ℕ) → run h (l ∷ []) ≡ held g → Ran h g (l ∷ [])
+ran-last : (h g : ReaderState) (l : List ℕ) → linesOutcome h (l ∷ []) ≡ held g → Ran h g (l ∷ [])
 unfolding sceneEndRows LinesPass putLines
 ran-last h g l e =
     let p = held-passed _ _ g (sym (run-last h l _ refl) ∙ e) in
     let b = passed-all-pass (sceneEndRows h l) (p .0) in
     record { lines = []; ended = rw (no-bytes l (b .0)); pass = eqb-true (h .last) 7 (b .1 .0); result = sym (p .1) }
 
-run-lines : (l : List ℕ) (ls : List (List ℕ)) (h g : ReaderState) → run h (l ∷ ls) ≡ held g → Ran h g (l ∷ ls)
+run-lines : (l : List ℕ) (ls : List (List ℕ)) (h g : ReaderState) → linesOutcome h (l ∷ ls) ≡ held g → Ran h g (l ∷ ls)
 unfolding LinesPass putLines
 run-lines l [] h g e = ran-last h g l e
 run-lines l (k ∷ ls) h g e = on (decide Passed (rowsOfLine h l)) refl (λ j q. run-lines k ls j g q)
   where
-    on : (c : Check) → decide Passed (rowsOfLine h l) ≡ c → ((j : ReaderState) → run j (k ∷ ls) ≡ held g → Ran j g (k ∷ ls)) → Ran h g (l ∷ k ∷ ls)
+    on : (c : Check) → decide Passed (rowsOfLine h l) ≡ c → ((j : ReaderState) → linesOutcome j (k ∷ ls) ≡ held g → Ran j g (k ∷ ls)) → Ran h g (l ∷ k ∷ ls)
     on (Failed a) s rec = absurd (let r : refused a ≡ held g = sym (run-failed h l k ls a s) ∙ e in let z : _≡_ {A = ℕ} 0 1 = cc in omega arith)
     on Passed s rec =
         let p = holds-line h l (passed-all-pass (rowsOfLine h l) s) in
@@ -186,5 +186,5 @@ run-lines l (k ∷ ls) h g e = on (decide Passed (rowsOfLine h l)) refl (λ j q.
         record { lines = l ∷ r .lines; ended = ap (λ (t : List (List ℕ)). l ∷ t) (r .ended); pass = (p .0, from h l (r .lines) (r .pass)); result = r .result }
 
 -- so do those of a text, which has at least one piece
-pub run-text : (text : List ℕ) (h g : ReaderState) → run h (pieces 10 text) ≡ held g → Ran h g (pieces 10 text)
-run-text text h g e = let q = pieces-some 10 text in rw (q .2) (run-lines (q .0) (q .1) h g (rw (q .2) at e))
+pub run-text : (text : List ℕ) (h g : ReaderState) → linesOutcome h (pieces lineEnd text) ≡ held g → Ran h g (pieces lineEnd text)
+run-text text h g e = let q = pieces-some lineEnd text in rw (q .2) (run-lines (q .0) (q .1) h g (rw (q .2) at e))

@@ -10,11 +10,12 @@ use lib.ListN.{length}
 use borrow.Author.Tests.{le-leb}
 use Rattle.protocol.specs.declared.check.Check.the-variants.{Passed}
 use Rattle.protocol.proofs.AllPass.{all-pass-passed, all-pass-split}
-use Rattle.scene_text.specs.Text.{pieces}
-use Rattle.scene_reader.specs.Reader.{ReaderState, ReaderOutcome, refused, held, run, start, sceneLimitRows, sceneRows, readOf, readerCheck}
+use Rattle.scene_text.specs.Text.{pieces, lineEnd}
+use Rattle.scene_reader.specs.Reader.{ReaderState, ReaderOutcome, refused, held, linesOutcome, readerStart, sceneLimitRows, sceneRows, readOf, readerCheck}
 use Rattle.scene_reader.proofs.Runs.{limits-within, limits-passed}
 use Rattle.scene_reader.proofs.Theorem as rows
 use Rattle.scene_table.specs.Scene.{sceneNumbers}
+use Rattle.protocol.specs.Limits.{sceneMaxLength, tableMinEntries}
 use Rattle.scene_reading.specs.Lines.{LinesAccepted}
 use Rattle.scene_reading.specs.Reading.{sceneOf}
 use Rattle.scene_reading.specs.Left.{Encodes}
@@ -29,7 +30,7 @@ passed-held (refused e) h = absurd (let z : _≡_ {A = ℕ} 0 1 = cc in omega ar
 passed-held (held g) h = (g, refl)
 
 module _ (text : List ℕ) (n m : ℕ) where
-  accepted : readerCheck (readOf text n m) ≡ Passed → (length text ≤ 1048576) × ((2048 ≤ m) × LinesAccepted text n)
+  accepted : readerCheck (readOf text n m) ≡ Passed → (length text ≤ sceneMaxLength) × ((tableMinEntries ≤ m) × LinesAccepted text n)
   unfolding sceneRows
   accepted e =
       let l = all-pass-passed _ (all-pass-split (sceneLimitRows text m) _ (rows.scene-passes-rows text n m .0 e) .0) in
@@ -38,15 +39,15 @@ module _ (text : List ℕ) (n m : ℕ) where
       (w .0, (w .1, accepted-passes text n m (h .0) (sym (limits-passed text n m l) ∙ h .1)))
 
   -- within the limits the run decides
-  within-limits : length text ≤ 1048576 → 2048 ≤ m → readOf text n m ≡ run (start n m) (pieces 10 text)
+  within-limits : length text ≤ sceneMaxLength → tableMinEntries ≤ m → readOf text n m ≡ linesOutcome (readerStart n m) (pieces lineEnd text)
   unfolding sceneLimitRows
-  within-limits a b = limits-passed text n m (all-pass-passed (sceneLimitRows text m) (le-leb (length text) 1048576 a, (le-leb 2048 m b, tt)))
+  within-limits a b = limits-passed text n m (all-pass-passed (sceneLimitRows text m) (le-leb (length text) sceneMaxLength a, (le-leb tableMinEntries m b, tt)))
 
-  accepting : (length text ≤ 1048576) × ((2048 ≤ m) × LinesAccepted text n) → readerCheck (readOf text n m) ≡ Passed
+  accepting : (length text ≤ sceneMaxLength) × ((tableMinEntries ≤ m) × LinesAccepted text n) → readerCheck (readOf text n m) ≡ Passed
   accepting h = rw (within-limits (h .0) (h .1 .0), passes-accepted text n m (h .1 .1) .1)
 
   -- accepted exactly where no reader or line row refuses
-  pub scene-accepts : (readerCheck (readOf text n m) ≡ Passed) ↔ ((length text ≤ 1048576) × ((2048 ≤ m) × LinesAccepted text n))
+  pub scene-accepts : (readerCheck (readOf text n m) ≡ Passed) ↔ ((length text ≤ sceneMaxLength) × ((tableMinEntries ≤ m) × LinesAccepted text n))
   scene-accepts = (accepted, accepting)
 
   -- the store and the table after an accepted text are those of the scene that its lines say

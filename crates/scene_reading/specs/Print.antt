@@ -1,31 +1,9 @@
 -- The text of a scene, by 01, "The scene, added by the port".
-use Prim.Native.Nat.{ℕ, zero, suc, _+_, _/_, _%_}
-use mathlib.Core.Bool.{cond}
+use Prim.Native.Nat.{ℕ, _+_}
 use mathlib.Core.List.{List, [], _∷_, _++_, map}
-use lib.Dec.{ltb}
+use Rattle.scene_text.specs.Print.{lineText, endedLines, hexText, decimalText, digitsText}
 use Rattle.scene_line.specs.Kind.{script, tx, input, output, dep, witness, verdicts}
 use Rattle.scene_table.specs.Scene.{Cell, Input, Scene}
-
--- "fields parted by commas"
-unfoldable pub commaed : List (List ℕ) → List ℕ
-commaed [] = []
-commaed (f ∷ fs) = (44 ∷ f) ++ commaed fs
-
-unfoldable pub lineText : List ℕ → List (List ℕ) → List ℕ
-lineText word fs = word ++ commaed fs
-
--- "HEX, TYPESCRIPT and DATA have two lower-case digits a byte"
-unfoldable pub digitText : ℕ → ℕ
-digitText d = cond (ltb d 10) (48 + d) (87 + d)
-
-unfoldable pub hexText : List ℕ → List ℕ
-hexText [] = []
-hexText (b ∷ bs) = digitText (b / 16) ∷ digitText (b % 16) ∷ hexText bs
-
--- "SINCE is a decimal u64 without leading zeros, zero being `0`": at most n digits
-unfoldable pub decimalText : ℕ → ℕ → List ℕ
-decimalText zero v = []
-decimalText (suc n) v = cond (ltb v 10) ((48 + v) ∷ []) (decimalText n (v / 10) ++ ((48 + v % 10) ∷ []))
 
 -- "TYPEHASH,DATAHASH,TYPESCRIPT,DATA"
 unfoldable pub cellFields : Cell → List (List ℕ)
@@ -46,10 +24,6 @@ cellText word c = lineText word (cellFields c)
 unfoldable pub bytesText : List ℕ → List ℕ → List ℕ
 bytesText word bytes = lineText word (hexText bytes ∷ [])
 
--- "`verdicts,DIGITS`"
-unfoldable pub digitsText : List ℕ → List ℕ
-digitsText digits = map (λ (d : ℕ). 48 + d) digits
-
 -- "in this order of kinds": the lines, without their endings
 unfoldable pub textLines : Scene → List (List ℕ)
 textLines s =
@@ -60,11 +34,6 @@ textLines s =
     ++ map (cellText dep) (s .deps)
     ++ map (bytesText witness) (s .witnesses)
     ++ (lineText verdicts (digitsText (s .digits) ∷ []) ∷ [])
-
--- "Text lines ended by byte 10"
-unfoldable pub endedLines : List (List ℕ) → List ℕ
-endedLines [] = []
-endedLines (l ∷ ls) = l ++ (10 ∷ endedLines ls)
 
 unfoldable pub textOf : Scene → List ℕ
 textOf s = endedLines (textLines s)

@@ -1,5 +1,5 @@
 -- What a text says: the scene that its lines hold, each line read by its kind, as 01, "The scene, added by the port", lists them.
-use Prim.Native.Nat.{ℕ, zero, suc, _+_}
+use Prim.Native.Nat.{ℕ, _+_}
 use mathlib.Core.Bool.{cond}
 use mathlib.Core.List.{List, [], _∷_, map}
 use lib.ListN.{getD}
@@ -13,12 +13,6 @@ use Rattle.scene_line.specs.Kind.{rank}
 use Rattle.scene_table.specs.Scene.{Cell, Input, Scene}
 use Rattle.scene_reading.specs.Lines.{kindOfLine, fieldsOfLine}
 
--- a line's field at a place
-unfoldable pub fieldAt : List (List ℕ) → ℕ → List ℕ
-fieldAt [] i = []
-fieldAt (f ∷ fs) zero = f
-fieldAt (f ∷ fs) (suc i) = fieldAt fs i
-
 -- the number of a SINCE, 0 where it has none
 unfoldable pub numberIn : Decimal → ℕ
 numberIn (Value v) = v
@@ -27,23 +21,23 @@ numberIn Invalid = 0
 -- "TYPEHASH,DATAHASH,TYPESCRIPT,DATA", the first of them at a place
 unfoldable pub cellOf : ℕ → List (List ℕ) → Cell
 cellOf at fs = record {
-  typeHash = hexBytes (fieldAt fs at);
-  dataHash = hexBytes (fieldAt fs (at + 1));
-  typeScript = hexBytes (fieldAt fs (at + 2));
-  content = hexBytes (fieldAt fs (at + 3));
+  typeHash = hexBytes (getD fs at []);
+  dataHash = hexBytes (getD fs (at + 1) []);
+  typeScript = hexBytes (getD fs (at + 2) []);
+  content = hexBytes (getD fs (at + 3) []);
 }
 
 -- "`input,GROUP,SINCE,TYPEHASH,DATAHASH,TYPESCRIPT,DATA`"
 unfoldable pub inputOf : List (List ℕ) → Input
 inputOf fs = record {
-  group = hexVal (getD (fieldAt fs 0) 0 0);
-  since = numberIn (sinceOf (fieldAt fs 1));
+  group = hexVal (getD (getD fs 0 []) 0 0);
+  since = numberIn (sinceOf (getD fs 1 []));
   cell = cellOf 2 fs;
 }
 
 -- "`witness,HEX`"
 unfoldable pub bytesField : List (List ℕ) → List ℕ
-bytesField fs = hexBytes (fieldAt fs 0)
+bytesField fs = hexBytes (getD fs 0 [])
 
 -- the fields of the lines of a kind, line by line
 unfoldable pub fieldsOfKind : Kind → List (List ℕ) → List (List (List ℕ))
@@ -53,7 +47,7 @@ fieldsOfKind k (l ∷ ls) = cond (eqb (rank (kindOfLine l)) (rank k)) (fieldsOfL
 -- the field of the only line of a kind: the first of the first line, nothing where there is no line
 unfoldable pub onlyField : List (List (List ℕ)) → List ℕ
 onlyField [] = []
-onlyField (fs ∷ more) = fieldAt fs 0
+onlyField (fs ∷ more) = getD fs 0 []
 
 -- "`script,HEX`; `tx,HASH`; `input,..`; `output,` and `dep,` each with the last four; `witness,HEX`; `verdicts,DIGITS`"; "Script,
 -- tx and verdicts stand once"

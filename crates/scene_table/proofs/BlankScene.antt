@@ -9,12 +9,10 @@ use borrow.Author.Tests.{lt-ltb}
 use lib.Dec.{leb, ltb, eqb}
 use lib.ListN.{length, replicate, length-replicate}
 use Rattle.octets.specs.Lists.{every}
-use Rattle.scene_table.specs.Lent.{tableEntry, inputsAt, outputsAt, depsAt, witnessesAt, verdictsAt, recordsAt, hashLength, cellFrom, inputFrom, cellRecordFrom, bytesFrom, sceneFrom, blankScene}
-use Rattle.scene_table.specs.Places.{digitCount}
+use Rattle.scene_table.specs.Lent.{tableEntry, inputsAt, outputsAt, depsAt, witnessesAt, verdictsAt, recordsAt, hashLength, cellFrom, inputFrom, cellRecordFrom, bytesFrom, sceneFrom, blankScene, inputCount, outputCount, depCount, witnessCount, digitCount, cellRecordPlaces, cellFieldPlaces, bytesPlace, inputRecordPlaces, scriptPlace, transactionPlace, zerosAt}
 use Rattle.scene_table.specs.Valid.{bytesOk, hashBytesOk, cellOk, inputOk, fewOf, digitsOk, sceneOk}
-use Rattle.scene_table.specs.Walk.{groupOk}
-use Rattle.scene_table.proofs.Rows.{length-rows}
-use Rattle.scene_table.proofs.WholeWalk.{blank}
+use Rattle.scene_table.specs.RecordsWalk.{groupOk}
+use Rattle.scene_table.proofs.Records.{length-records}
 
 pub blank-bytes : (n : ℕ) → bytesOk (replicate n 0) ≡ true
 unfolding bytesOk every
@@ -29,29 +27,29 @@ type-hash : (b : Bool) → cond b (eqb (length {A = ℕ} (replicate (cond b 0 32
 type-hash true = refl
 type-hash false = blank-hash
 
-pub blank-cell : (start script content : ℕ) → cellOk (cellFrom blank start script content) ≡ true
-unfolding cellOk cellFrom hashLength
+pub blank-cell : (start script content : ℕ) → cellOk (cellFrom zerosAt (cellFieldPlaces start script content)) ≡ true
+unfolding cellOk cellFrom cellFieldPlaces hashLength
 blank-cell start script content =
     rw (length-replicate {A = ℕ} script 0, type-hash (eqb script 0), blank-hash, blank-bytes script, blank-bytes content)
 
 -- a test of each record's reading is a test of each record's place
-every-rows : {A : Type 0} (p : A → Bool) (q : ℕ → Bool) (read : ℕ → A) (w n at : ℕ) → ((i : ℕ) → p (read i) ≡ q i)
+every-records : {A : Type 0} (p : A → Bool) (q : ℕ → Bool) (read : ℕ → A) (w n at : ℕ) → ((i : ℕ) → p (read i) ≡ q i)
     → every p (recordsAt read w n at) ≡ every q (recordsAt (λ (i : ℕ). i) w n at)
 unfolding every recordsAt
-every-rows p q read w zero at h = refl
-every-rows p q read w (suc n) at h = rw (h at, every-rows p q read w n (at + w) h)
+every-records p q read w zero at h = refl
+every-records p q read w (suc n) at h = rw (h at, every-records p q read w n (at + w) h)
 
-all-rows : {A : Type 0} (p : A → Bool) (read : ℕ → A) (w n at : ℕ) → ((i : ℕ) → p (read i) ≡ true) → fewOf p (recordsAt read w n at) ≡ leb n 64
+all-records : {A : Type 0} (p : A → Bool) (read : ℕ → A) (w n at : ℕ) → ((i : ℕ) → p (read i) ≡ true) → fewOf p (recordsAt read w n at) ≡ leb n 64
 unfolding fewOf every recordsAt
-all-rows p read w n at h = rw (length-rows read w n at, all n at, and-true)
+all-records p read w n at h = rw (length-records read w n at, all n at, and-true)
   where
     all : (n at : ℕ) → every p (recordsAt read w n at) ≡ true
     all zero at = refl
     all (suc n) at = rw (h at) (all n (at + w))
 
 module _ (table : List ℕ) (small : (i : ℕ) → tableEntry table i < 2 ^ 32) where
-  blank-input : (at : ℕ) → inputOk (inputFrom blank table at) ≡ groupOk table at
-  unfolding inputOk inputFrom groupOk
+  blank-input : (at : ℕ) → inputOk (inputFrom zerosAt table at) ≡ groupOk table at
+  unfolding inputOk inputFrom inputRecordPlaces groupOk
   blank-input at =
       let h : tableEntry table (at + 2) + 2 ^ 32 * tableEntry table (at + 3) < 2 ^ 64 = omega (arith, small (at + 2), small (at + 3)) in
       rw (
@@ -60,27 +58,27 @@ module _ (table : List ℕ) (small : (i : ℕ) → tableEntry table i < 2 ^ 32) 
         and-true,
       )
 
-  blank-inputs : fewOf inputOk (recordsAt (inputFrom blank table) 6 (tableEntry table 3) inputsAt)
-      ≡ (leb (tableEntry table 3) 64 && every (groupOk table) (recordsAt (λ (i : ℕ). i) 6 (tableEntry table 3) inputsAt))
+  blank-inputs : fewOf inputOk (recordsAt (inputFrom zerosAt table) 6 (inputCount table) inputsAt)
+      ≡ (leb (inputCount table) 64 && every (groupOk table) (recordsAt (λ (i : ℕ). i) 6 (inputCount table) inputsAt))
   unfolding fewOf
   blank-inputs =
       rw (
-        length-rows (inputFrom blank table) 6 (tableEntry table 3) inputsAt,
-        every-rows inputOk (groupOk table) (inputFrom blank table) 6 (tableEntry table 3) inputsAt blank-input,
+        length-records (inputFrom zerosAt table) 6 (inputCount table) inputsAt,
+        every-records inputOk (groupOk table) (inputFrom zerosAt table) 6 (inputCount table) inputsAt blank-input,
       )
 
   pub blank-ok : sceneOk (blankScene table)
-      ≡ (leb (tableEntry table 3) 64 && every (groupOk table) (recordsAt (λ (i : ℕ). i) 6 (tableEntry table 3) inputsAt)
-      && (leb (tableEntry table 4) 64
-      && (leb (tableEntry table 5) 64 && (leb (tableEntry table 6) 64 && (leb (digitCount table) 16 && every (λ (d : ℕ). ltb d 3) (blankScene table .digits))))))
-  unfolding sceneOk blankScene sceneFrom bytesFrom cellRecordFrom digitsOk digitCount
+      ≡ (leb (inputCount table) 64 && every (groupOk table) (recordsAt (λ (i : ℕ). i) 6 (inputCount table) inputsAt)
+      && (leb (outputCount table) 64
+      && (leb (depCount table) 64 && (leb (witnessCount table) 64 && (leb (digitCount table) 16 && every (λ (d : ℕ). ltb d 3) (blankScene table .digits))))))
+  unfolding sceneOk blankScene sceneFrom scriptPlace transactionPlace bytesPlace cellRecordPlaces cellFieldPlaces digitsOk digitCount
   blank-ok =
       rw (
         blank-bytes (tableEntry table 9),
         blank-hash,
         blank-inputs,
-        all-rows cellOk (cellRecordFrom blank table) 3 (tableEntry table 4) (outputsAt table) (λ i. blank-cell (tableEntry table i) (tableEntry table (i + 1)) (tableEntry table (i + 2))),
-        all-rows cellOk (cellRecordFrom blank table) 3 (tableEntry table 5) (depsAt table) (λ i. blank-cell (tableEntry table i) (tableEntry table (i + 1)) (tableEntry table (i + 2))),
-        all-rows bytesOk (bytesFrom blank table) 2 (tableEntry table 6) (witnessesAt table) (λ i. blank-bytes (tableEntry table (i + 1))),
-        length-rows (tableEntry table) 1 (tableEntry table (verdictsAt table + 1)) (verdictsAt table + 2),
+        all-records cellOk (cellRecordFrom zerosAt table) 3 (outputCount table) (outputsAt table) (λ i. blank-cell (tableEntry table i) (tableEntry table (i + 1)) (tableEntry table (i + 2))),
+        all-records cellOk (cellRecordFrom zerosAt table) 3 (depCount table) (depsAt table) (λ i. blank-cell (tableEntry table i) (tableEntry table (i + 1)) (tableEntry table (i + 2))),
+        all-records bytesOk (bytesFrom zerosAt table) 2 (witnessCount table) (witnessesAt table) (λ i. blank-bytes (tableEntry table (i + 1))),
+        length-records (tableEntry table) 1 (tableEntry table (verdictsAt table + 1)) (verdictsAt table + 2),
       )

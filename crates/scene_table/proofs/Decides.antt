@@ -12,15 +12,15 @@ use lib.Seq.{drop-at, take-add}
 use Rattle.octets.proofs.Same.{same-eq, eq-same}
 use Rattle.octets.proofs.Parts.{part-back}
 use Rattle.octets.specs.Lists.{every}
-use Rattle.scene_table.specs.Scene.{linesOf, recordsFrom, countsOf, sceneBytes, sceneNumbers, padded, sceneTable}
-use Rattle.scene_table.specs.Lent.{tableEntry, inputsAt, outputsAt, depsAt, witnessesAt, verdictsAt, recordsAt, inputFrom, cellRecordFrom, bytesFrom, sceneFrom, blankScene}
-use Rattle.scene_table.specs.Places.{digitCount}
+use Rattle.protocol.specs.Limits.{tableMinEntries}
+use Rattle.scene_table.specs.Scene.{linesOf, recordsFrom, countsOf, sceneBytes, sceneNumbers, zeroPadded, sceneTable}
+use Rattle.scene_table.specs.Lent.{tableEntry, inputsAt, outputsAt, depsAt, witnessesAt, verdictsAt, recordsAt, inputFrom, cellRecordFrom, bytesFrom, sceneFrom, blankScene, inputCount, outputCount, depCount, witnessCount, digitCount, bytesPlace, scriptPlace, transactionPlace, zerosAt}
 use Rattle.scene_table.specs.Valid.{validTable}
-use Rattle.scene_table.specs.Walk.{startWalk, walkLines, countsOk, zerosBehind, restOk}
-use Rattle.scene_table.proofs.Rows.{length-rows}
+use Rattle.scene_table.specs.RecordsWalk.{recordsStart, walkLines, countsOk, zerosBehind, restOk}
+use Rattle.scene_table.proofs.Records.{length-records}
 use Rattle.scene_table.proofs.Lines.{total, total-joined, cut, cut-take}
 use Rattle.octets.proofs.Truth.{and-both, both-and, same-truth}
-use Rattle.scene_table.proofs.WholeWalk.{blank, span, Groups, whole}
+use Rattle.scene_table.proofs.WholeWalk.{span, Groups, whole}
 use Rattle.scene_table.proofs.BlankScene.{blank-ok}
 
 -- zeros, and lists that are
@@ -38,20 +38,20 @@ pass-zeros (x ∷ xs) h =
 
 -- the first eight entries
 cut-entries : (table : List ℕ) → cut table 8 0
-    ≡ tableEntry table 0 ∷ tableEntry table 1 ∷ tableEntry table 2 ∷ tableEntry table 3 ∷ tableEntry table 4 ∷ tableEntry table 5 ∷ tableEntry table 6 ∷ tableEntry table 7 ∷ []
+    ≡ tableEntry table 0 ∷ tableEntry table 1 ∷ tableEntry table 2 ∷ inputCount table ∷ outputCount table ∷ depCount table ∷ witnessCount table ∷ tableEntry table 7 ∷ []
 unfolding cut recordsAt
 cut-entries table = refl
 
 module _ (table : List ℕ) where
   -- the counts that the table says
-  said-counts : countsOf (blankScene table) ≡ 0 ∷ 1 ∷ 1 ∷ tableEntry table 3 ∷ tableEntry table 4 ∷ tableEntry table 5 ∷ tableEntry table 6 ∷ 1 ∷ []
-  unfolding countsOf blankScene sceneFrom
+  said-counts : countsOf (blankScene table) ≡ 0 ∷ 1 ∷ 1 ∷ inputCount table ∷ outputCount table ∷ depCount table ∷ witnessCount table ∷ 1 ∷ []
+  unfolding countsOf blankScene sceneFrom scriptPlace transactionPlace bytesPlace
   said-counts =
       rw (
-        length-rows (inputFrom blank table) 6 (tableEntry table 3) inputsAt,
-        length-rows (cellRecordFrom blank table) 3 (tableEntry table 4) (outputsAt table),
-        length-rows (cellRecordFrom blank table) 3 (tableEntry table 5) (depsAt table),
-        length-rows (bytesFrom blank table) 2 (tableEntry table 6) (witnessesAt table),
+        length-records (inputFrom zerosAt table) 6 (inputCount table) inputsAt,
+        length-records (cellRecordFrom zerosAt table) 3 (outputCount table) (outputsAt table),
+        length-records (cellRecordFrom zerosAt table) 3 (depCount table) (depsAt table),
+        length-records (bytesFrom zerosAt table) 2 (witnessCount table) (witnessesAt table),
       )
 
   -- the records end behind the last digit
@@ -65,7 +65,7 @@ module _ (table : List ℕ) where
     pub scripts : tableEntry table 1 ≡ 1
     pub transactions : tableEntry table 2 ≡ 1
     pub verdicts : tableEntry table 7 ≡ 1
-    pub rows : recordsFrom 0 (linesOf (blankScene table)) ≡ cut table (span table) 8
+    pub records : recordsFrom 0 (linesOf (blankScene table)) ≡ cut table (span table) 8
     pub behind : zerosBehind table ≡ true
 
   module _ (long : length (recordsFrom 0 (linesOf (blankScene table))) ≡ span table) (room : 8 + span table ≤ length table) where
@@ -77,17 +77,17 @@ module _ (table : List ℕ) where
     numbers-long = rw (length-append, said-counts, long)
 
     pub own-table : Own → table ≡ sceneTable (blankScene table) (length table)
-    unfolding sceneTable padded sceneNumbers zerosBehind
+    unfolding sceneTable zeroPadded sceneNumbers zerosBehind
     own-table o =
         let k = 8 + span table in
         let front : take k table ≡ countsOf (blankScene table) ++ recordsFrom 0 (linesOf (blankScene table)) =
         take-add 8 (span table) table
-        ∙ ap₂ (λ (x y : List ℕ). x ++ y) (sym (cut-take table 8 0 (omega arith)) ∙ own-counts o) (sym (cut-take table (span table) 8 room) ∙ sym (o .rows)) in
+        ∙ ap₂ (λ (x y : List ℕ). x ++ y) (sym (cut-take table 8 0 (omega arith)) ∙ own-counts o) (sym (cut-take table (span table) 8 room) ∙ sym (o .records)) in
         let back : drop k table ≡ replicate (length table - k) 0 = rw (length-drop k table) at (pass-zeros (drop k table) (rw ends (o .behind))) in
         sym (take-append-drop k table) ∙ (ap₂ (λ (x y : List ℕ). x ++ y) front back ∙ rw numbers-long)
 
     pub table-own : table ≡ sceneTable (blankScene table) (length table) → Own
-    unfolding sceneTable padded sceneNumbers zerosBehind
+    unfolding sceneTable zeroPadded sceneNumbers zerosBehind
     table-own e =
         let c = countsOf (blankScene table) in
         let r = recordsFrom 0 (linesOf (blankScene table)) in
@@ -102,17 +102,17 @@ module _ (table : List ℕ) where
           scripts = ap (λ (l : List ℕ). getD l 1 0) (sym (cut-entries table) ∙ said);
           transactions = ap (λ (l : List ℕ). getD l 2 0) (sym (cut-entries table) ∙ said);
           verdicts = ap (λ (l : List ℕ). getD l 7 0) (sym (cut-entries table) ∙ said);
-          rows = sym (cut-take table (span table) 8 room ∙ part-back table c r z 8 (span table) f eight long);
+          records = sym (cut-take table (span table) 8 room ∙ part-back table c r z 8 (span table) f eight long);
           behind = rw (← ends, behind) (zeros-pass (length table - length (c ++ r)));
         }
 
   -- the counts in range
   pub record Few : Type 0 where
-    pub enough : 2048 ≤ length table
-    pub inputs : tableEntry table 3 ≤ 64
-    pub outputs : tableEntry table 4 ≤ 64
-    pub deps : tableEntry table 5 ≤ 64
-    pub witnesses : tableEntry table 6 ≤ 64
+    pub enough : tableMinEntries ≤ length table
+    pub inputs : inputCount table ≤ 64
+    pub outputs : outputCount table ≤ 64
+    pub deps : depCount table ≤ 64
+    pub witnesses : witnessCount table ≤ 64
     pub digits : digitCount table ≤ 16
 
   room-for : Few → 8 + span table ≤ length table
@@ -140,11 +140,11 @@ module _ (table : List ℕ) where
       let j = and-both _ _ (i .0) in
       record {
         few = record {
-          enough = leb-true 2048 (length table) (j .0);
-          inputs = leb-true (tableEntry table 3) 64 (f .1);
-          outputs = leb-true (tableEntry table 4) 64 (e .1);
-          deps = leb-true (tableEntry table 5) 64 (d .1);
-          witnesses = leb-true (tableEntry table 6) 64 (c .1);
+          enough = leb-true tableMinEntries (length table) (j .0);
+          inputs = leb-true (inputCount table) 64 (f .1);
+          outputs = leb-true (outputCount table) 64 (e .1);
+          deps = leb-true (depCount table) 64 (d .1);
+          witnesses = leb-true (witnessCount table) 64 (c .1);
           digits = leb-true (digitCount table) 16 (a .1);
         };
         zeroth = eqb-true (tableEntry table 0) 0 (j .1);
@@ -157,14 +157,14 @@ module _ (table : List ℕ) where
   unfolding countsOk
   counts-pass c =
       rw (
-        le-leb 2048 (length table) (c .few .enough),
+        le-leb tableMinEntries (length table) (c .few .enough),
         eq-eqb (tableEntry table 0) 0 (c .zeroth),
         eq-eqb (tableEntry table 1) 1 (c .scripts),
         eq-eqb (tableEntry table 2) 1 (c .transactions),
-        le-leb (tableEntry table 3) 64 (c .few .inputs),
-        le-leb (tableEntry table 4) 64 (c .few .outputs),
-        le-leb (tableEntry table 5) 64 (c .few .deps),
-        le-leb (tableEntry table 6) 64 (c .few .witnesses),
+        le-leb (inputCount table) 64 (c .few .inputs),
+        le-leb (outputCount table) 64 (c .few .outputs),
+        le-leb (depCount table) 64 (c .few .deps),
+        le-leb (witnessCount table) 64 (c .few .witnesses),
         eq-eqb (tableEntry table 7) 1 (c .verdicts),
         le-leb (digitCount table) 16 (c .few .digits),
       )
@@ -175,7 +175,7 @@ module _ (table : List ℕ) where
 
   module _ (small : (i : ℕ) → tableEntry table i < 2 ^ 32) (n : ℕ) where
     walk-valid : countsOk table ≡ true → restOk table n ≡ true → validTable table n ≡ true
-    unfolding restOk validTable startWalk Groups
+    unfolding restOk validTable recordsStart Groups
     walk-valid h g =
         let c = counted h in
         let a = and-both _ _ g in
@@ -184,15 +184,15 @@ module _ (table : List ℕ) where
         let w = whole table small in
         let t = w .there (d .0) in
         let u : walkLines table .used ≡ total (linesOf (blankScene table)) = omega (arith, t .3) in
-        let own : Own = record { zeroth = c .zeroth; scripts = c .scripts; transactions = c .transactions; verdicts = c .verdicts; rows = t .2; behind = a .1 } in
+        let own : Own = record { zeroth = c .zeroth; scripts = c .scripts; transactions = c .transactions; verdicts = c .verdicts; records = t .2; behind = a .1 } in
         rw (
-          le-leb 2048 (length table) (c .few .enough),
+          le-leb tableMinEntries (length table) (c .few .enough),
           blank-ok table small,
-          le-leb (tableEntry table 3) 64 (c .few .inputs),
+          le-leb (inputCount table) 64 (c .few .inputs),
           t .1,
-          le-leb (tableEntry table 4) 64 (c .few .outputs),
-          le-leb (tableEntry table 5) 64 (c .few .deps),
-          le-leb (tableEntry table 6) 64 (c .few .witnesses),
+          le-leb (outputCount table) 64 (c .few .outputs),
+          le-leb (depCount table) 64 (c .few .deps),
+          le-leb (witnessCount table) 64 (c .few .witnesses),
           le-leb (digitCount table) 16 (c .few .digits),
           d .1,
           bytes-total,
@@ -202,7 +202,7 @@ module _ (table : List ℕ) where
         (eq-same _ _ (own-table (w .long 0) (room-for (c .few)) own))
 
     valid-walk : validTable table n ≡ true → (countsOk table ≡ true) × (restOk table n ≡ true)
-    unfolding restOk validTable startWalk Groups
+    unfolding restOk validTable recordsStart Groups
     valid-walk h =
         let a = and-both _ _ h in
         let b = and-both _ _ (a .1) in
@@ -214,18 +214,18 @@ module _ (table : List ℕ) where
         let witnesses = and-both _ _ (deps .1) in
         let digits = and-both _ _ (witnesses .1) in
         let few : Few = record {
-          enough = leb-true 2048 (length table) (a .0);
-          inputs = leb-true (tableEntry table 3) 64 (inputs .0);
-          outputs = leb-true (tableEntry table 4) 64 (outputs .0);
-          deps = leb-true (tableEntry table 5) 64 (deps .0);
-          witnesses = leb-true (tableEntry table 6) 64 (witnesses .0);
+          enough = leb-true tableMinEntries (length table) (a .0);
+          inputs = leb-true (inputCount table) 64 (inputs .0);
+          outputs = leb-true (outputCount table) 64 (outputs .0);
+          deps = leb-true (depCount table) 64 (deps .0);
+          witnesses = leb-true (witnessCount table) 64 (witnesses .0);
           digits = leb-true (digitCount table) 16 (digits .0);
         } in
         let below : every (λ (d : ℕ). ltb d 3) (blankScene table .digits) ≡ true = digits .1 in
         let fits : leb (length (sceneBytes (blankScene table))) n ≡ true = c .0 in
         let w = whole table small in
         let own = table-own (w .long 0) (room-for few) (same-eq table (sceneTable (blankScene table) (length table)) (c .1)) in
-        let good = w .back refl (inputs .1) (own .rows) in
+        let good = w .back refl (inputs .1) (own .records) in
         let u : walkLines table .used ≡ length (sceneBytes (blankScene table)) = omega (arith, w .there good .3, bytes-total) in (
           counts-pass record { few = few; zeroth = own .zeroth; scripts = own .scripts; transactions = own .transactions; verdicts = own .verdicts },
           rw (good, below, u, fits) (own .behind),

@@ -12,7 +12,7 @@ use lib.Seq.{drop-cons, take-at, drop-at}
 use Rattle.octets.specs.Lists.{joined}
 use Rattle.scene_table.specs.Scene.{Scene, Line, bytesLine, hashLine, inputLine, cellLine, digitsLine, linesOf, recordsFrom}
 use Rattle.scene_table.specs.Lent.{tableEntry, recordsAt}
-use Rattle.scene_table.proofs.Rows.{length-rows}
+use Rattle.scene_table.proofs.Records.{length-records}
 
 -- the bytes of lines
 unfoldable pub total : List Line → ℕ
@@ -25,11 +25,11 @@ total-joined [] = refl
 total-joined (l ∷ ls) = rw (length-append, total-joined ls)
 
 -- one list of lines behind another
-pub rows-append : (used : ℕ) (ls ms : List Line) → recordsFrom used (ls ++ ms) ≡ recordsFrom used ls ++ recordsFrom (used + total ls) ms
+pub records-append : (used : ℕ) (ls ms : List Line) → recordsFrom used (ls ++ ms) ≡ recordsFrom used ls ++ recordsFrom (used + total ls) ms
 unfolding recordsFrom total
-rows-append used [] ms = rw add-zero
-rows-append used (l ∷ ls) ms =
-    rw (rows-append (used + length (l .bytes)) ls ms, add-assoc) (sym (append-assoc (used ∷ l .numbers) _ _))
+records-append used [] ms = rw add-zero
+records-append used (l ∷ ls) ms =
+    rw (records-append (used + length (l .bytes)) ls ms, add-assoc) (sym (append-assoc (used ∷ l .numbers) _ _))
 
 pub total-append : (ls ms : List Line) → total (ls ++ ms) ≡ total ls + total ms
 unfolding total
@@ -45,20 +45,20 @@ append-parts xs ys us vs n p q e =
 unfoldable pub cut : List ℕ → ℕ → ℕ → List ℕ
 cut table n at = recordsAt (tableEntry table) 1 n at
 
-rows-parts : (read : ℕ → ℕ) (n m at : ℕ) → recordsAt read 1 (n + m) at ≡ recordsAt read 1 n at ++ recordsAt read 1 m (at + n)
+records-parts : (read : ℕ → ℕ) (n m at : ℕ) → recordsAt read 1 (n + m) at ≡ recordsAt read 1 n at ++ recordsAt read 1 m (at + n)
 unfolding recordsAt
-rows-parts read zero m at = rw (zero-add, add-zero)
-rows-parts read (suc n) m at =
+records-parts read zero m at = rw (zero-add, add-zero)
+records-parts read (suc n) m at =
     let e : at + suc n ≡ at + 1 + n = omega arith in
-    rw (suc-add, e, rows-parts read n m (at + 1))
+    rw (suc-add, e, records-parts read n m (at + 1))
 
 pub cut-parts : (table : List ℕ) (n m at : ℕ) → cut table (n + m) at ≡ cut table n at ++ cut table m (at + n)
 unfolding cut
-cut-parts table n m at = rows-parts (tableEntry table) n m at
+cut-parts table n m at = records-parts (tableEntry table) n m at
 
 pub length-cut : (table : List ℕ) (n at : ℕ) → length (cut table n at) ≡ n
 unfolding cut
-length-cut table n at = length-rows (tableEntry table) 1 n at
+length-cut table n at = length-records (tableEntry table) 1 n at
 
 -- entries that the table has
 pub cut-take : (table : List ℕ) (n at : ℕ) → at + n ≤ length table → cut table n at ≡ take n (drop at table)

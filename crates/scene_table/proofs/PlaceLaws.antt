@@ -7,9 +7,9 @@ use lib.Dec.{eqb}
 use lib.ListN.{length}
 use Rattle.octets.specs.Places as octets
 use Rattle.scene_table.specs.Scene.{Input, Scene}
-use Rattle.scene_table.specs.Lent.{tableEntry, inputsAt, outputsAt, depsAt, witnessesAt, verdictsAt, cellFrom, inputFrom, cellRecordFrom, bytesFrom, sceneFrom, storeBytes, sceneIn, blankScene}
-use Rattle.scene_table.specs.Places.{placeAt, cellFieldPlaces, bytesPlace, recordPlaces, scriptPlace, transactionPlace, digitCount, inputAt, inputGroup, inputSince, inputPlaces, outputPlaces, depPlaces, witnessPlace, verdictAt, verdictOf, cellIn}
-use Rattle.scene_table.proofs.Rows.{Listed, length-rows, rows-listed}
+use Rattle.scene_table.specs.Lent.{tableEntry, inputsAt, outputsAt, depsAt, witnessesAt, verdictsAt, cellFrom, inputFrom, cellRecordFrom, bytesFrom, sceneFrom, sceneIn, blankScene, inputCount, outputCount, depCount, witnessCount, digitCount, cellFieldPlaces, bytesPlace, cellRecordPlaces, scriptPlace, transactionPlace, inputRecordPlaces}
+use Rattle.scene_table.specs.Places.{inputAt, inputGroup, inputSince, inputPlaces, outputPlaces, depPlaces, witnessPlace, verdictAt, verdictOf, cellIn}
+use Rattle.scene_table.proofs.Records.{Listed, length-records, records-listed}
 
 -- input i of a table and a store
 unfoldable pub lentInput : List ℕ → List ℕ → ℕ → Input
@@ -28,22 +28,22 @@ lent-group table store i = refl
 pub record Given (table store : List ℕ) (s : Scene) : Type 0 where
   pub script : s .script ≡ octets.bytesAt store (scriptPlace table)
   pub transaction : s .transaction ≡ octets.bytesAt store (transactionPlace table)
-  pub inputs : Listed (s .inputs) (tableEntry table 3) (lentInput table store)
-  pub outputs : Listed (s .outputs) (tableEntry table 4) (λ i. cellIn store (outputPlaces table i))
-  pub deps : Listed (s .deps) (tableEntry table 5) (λ i. cellIn store (depPlaces table i))
-  pub witnesses : Listed (s .witnesses) (tableEntry table 6) (λ i. octets.bytesAt store (witnessPlace table i))
+  pub inputs : Listed (s .inputs) (inputCount table) (lentInput table store)
+  pub outputs : Listed (s .outputs) (outputCount table) (λ i. cellIn store (outputPlaces table i))
+  pub deps : Listed (s .deps) (depCount table) (λ i. cellIn store (depPlaces table i))
+  pub witnesses : Listed (s .witnesses) (witnessCount table) (λ i. octets.bytesAt store (witnessPlace table i))
   pub digits : length (s .digits) ≡ digitCount table
   pub verdicts : (i : ℕ) → verdictAt (s .digits) i ≡ verdictOf table i
 
 pub lent-given : (table store : List ℕ) → Given table store (sceneIn table store)
-unfolding sceneIn blankScene sceneFrom lentInput inputAt inputSince inputPlaces outputPlaces depPlaces witnessPlace scriptPlace transactionPlace bytesPlace recordPlaces cellIn octets.bytesAt cellFieldPlaces placeAt inputFrom cellRecordFrom cellFrom bytesFrom storeBytes digitCount verdictOf
+unfolding sceneIn blankScene sceneFrom scriptPlace transactionPlace bytesPlace lentInput inputAt inputSince inputPlaces outputPlaces depPlaces witnessPlace cellRecordPlaces octets.bytesAt cellFieldPlaces inputFrom inputRecordPlaces cellFrom digitCount verdictOf
 lent-given table store = record {
   script = refl;
   transaction = refl;
-  inputs = rows-listed (inputFrom (storeBytes store) table) 6 (tableEntry table 3) inputsAt;
-  outputs = rows-listed (cellRecordFrom (storeBytes store) table) 3 (tableEntry table 4) (outputsAt table);
-  deps = rows-listed (cellRecordFrom (storeBytes store) table) 3 (tableEntry table 5) (depsAt table);
-  witnesses = rows-listed (bytesFrom (storeBytes store) table) 2 (tableEntry table 6) (witnessesAt table);
-  digits = length-rows (tableEntry table) 1 (tableEntry table (verdictsAt table + 1)) (verdictsAt table + 2);
+  inputs = records-listed (inputFrom (octets.bytesAt store) table) 6 (inputCount table) inputsAt;
+  outputs = records-listed (cellRecordFrom (octets.bytesAt store) table) 3 (outputCount table) (outputsAt table);
+  deps = records-listed (cellRecordFrom (octets.bytesAt store) table) 3 (depCount table) (depsAt table);
+  witnesses = records-listed (bytesFrom (octets.bytesAt store) table) 2 (witnessCount table) (witnessesAt table);
+  digits = length-records (tableEntry table) 1 (tableEntry table (verdictsAt table + 1)) (verdictsAt table + 2);
   verdicts = λ i. refl;
 }

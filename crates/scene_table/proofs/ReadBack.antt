@@ -8,11 +8,12 @@ use native.Mathlib.Omega.{arith}
 use borrow.Author.Tests.{eqb-true}
 use lib.Dec.{lit<, ltb, eqb}
 use lib.ListN.{length, length-append}
+use Rattle.octets.specs.declared.place.Place.{Place}
 use Rattle.scene_table.specs.Scene.{Cell, Input, Scene, cellBytes, cellLengths, bytesLine, hashLine, inputLine, cellLine}
-use Rattle.scene_table.specs.Lent.{tableEntry, hashLength, cellFrom, inputFrom, cellRecordFrom, bytesFrom}
+use Rattle.scene_table.specs.Lent.{tableEntry, hashLength, cellFrom, inputFrom, cellRecordFrom, bytesFrom, cellRecordPlaces, cellFieldPlaces, bytesPlace, inputRecordPlaces, placeAt}
 use Rattle.scene_table.specs.Valid.{bytesOk, hashBytesOk, cellOk, inputOk}
 use Rattle.octets.proofs.Truth.{and-both}
-use Rattle.scene_table.proofs.Stands.{Stands, row-first, row-entry, row-bytes}
+use Rattle.scene_table.proofs.Stands.{Stands, record-first, record-entry, record-bytes}
 
 -- a scene with g of each run of bytes
 unfoldable pub cellWith : (List ℕ → List ℕ) → Cell → Cell
@@ -38,8 +39,8 @@ sceneWith g s = record {
 }
 
 -- what `from` gives at the place of a part of the bytes is g of the part
-abbrev pub Gives : (ℕ → ℕ → List ℕ) → (List ℕ → List ℕ) → List ℕ → Type 0
-Gives from g store = (p q r : List ℕ) (at n : ℕ) → store ≡ p ++ (q ++ r) → length p ≡ at → length q ≡ n → from at n ≡ g q
+abbrev pub Gives : (Place → List ℕ) → (List ℕ → List ℕ) → List ℕ → Type 0
+Gives from g store = (p q r : List ℕ) (at n : ℕ) → store ≡ p ++ (q ++ r) → length p ≡ at → length q ≡ n → from (placeAt at n) ≡ g q
 
 type-hash : (b : Bool) (hash : List ℕ) → cond b (eqb (length hash) 0) (hashBytesOk hash) ≡ true → cond b 0 32 ≡ length hash
 unfolding hashBytesOk
@@ -59,10 +60,10 @@ cell-hashes c h =
     let ok = and-both first (hashBytesOk (c .dataHash) && last) h in
     (type-hash (eqb (length (c .typeScript)) 0) (c .typeHash) (ok .0), hash-long (c .dataHash) (and-both (hashBytesOk (c .dataHash)) last (ok .1) .0))
 
-module _ (from : ℕ → ℕ → List ℕ) (g : List ℕ → List ℕ) (table store : List ℕ) (gives : Gives from g store) where
+module _ (from : Place → List ℕ) (g : List ℕ → List ℕ) (table store : List ℕ) (gives : Gives from g store) where
   cell-back : (c : Cell) (front back : List ℕ) (used : ℕ) → cellOk c ≡ true → store ≡ front ++ (cellBytes c ++ back) → length front ≡ used
-      → cellFrom from used (length (c .typeScript)) (length (c .content)) ≡ cellWith g c
-  unfolding cellBytes cellFrom cellWith
+      → cellFrom from (cellFieldPlaces used (length (c .typeScript)) (length (c .content))) ≡ cellWith g c
+  unfolding cellBytes cellFrom cellFieldPlaces cellWith
   cell-back c front back used h e l =
       let a = c .typeHash in
       let b = c .dataHash in
@@ -86,37 +87,37 @@ module _ (from : ℕ → ℕ → List ℕ) (g : List ℕ → List ℕ) (table st
       )
 
   pub bytes-back : (bs : List ℕ) (at used : ℕ) → bytesOk bs ≡ true → Stands table store at used (bytesLine bs ∷ []) → bytesFrom from table at ≡ g bs
-  unfolding bytesFrom bytesLine
+  unfolding bytesPlace bytesLine
   bytes-back bs at used h s =
       rw
-      (row-first table store s, row-entry table store {l = bytesLine bs} 0 (lit< tt) s)
-      (gives (s .front) bs (s .back) used (length bs) (row-bytes table store s) (s .start) refl)
+      (record-first table store s, record-entry table store {l = bytesLine bs} 0 (lit< tt) s)
+      (gives (s .front) bs (s .back) used (length bs) (record-bytes table store s) (s .start) refl)
 
-  pub hash-back : (hash : List ℕ) (at used : ℕ) → hashBytesOk hash ≡ true → Stands table store at used (hashLine hash ∷ []) → from (tableEntry table at) 32 ≡ g hash
+  pub hash-back : (hash : List ℕ) (at used : ℕ) → hashBytesOk hash ≡ true → Stands table store at used (hashLine hash ∷ []) → from (placeAt (tableEntry table at) 32) ≡ g hash
   unfolding hashLine
   hash-back hash at used h s =
-      rw (row-first table store s) (gives (s .front) hash (s .back) used 32 (row-bytes table store s) (s .start) (hash-long hash h))
+      rw (record-first table store s) (gives (s .front) hash (s .back) used 32 (record-bytes table store s) (s .start) (hash-long hash h))
 
-  pub row-back : (c : Cell) (at used : ℕ) → cellOk c ≡ true → Stands table store at used (cellLine c ∷ []) → cellRecordFrom from table at ≡ cellWith g c
-  unfolding cellRecordFrom cellLine cellLengths
-  row-back c at used h s =
+  pub record-back : (c : Cell) (at used : ℕ) → cellOk c ≡ true → Stands table store at used (cellLine c ∷ []) → cellRecordFrom from table at ≡ cellWith g c
+  unfolding cellRecordPlaces cellFieldPlaces cellLine cellLengths
+  record-back c at used h s =
       rw
-      (row-first table store s, row-entry table store {l = cellLine c} 0 (lit< tt) s, row-entry table store {l = cellLine c} 1 (lit< tt) s)
-      (cell-back c (s .front) (s .back) used h (row-bytes table store s) (s .start))
+      (record-first table store s, record-entry table store {l = cellLine c} 0 (lit< tt) s, record-entry table store {l = cellLine c} 1 (lit< tt) s)
+      (cell-back c (s .front) (s .back) used h (record-bytes table store s) (s .start))
 
   pub input-back : (i : Input) (at used : ℕ) → inputOk i ≡ true → Stands table store at used (inputLine i ∷ []) → inputFrom from table at ≡ inputWith g i
-  unfolding inputFrom inputLine cellLengths inputWith inputOk
+  unfolding inputFrom inputRecordPlaces inputLine cellLengths inputWith inputOk
   input-back i at used h s =
       let ok = and-both (ltb (i .group) 2) (ltb (i .since) (2 ^ 64) && cellOk (i .cell)) h in
       let cell = and-both (ltb (i .since) (2 ^ 64)) (cellOk (i .cell)) (ok .1) in
       let whole : i .since % 2 ^ 32 + 2 ^ 32 * (i .since / 2 ^ 32) ≡ i .since = omega arith in
       rw (
-        row-first table store s,
-        row-entry table store {l = inputLine i} 0 (lit< tt) s,
-        row-entry table store {l = inputLine i} 1 (lit< tt) s,
-        row-entry table store {l = inputLine i} 2 (lit< tt) s,
-        row-entry table store {l = inputLine i} 3 (lit< tt) s,
-        row-entry table store {l = inputLine i} 4 (lit< tt) s,
+        record-first table store s,
+        record-entry table store {l = inputLine i} 0 (lit< tt) s,
+        record-entry table store {l = inputLine i} 1 (lit< tt) s,
+        record-entry table store {l = inputLine i} 2 (lit< tt) s,
+        record-entry table store {l = inputLine i} 3 (lit< tt) s,
+        record-entry table store {l = inputLine i} 4 (lit< tt) s,
         whole,
-        cell-back (i .cell) (s .front) (s .back) used (cell .1) (row-bytes table store s) (s .start),
+        cell-back (i .cell) (s .front) (s .back) used (cell .1) (record-bytes table store s) (s .start),
       )

@@ -11,13 +11,14 @@ use lib.Dec.{leb, ltb}
 use lib.ListN.{length, replicate, length-append}
 use Rattle.octets.proofs.Parts.{part-back}
 use Rattle.octets.specs.Lists.{every}
-use Rattle.scene_table.specs.Scene.{Cell, Input, Scene, Line, cellLengths, bytesLine, hashLine, inputLine, cellLine, digitsLine, linesOf, sceneBytes, countsOf, recordsFrom, sceneNumbers, padded, sceneTable}
-use Rattle.scene_table.specs.Lent.{tableEntry, inputsAt, outputsAt, depsAt, witnessesAt, verdictsAt, recordsAt, inputFrom, cellRecordFrom, bytesFrom, sceneFrom}
+use Rattle.octets.specs.declared.place.Place.{Place}
+use Rattle.scene_table.specs.Scene.{Cell, Input, Scene, Line, cellLengths, bytesLine, hashLine, inputLine, cellLine, digitsLine, linesOf, sceneBytes, countsOf, recordsFrom, sceneNumbers, zeroPadded, sceneTable}
+use Rattle.scene_table.specs.Lent.{tableEntry, inputsAt, outputsAt, depsAt, witnessesAt, verdictsAt, recordsAt, inputFrom, cellRecordFrom, bytesFrom, sceneFrom, inputCount, outputCount, depCount, witnessCount, digitCount, bytesPlace, scriptPlace, transactionPlace}
 use Rattle.scene_table.specs.Valid.{bytesOk, hashBytesOk, cellOk, inputOk, fewOf, digitsOk, sceneOk}
-use Rattle.scene_table.proofs.Lines.{total, rows-append, cut, cut-take, fromInputs, fromOutputs, fromDeps, fromWitnesses, lines-by-kind}
+use Rattle.scene_table.proofs.Lines.{total, records-append, cut, cut-take, fromInputs, fromOutputs, fromDeps, fromWitnesses, lines-by-kind}
 use Rattle.octets.proofs.Truth.{and-both}
-use Rattle.scene_table.proofs.Stands.{Stands, bytesOf, stands-left, stands-right, row-entry, rows-long, rows-back}
-use Rattle.scene_table.proofs.ReadBack.{cellWith, inputWith, sceneWith, Gives, bytes-back, hash-back, row-back, input-back}
+use Rattle.scene_table.proofs.Stands.{Stands, bytesOf, stands-left, stands-right, record-entry, records-long, records-back}
+use Rattle.scene_table.proofs.ReadBack.{cellWith, inputWith, sceneWith, Gives, bytes-back, hash-back, record-back, input-back}
 
 -- what a scene that a text can say has
 pub record Sayable (s : Scene) : Type 0 where
@@ -89,9 +90,9 @@ digits-back : (table store digits : List ℕ) (at used : ℕ) → Stands table s
 unfolding digitsLine recordsFrom cut
 digits-back table store digits at used s =
     let head = s .before ++ (used ∷ length digits ∷ []) in
-    let n : tableEntry table (at + 1) ≡ length digits = row-entry table store {l = digitsLine digits} 0 (zero-lt-suc (length digits)) s in
+    let n : tableEntry table (at + 1) ≡ length digits = record-entry table store {l = digitsLine digits} 0 (zero-lt-suc (length digits)) s in
     let e : table ≡ head ++ (digits ++ s .after) =
-    s .rows
+    s .records
     ∙ (ap (λ (r : List ℕ). s .before ++ (r ++ s .after)) (append-nil (used ∷ length digits ∷ digits))
     ∙ sym (append-assoc (s .before) (used ∷ length digits ∷ []) (digits ++ s .after))) in
     let l : length head ≡ at + 2 = rw (length-append, s .place) in
@@ -104,7 +105,7 @@ counts-long s = refl
 
 -- one list of lines behind another: how many entries
 both-long : (used : ℕ) (ls ms : List Line) (n m : ℕ) → length (recordsFrom used ls) ≡ n → length (recordsFrom (used + total ls) ms) ≡ m → length (recordsFrom used (ls ++ ms)) ≡ n + m
-both-long used ls ms n m p q = rw (rows-append used ls ms, length-append, p, q)
+both-long used ls ms n m p q = rw (records-append used ls ms, length-append, p, q)
 
 digits-wide : (digits : List ℕ) (used : ℕ) → length (recordsFrom used (digitsLine digits ∷ [])) ≡ 2 + length digits
 unfolding recordsFrom digitsLine
@@ -119,12 +120,12 @@ numbers-long s =
     ∙ rw (
       counts-long s,
       lines-by-kind s,
-      both-long 0 (bytesLine (s .script) ∷ []) (hashLine (s .transaction) ∷ fromInputs s) 2 _ (rows-long bytesLine 2 bytes-wide (s .script ∷ []) 0)
+      both-long 0 (bytesLine (s .script) ∷ []) (hashLine (s .transaction) ∷ fromInputs s) 2 _ (records-long bytesLine 2 bytes-wide (s .script ∷ []) 0)
           (both-long _ (hashLine (s .transaction) ∷ []) (fromInputs s) 1 _ (hash-wide (s .transaction) _)
-          (both-long _ (map inputLine (s .inputs)) (fromOutputs s) (6 * length (s .inputs)) _ (rows-long inputLine 6 input-wide (s .inputs) _)
-          (both-long _ (map cellLine (s .outputs)) (fromDeps s) (3 * length (s .outputs)) _ (rows-long cellLine 3 cell-wide (s .outputs) _)
-          (both-long _ (map cellLine (s .deps)) (fromWitnesses s) (3 * length (s .deps)) _ (rows-long cellLine 3 cell-wide (s .deps) _)
-          (both-long _ (map bytesLine (s .witnesses)) (digitsLine (s .digits) ∷ []) (2 * length (s .witnesses)) _ (rows-long bytesLine 2 bytes-wide (s .witnesses) _)
+          (both-long _ (map inputLine (s .inputs)) (fromOutputs s) (6 * length (s .inputs)) _ (records-long inputLine 6 input-wide (s .inputs) _)
+          (both-long _ (map cellLine (s .outputs)) (fromDeps s) (3 * length (s .outputs)) _ (records-long cellLine 3 cell-wide (s .outputs) _)
+          (both-long _ (map cellLine (s .deps)) (fromWitnesses s) (3 * length (s .deps)) _ (records-long cellLine 3 cell-wide (s .deps) _)
+          (both-long _ (map bytesLine (s .witnesses)) (digitsLine (s .digits) ∷ []) (2 * length (s .witnesses)) _ (records-long bytesLine 2 bytes-wide (s .witnesses) _)
           (digits-wide (s .digits) _)))))),
     )
 
@@ -134,18 +135,18 @@ numbers-few s h = let ok = sayable s h in omega (arith, numbers-long s, ok)
 
 module _ (s : Scene) (m : ℕ) where
   -- the counts in the table
-  counts : (tableEntry (sceneTable s m) 3 ≡ length (s .inputs)) × (tableEntry (sceneTable s m) 4 ≡ length (s .outputs)) × (tableEntry (sceneTable s m) 5 ≡ length (s .deps)) × (tableEntry (sceneTable s m) 6 ≡ length (s .witnesses))
-  unfolding tableEntry sceneTable padded sceneNumbers countsOf
+  counts : (inputCount (sceneTable s m) ≡ length (s .inputs)) × (outputCount (sceneTable s m) ≡ length (s .outputs)) × (depCount (sceneTable s m) ≡ length (s .deps)) × (witnessCount (sceneTable s m) ≡ length (s .witnesses))
+  unfolding tableEntry sceneTable zeroPadded sceneNumbers countsOf
   counts = (refl, refl, refl, refl)
 
   all-stand : Stands (sceneTable s m) (sceneBytes s) 8 0 (bytesLine (s .script) ∷ hashLine (s .transaction) ∷ fromInputs s)
-  unfolding sceneTable padded sceneNumbers sceneBytes bytesOf
+  unfolding sceneTable zeroPadded sceneNumbers sceneBytes bytesOf
   all-stand = record {
     before = countsOf s;
     after = replicate (m - length (sceneNumbers s)) 0;
     front = [];
     back = [];
-    rows = ap (λ (ls : List Line). (countsOf s ++ recordsFrom 0 ls) ++ replicate (m - length (sceneNumbers s)) 0) (lines-by-kind s) ∙ append-assoc (countsOf s) _ _;
+    records = ap (λ (ls : List Line). (countsOf s ++ recordsFrom 0 ls) ++ replicate (m - length (sceneNumbers s)) 0) (lines-by-kind s) ∙ append-assoc (countsOf s) _ _;
     place = counts-long s;
     bytes = ap bytesOf (lines-by-kind s) ∙ sym (append-nil _);
     start = refl;
@@ -168,7 +169,7 @@ module _ (s : Scene) (m : ℕ) where
   unfolding verdictsAt
   verdicts-place = rw (witnesses-place, counts .3)
 
-  module _ (from : ℕ → ℕ → List ℕ) (g : List ℕ → List ℕ) (gives : Gives from g (sceneBytes s)) (ok : Sayable s) where
+  module _ (from : Place → List ℕ) (g : List ℕ → List ℕ) (gives : Gives from g (sceneBytes s)) (ok : Sayable s) where
     T : List ℕ
     T = sceneTable s m
 
@@ -177,7 +178,7 @@ module _ (s : Scene) (m : ℕ) where
 
     -- a scene's table read back
     pub scene-back : sceneFrom from (sceneTable s m) ≡ sceneWith g s
-    unfolding sceneFrom sceneWith fromInputs fromOutputs fromDeps fromWitnesses inputsAt T B
+    unfolding sceneFrom scriptPlace transactionPlace bytesPlace sceneWith fromInputs fromOutputs fromDeps fromWitnesses inputsAt digitCount T B
     scene-back =
         let i = s .inputs in
         let o = s .outputs in
@@ -185,12 +186,12 @@ module _ (s : Scene) (m : ℕ) where
         let w = s .witnesses in
         let script = bytesLine (s .script) ∷ [] in
         let hash = hashLine (s .transaction) ∷ [] in
-        let behind = stands-right T B script (hash ++ fromInputs s) 2 (rows-long bytesLine 2 bytes-wide (s .script ∷ []) 0) all-stand in
+        let behind = stands-right T B script (hash ++ fromInputs s) 2 (records-long bytesLine 2 bytes-wide (s .script ∷ []) 0) all-stand in
         let inputs = stands-right T B hash (fromInputs s) 1 (hash-wide (s .transaction) _) behind in
-        let outputs = stands-right T B (map inputLine i) (fromOutputs s) (6 * length i) (rows-long inputLine 6 input-wide i _) inputs in
-        let deps = stands-right T B (map cellLine o) (fromDeps s) (3 * length o) (rows-long cellLine 3 cell-wide o _) outputs in
-        let witnesses = stands-right T B (map cellLine d) (fromWitnesses s) (3 * length d) (rows-long cellLine 3 cell-wide d _) deps in
-        let verdicts = stands-right T B (map bytesLine w) (digitsLine (s .digits) ∷ []) (2 * length w) (rows-long bytesLine 2 bytes-wide w _) witnesses in
+        let outputs = stands-right T B (map inputLine i) (fromOutputs s) (6 * length i) (records-long inputLine 6 input-wide i _) inputs in
+        let deps = stands-right T B (map cellLine o) (fromDeps s) (3 * length o) (records-long cellLine 3 cell-wide o _) outputs in
+        let witnesses = stands-right T B (map cellLine d) (fromWitnesses s) (3 * length d) (records-long cellLine 3 cell-wide d _) deps in
+        let verdicts = stands-right T B (map bytesLine w) (digitsLine (s .digits) ∷ []) (2 * length w) (records-long bytesLine 2 bytes-wide w _) witnesses in
         rw (
           counts .0,
           counts .1,
@@ -202,9 +203,9 @@ module _ (s : Scene) (m : ℕ) where
           verdicts-place,
           bytes-back from g T B gives (s .script) 8 0 (ok .script) (stands-left T B script (hash ++ fromInputs s) all-stand),
           hash-back from g T B gives (s .transaction) 10 _ (ok .transaction) (stands-left T B hash (fromInputs s) behind),
-          rows-back inputLine 6 input-wide T B (inputFrom from T) (inputWith g) inputOk (input-back from g T B gives) i 11 _ (ok .inputs) (stands-left T B (map inputLine i) (fromOutputs s) inputs),
-          rows-back cellLine 3 cell-wide T B (cellRecordFrom from T) (cellWith g) cellOk (row-back from g T B gives) o _ _ (ok .outputs) (stands-left T B (map cellLine o) (fromDeps s) outputs),
-          rows-back cellLine 3 cell-wide T B (cellRecordFrom from T) (cellWith g) cellOk (row-back from g T B gives) d _ _ (ok .deps) (stands-left T B (map cellLine d) (fromWitnesses s) deps),
-          rows-back bytesLine 2 bytes-wide T B (bytesFrom from T) g bytesOk (bytes-back from g T B gives) w _ _ (ok .witnesses) (stands-left T B (map bytesLine w) (digitsLine (s .digits) ∷ []) witnesses),
+          records-back inputLine 6 input-wide T B (inputFrom from T) (inputWith g) inputOk (input-back from g T B gives) i 11 _ (ok .inputs) (stands-left T B (map inputLine i) (fromOutputs s) inputs),
+          records-back cellLine 3 cell-wide T B (cellRecordFrom from T) (cellWith g) cellOk (record-back from g T B gives) o _ _ (ok .outputs) (stands-left T B (map cellLine o) (fromDeps s) outputs),
+          records-back cellLine 3 cell-wide T B (cellRecordFrom from T) (cellWith g) cellOk (record-back from g T B gives) d _ _ (ok .deps) (stands-left T B (map cellLine d) (fromWitnesses s) deps),
+          records-back bytesLine 2 bytes-wide T B (bytesFrom from T) g bytesOk (bytes-back from g T B gives) w _ _ (ok .witnesses) (stands-left T B (map bytesLine w) (digitsLine (s .digits) ∷ []) witnesses),
           digits-back T B (s .digits) _ _ verdicts,
         )

@@ -11,7 +11,7 @@ use lib.Seq.{getD-append-add, getD-at}
 use Rattle.octets.specs.Lists.{joined, every}
 use Rattle.scene_table.specs.Scene.{Line, recordsFrom}
 use Rattle.scene_table.specs.Lent.{tableEntry, recordsAt}
-use Rattle.scene_table.proofs.Lines.{total, total-joined, rows-append}
+use Rattle.scene_table.proofs.Lines.{total, total-joined, records-append}
 use Rattle.octets.proofs.Truth.{and-both}
 
 -- the bytes of lines
@@ -29,7 +29,7 @@ pub record Stands (table store : List ℕ) (at used : ℕ) (ls : List Line) : Ty
   pub after : List ℕ
   pub front : List ℕ
   pub back : List ℕ
-  pub rows : table ≡ before ++ (recordsFrom used ls ++ after)
+  pub records : table ≡ before ++ (recordsFrom used ls ++ after)
   pub place : length before ≡ at
   pub bytes : store ≡ front ++ (bytesOf ls ++ back)
   pub start : length front ≡ used
@@ -42,7 +42,7 @@ module _ (table store : List ℕ) where
     after = recordsFrom (used + total ls) ms ++ s .after;
     front = s .front;
     back = bytesOf ms ++ s .back;
-    rows = s .rows ∙ ap (λ (r : List ℕ). s .before ++ r) (ap (λ (r : List ℕ). r ++ s .after) (rows-append used ls ms) ∙ append-assoc (recordsFrom used ls) (recordsFrom (used + total ls) ms) (s .after));
+    records = s .records ∙ ap (λ (r : List ℕ). s .before ++ r) (ap (λ (r : List ℕ). r ++ s .after) (records-append used ls ms) ∙ append-assoc (recordsFrom used ls) (recordsFrom (used + total ls) ms) (s .after));
     place = s .place;
     bytes = s .bytes ∙ ap (λ (r : List ℕ). s .front ++ r) (ap (λ (r : List ℕ). r ++ s .back) (bytes-append ls ms) ∙ append-assoc (bytesOf ls) (bytesOf ms) (s .back));
     start = s .start;
@@ -57,49 +57,49 @@ module _ (table store : List ℕ) where
         after = s .after;
         front = s .front ++ bytesOf ls;
         back = s .back;
-        rows = t .rows ∙ sym (append-assoc (s .before) (recordsFrom used ls) (recordsFrom (used + total ls) ms ++ s .after));
+        records = t .records ∙ sym (append-assoc (s .before) (recordsFrom used ls) (recordsFrom (used + total ls) ms ++ s .after));
         place = rw (length-append, s .place, long);
         bytes = t .bytes ∙ sym (append-assoc (s .front) (bytesOf ls) (bytesOf ms ++ s .back));
         start = rw (length-append, s .start, total-joined ls);
       }
 
   -- the entries of one line's record, and its bytes
-  pub row-first : {at used : ℕ} {l : Line} → Stands table store at used (l ∷ []) → tableEntry table at ≡ used
+  pub record-first : {at used : ℕ} {l : Line} → Stands table store at used (l ∷ []) → tableEntry table at ≡ used
   unfolding tableEntry recordsFrom
-  row-first {at} {used} {l} s = ap (λ (r : List ℕ). getD r at 0) (s .rows) ∙ getD-at (s .before) used _ 0 at (s .place)
+  record-first {at} {used} {l} s = ap (λ (r : List ℕ). getD r at 0) (s .records) ∙ getD-at (s .before) used _ 0 at (s .place)
 
-  pub row-entry : {at used : ℕ} {l : Line} (i : ℕ) → i < length (l .numbers) → Stands table store at used (l ∷ []) → tableEntry table (at + suc i) ≡ getD (l .numbers) i 0
+  pub record-entry : {at used : ℕ} {l : Line} (i : ℕ) → i < length (l .numbers) → Stands table store at used (l ∷ []) → tableEntry table (at + suc i) ≡ getD (l .numbers) i 0
   unfolding tableEntry recordsFrom
-  row-entry {at} {used} {l} i h s =
-      rw (s .rows, ← s .place, getD-append-add (s .before) ((used ∷ l .numbers) ++ [] ++ s .after) (suc i) 0)
+  record-entry {at} {used} {l} i h s =
+      rw (s .records, ← s .place, getD-append-add (s .before) ((used ∷ l .numbers) ++ [] ++ s .after) (suc i) 0)
       (ap (λ (r : List ℕ). getD (r ++ s .after) i 0) (append-nil (l .numbers)) ∙ List·getD-append (l .numbers) (s .after) 0 i h)
 
-  pub row-bytes : {at used : ℕ} {l : Line} (s : Stands table store at used (l ∷ [])) → store ≡ s .front ++ (l .bytes ++ s .back)
+  pub record-bytes : {at used : ℕ} {l : Line} (s : Stands table store at used (l ∷ [])) → store ≡ s .front ++ (l .bytes ++ s .back)
   unfolding bytesOf joined
-  row-bytes {at} {used} {l} s = s .bytes ∙ ap (λ (r : List ℕ). s .front ++ (r ++ s .back)) (append-nil (l .bytes))
+  record-bytes {at} {used} {l} s = s .bytes ∙ ap (λ (r : List ℕ). s .front ++ (r ++ s .back)) (append-nil (l .bytes))
 
 module _ {A : Type 0} (line : A → Line) (w : ℕ) (wide : (x : A) → suc (length (line x .numbers)) ≡ w) where
   -- how many entries records of one kind have
-  pub rows-long : (xs : List A) (used : ℕ) → length (recordsFrom used (map line xs)) ≡ w * length xs
+  pub records-long : (xs : List A) (used : ℕ) → length (recordsFrom used (map line xs)) ≡ w * length xs
   unfolding recordsFrom
-  rows-long [] used = sym (mul-zero w)
-  rows-long (x ∷ xs) used =
+  records-long [] used = sym (mul-zero w)
+  records-long (x ∷ xs) used =
       let e : suc (length (line x .numbers)) ≡ w = wide x in
-      let r = rows-long xs (used + length (line x .bytes)) in
+      let r = records-long xs (used + length (line x .bytes)) in
       length-append (used ∷ line x .numbers) (recordsFrom (used + length (line x .bytes)) (map line xs)) ∙ rw (e, r, mul-suc) (add-comm w (w * length xs))
 
   -- records of one kind are read back
-  pub rows-back : {B : Type 0} (table store : List ℕ) (read : ℕ → B) (image : A → B) (ok : A → Bool)
+  pub records-back : {B : Type 0} (table store : List ℕ) (read : ℕ → B) (image : A → B) (ok : A → Bool)
       → ((x : A) (at used : ℕ) → ok x ≡ true → Stands table store at used (line x ∷ []) → read at ≡ image x)
       → (xs : List A) (at used : ℕ) → every ok xs ≡ true → Stands table store at used (map line xs) → recordsAt read w (length xs) at ≡ map image xs
   unfolding every recordsAt
-  rows-back table store read image ok one [] at used h s = refl
-  rows-back table store read image ok one (x ∷ xs) at used h s =
+  records-back table store read image ok one [] at used h s = refl
+  records-back table store read image ok one (x ∷ xs) at used h s =
       let a = and-both (ok x) (every ok xs) h in
-      let t = stands-right table store (line x ∷ []) (map line xs) w (row-long x used) s in
+      let t = stands-right table store (line x ∷ []) (map line xs) w (record-long x used) s in
       ap₂ (λ (b : _) (bs : List _). b ∷ bs)
       (one x at used (a .0) (stands-left table store (line x ∷ []) (map line xs) s))
-      (rows-back table store read image ok one xs (at + w) (used + total (line x ∷ [])) (a .1) t)
+      (records-back table store read image ok one xs (at + w) (used + total (line x ∷ [])) (a .1) t)
     where
-      row-long : (x : A) (used : ℕ) → length (recordsFrom used (line x ∷ [])) ≡ w
-      row-long x used = rows-long (x ∷ []) used ∙ rw mul-suc (rw mul-zero (omega arith))
+      record-long : (x : A) (used : ℕ) → length (recordsFrom used (line x ∷ [])) ≡ w
+      record-long x used = records-long (x ∷ []) used ∙ rw mul-suc (rw mul-zero (omega arith))

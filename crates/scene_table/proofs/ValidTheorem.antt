@@ -10,12 +10,13 @@ use lib.Dec.{ltb}
 use lib.ListN.{length, replicate, length-append, length-replicate, length-map}
 use Rattle.octets.proofs.Same.{same-eq, eq-same}
 use Rattle.octets.specs.Lists.{every}
-use Rattle.scene_table.specs.Scene.{Cell, Input, Scene, Line, cellBytes, cellLengths, bytesLine, hashLine, inputLine, cellLine, linesOf, sceneBytes, countsOf, recordsFrom, sceneNumbers, padded, sceneTable}
-use Rattle.scene_table.specs.Lent.{cellFrom, blankScene}
+use Rattle.protocol.specs.Limits.{tableMinEntries}
+use Rattle.octets.proofs.Every.{every-map}
+use Rattle.scene_table.specs.Scene.{Cell, Input, Scene, Line, cellBytes, cellLengths, bytesLine, hashLine, inputLine, cellLine, linesOf, sceneBytes, countsOf, recordsFrom, sceneNumbers, zeroPadded, sceneTable}
+use Rattle.scene_table.specs.Lent.{cellFrom, blankScene, cellFieldPlaces, zerosAt}
 use Rattle.scene_table.specs.Valid.{bytesOk, hashBytesOk, cellOk, inputOk, fewOf, digitsOk, sceneOk, validTable}
-use Rattle.scene_table.proofs.Lines.{total, total-joined, total-append, rows-append}
-use Rattle.octets.proofs.Truth.{and-both, both-and}
-use Rattle.scene_table.proofs.WholeWalk.{blank}
+use Rattle.scene_table.proofs.Lines.{total, total-joined, total-append, records-append}
+use Rattle.octets.proofs.Truth.{and-both}
 use Rattle.scene_table.proofs.BlankScene.{blank-bytes, blank-hash, blank-cell}
 use Rattle.scene_table.proofs.ReadBack.{cellWith, inputWith, sceneWith, hash-long, cell-hashes}
 use Rattle.scene_table.proofs.SceneBack.{Sayable, sayable, scene-back}
@@ -26,21 +27,21 @@ zeroed q = replicate (length q) 0
 
 -- lines of the same records and as many bytes
 record Alike (ls ms : List Line) : Type 0 where
-  rows : (used : ℕ) → recordsFrom used ls ≡ recordsFrom used ms
+  records : (used : ℕ) → recordsFrom used ls ≡ recordsFrom used ms
   long : total ls ≡ total ms
 
 alike-append : (ls ms ls' ms' : List Line) → Alike ls ms → Alike ls' ms' → Alike (ls ++ ls') (ms ++ ms')
 alike-append ls ms ls' ms' a b = record {
-  rows = λ used. rw (rows-append used ls ls', rows-append used ms ms', a .rows used, a .long, b .rows (used + total ms));
+  records = λ used. rw (records-append used ls ls', records-append used ms ms', a .records used, a .long, b .records (used + total ms));
   long = rw (total-append ls ls', total-append ms ms', a .long, b .long);
 }
 
 alike-one : (l m : Line) → l .numbers ≡ m .numbers → length (l .bytes) ≡ length (m .bytes) → Alike (l ∷ []) (m ∷ [])
 unfolding recordsFrom total
-alike-one l m e f = record { rows = λ used. rw e; long = rw f }
+alike-one l m e f = record { records = λ used. rw e; long = rw f }
 
 alike-map : {A : Type 0} (line : A → Line) (f : A → A) → ((x : A) → Alike (line (f x) ∷ []) (line x ∷ [])) → (xs : List A) → Alike (map line (map f xs)) (map line xs)
-alike-map line f one [] = record { rows = λ used. refl; long = refl }
+alike-map line f one [] = record { records = λ used. refl; long = refl }
 alike-map line f one (x ∷ xs) = alike-append (line (f x) ∷ []) (line x ∷ []) (map line (map f xs)) (map line xs) (one x) (alike-map line f one xs)
 
 length-zeroed : (q : List ℕ) → length (zeroed q) ≡ length q
@@ -68,9 +69,9 @@ alike-input i =
     (rw (length-zeroed (i .cell .typeScript), length-zeroed (i .cell .content)))
     (cell-long (i .cell))
 
-hash-row : (hash : List ℕ) → hashLine (zeroed hash) .numbers ≡ hashLine hash .numbers
+hash-record : (hash : List ℕ) → hashLine (zeroed hash) .numbers ≡ hashLine hash .numbers
 unfolding hashLine
-hash-row hash = refl
+hash-record hash = refl
 
 hash-bytes : (hash : List ℕ) → length (hashLine (zeroed hash) .bytes) ≡ length (hashLine hash .bytes)
 unfolding hashLine
@@ -79,7 +80,7 @@ hash-bytes hash = length-zeroed hash
 alike-lines : (s : Scene) → Alike (linesOf (sceneWith zeroed s)) (linesOf s)
 unfolding linesOf sceneWith
 alike-lines s =
-    let hash = alike-one (hashLine (zeroed (s .transaction))) (hashLine (s .transaction)) (hash-row (s .transaction)) (hash-bytes (s .transaction)) in
+    let hash = alike-one (hashLine (zeroed (s .transaction))) (hashLine (s .transaction)) (hash-record (s .transaction)) (hash-bytes (s .transaction)) in
     alike-append _ _ _ _
     (alike-append _ _ _ _
     (alike-append _ _ _ _
@@ -88,7 +89,7 @@ alike-lines s =
     (alike-map cellLine (cellWith zeroed) alike-cell (s .outputs)))
     (alike-map cellLine (cellWith zeroed) alike-cell (s .deps)))
     (alike-map bytesLine zeroed alike-bytes (s .witnesses)))
-    (record { rows = λ used. refl; long = refl })
+    (record { records = λ used. refl; long = refl })
 
 -- so a scene and its zeroed one have the same table and as many bytes
 zeroed-numbers : (s : Scene) → sceneNumbers (sceneWith zeroed s) ≡ sceneNumbers s
@@ -99,27 +100,20 @@ zeroed-numbers s =
       length-map (s .outputs) (cellWith zeroed),
       length-map (s .deps) (cellWith zeroed),
       length-map (s .witnesses) zeroed,
-      alike-lines s .rows 0,
+      alike-lines s .records 0,
     )
 
 zeroed-table : (s : Scene) (m : ℕ) → sceneTable (sceneWith zeroed s) m ≡ sceneTable s m
 unfolding sceneTable
-zeroed-table s m = ap (padded m) (zeroed-numbers s)
+zeroed-table s m = ap (zeroPadded m) (zeroed-numbers s)
 
 zeroed-long : (s : Scene) → length (sceneBytes (sceneWith zeroed s)) ≡ length (sceneBytes s)
 unfolding sceneBytes
 zeroed-long s = total-joined (linesOf (sceneWith zeroed s)) ∙ (alike-lines s .long ∙ sym (total-joined (linesOf s)))
 
 -- and one is a scene that a text can say where the other is
-every-map : {A : Type 0} (p : A → Bool) (f : A → A) → ((x : A) → p x ≡ true → p (f x) ≡ true) → (xs : List A) → every p xs ≡ true → every p (map f xs) ≡ true
-unfolding every
-every-map p f h [] e = refl
-every-map p f h (x ∷ xs) e =
-    let a = and-both (p x) (every p xs) e in
-    both-and (p (f x)) (every p (map f xs)) (h x (a .0)) (every-map p f h xs (a .1))
-
 zeroed-cell : (c : Cell) → cellOk c ≡ true → cellOk (cellWith zeroed c) ≡ true
-unfolding cellFrom cellWith
+unfolding cellFrom cellFieldPlaces cellWith
 zeroed-cell c h =
     let l = cell-hashes c h in
     rw (← l .0, l .1) (blank-cell 0 (length (c .typeScript)) (length (c .content)))
@@ -135,7 +129,7 @@ zeroed-input i h =
 
 few : {A : Type 0} (p : A → Bool) (f : A → A) → ((x : A) → p x ≡ true → p (f x) ≡ true) → (xs : List A) → length xs ≤ 64 → every p xs ≡ true → fewOf p (map f xs) ≡ true
 unfolding fewOf
-few p f h xs l e = rw (length-map xs f, le-leb (length xs) 64 l) (every-map p f h xs e)
+few p f h xs l e = rw (length-map xs f, le-leb (length xs) 64 l) (every-map p p f h xs e)
 
 zeroed-hash : (hash : List ℕ) → hashBytesOk hash ≡ true → hashBytesOk (zeroed hash) ≡ true
 zeroed-hash hash h = rw (hash-long hash h) blank-hash
@@ -157,27 +151,27 @@ zeroed-ok s ok =
 -- a table says the zeroed scene of a scene that leaves it
 blank-scene : (s : Scene) (m : ℕ) → Sayable s → blankScene (sceneTable s m) ≡ sceneWith zeroed s
 unfolding blankScene
-blank-scene s m ok = scene-back s m blank zeroed (λ p q r at n e lp lq. rw lq) ok
+blank-scene s m ok = scene-back s m zerosAt zeroed (λ p q r at n e lp lq. rw lq) ok
 
 -- a table that a scene leaves passes
-pub scene-passes : (table : List ℕ) (n : ℕ) (s : Scene) → 2048 ≤ length table → sceneOk s ≡ true → length (sceneBytes s) ≤ n → table ≡ sceneTable s (length table)
+pub scene-passes : (table : List ℕ) (n : ℕ) (s : Scene) → tableMinEntries ≤ length table → sceneOk s ≡ true → length (sceneBytes s) ≤ n → table ≡ sceneTable s (length table)
     → validTable table n ≡ true
 unfolding validTable
 scene-passes table n s enough ok room e =
     let said : blankScene table ≡ sceneWith zeroed s = ap blankScene e ∙ blank-scene s (length table) (sayable s ok) in
     rw
-    (le-leb 2048 (length table) enough, said, zeroed-ok s (sayable s ok), zeroed-long s, le-leb (length (sceneBytes s)) n room)
+    (le-leb tableMinEntries (length table) enough, said, zeroed-ok s (sayable s ok), zeroed-long s, le-leb (length (sceneBytes s)) n room)
     (eq-same table (sceneTable (sceneWith zeroed s) (length table)) (e ∙ sym (zeroed-table s (length table))))
 
 -- a table that passes is the one of the scene that it says
 pub passes-scene : (table : List ℕ) (n : ℕ) → validTable table n ≡ true
-    → (2048 ≤ length table) × (s : Scene) × (sceneOk s ≡ true) × (length (sceneBytes s) ≤ n) × (table ≡ sceneTable s (length table))
+    → (tableMinEntries ≤ length table) × (s : Scene) × (sceneOk s ≡ true) × (length (sceneBytes s) ≤ n) × (table ≡ sceneTable s (length table))
 unfolding validTable
 passes-scene table n h =
     let a = and-both _ _ h in
     let b = and-both _ _ (a .1) in
     let c = and-both _ _ (b .1) in (
-      leb-true 2048 (length table) (a .0),
+      leb-true tableMinEntries (length table) (a .0),
       blankScene table,
       b .0,
       leb-true (length (sceneBytes (blankScene table))) n (c .0),
@@ -186,5 +180,5 @@ passes-scene table n h =
 
 -- 01, the row for 7: yes exactly for a table that some scene leaves, scene length aside, with a store of n bytes
 pub valid-table : (table : List ℕ) (n : ℕ) → (validTable table n ≡ true)
-    ↔ ((2048 ≤ length table) × (s : Scene) × (sceneOk s ≡ true) × (length (sceneBytes s) ≤ n) × (table ≡ sceneTable s (length table)))
+    ↔ ((tableMinEntries ≤ length table) × (s : Scene) × (sceneOk s ≡ true) × (length (sceneBytes s) ≤ n) × (table ≡ sceneTable s (length table)))
 valid-table table n = (passes-scene table n, λ t. scene-passes table n (t .1) (t .0) (t .2) (t .3) (t .4))

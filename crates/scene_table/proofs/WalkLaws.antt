@@ -1,32 +1,29 @@
--- The walk's laws: its turns, and the turns of the loops over digits and over the entries behind them.
+-- The walk's laws: its turns, and the turns of the loop over digits.
 -- Assumes nothing.
 use mathlib.Core.Path.{_≡_}
 use mathlib.Core.Bool.{Bool, true, _&&_, and-true}
 use mathlib.Core.List.{List}
 use Prim.Native.Nat.{ℕ, suc, _+_, _-_, _≤_, _<_}
-use native.Mathlib.Numerals.{add-one}
 use native.Mathlib.Omega.{arith}
-use lib.ListN.{length, drop, getD, drop-of-length-le}
-use lib.Seq.{drop-cons}
 use Rattle.octets.specs.Lists.{every}
 use Rattle.scene_table.specs.Lent.{recordsAt}
-use Rattle.scene_table.specs.Walk.{need, recordStep, walkRecords}
-use Rattle.scene_table.specs.declared.validity.Walk.{Walk}
-use Rattle.scene_table.proofs.Rows.{rows-end}
+use Rattle.scene_table.specs.RecordsWalk.{required, recordStep, walkRecords}
+use Rattle.scene_table.specs.declared.validity.RecordsWalk.{RecordsWalk}
+use Rattle.scene_table.proofs.Records.{records-end}
 
 -- a test that passes changes nothing
-pub need-true : (k : Walk) → need k true ≡ k
-unfolding need
-need-true k = rw (and-true (k .good))
+pub required-true : (k : RecordsWalk) → required k true ≡ k
+unfolding required
+required-true k = rw (and-true (k .good))
 
 -- a turn of the loop over records
-pub walk-turn : (table : List ℕ) (ok : ℕ → Bool) (size : ℕ → ℕ) (w n at i : ℕ) (k : Walk) → i < n
+pub walk-turn : (table : List ℕ) (ok : ℕ → Bool) (size : ℕ → ℕ) (w n at i : ℕ) (k : RecordsWalk) → i < n
     → walkRecords table ok size w (n - i) at k ≡ walkRecords table ok size w (n - (i + 1)) (at + w) (recordStep table ok size k at)
 unfolding walkRecords
 walk-turn table ok size w n at i k h = let e : n - i ≡ suc (n - (i + 1)) = omega arith in rw e
 
 -- after the last turn nothing is left
-pub walk-end : (table : List ℕ) (ok : ℕ → Bool) (size : ℕ → ℕ) (w n at i : ℕ) (k : Walk) → n ≤ i → walkRecords table ok size w (n - i) at k ≡ k
+pub walk-end : (table : List ℕ) (ok : ℕ → Bool) (size : ℕ → ℕ) (w n at i : ℕ) (k : RecordsWalk) → n ≤ i → walkRecords table ok size w (n - i) at k ≡ k
 unfolding walkRecords
 walk-end table ok size w n at i k h = let e : n - i ≡ 0 = omega arith in rw e
 
@@ -41,13 +38,4 @@ digits-turn p read n at i h =
 
 pub digits-end : (p : ℕ → Bool) (read : ℕ → ℕ) (n at i : ℕ) → n ≤ i → true ≡ every p (recordsAt read 1 (n - i) at)
 unfolding every
-digits-end p read n at i h = rw (rows-end read 1 n at i h)
-
--- a turn of the loop over what is left of a list, and its end
-pub every-turn : (p : ℕ → Bool) (l : List ℕ) (i : ℕ) → i < length l → every p (drop i l) ≡ (p (getD l i 0) && every p (drop (i + 1) l))
-unfolding every
-every-turn p l i h = rw (add-one, drop-cons l i 0 h)
-
-pub every-end : (p : ℕ → Bool) (l : List ℕ) (i : ℕ) → length l ≤ i → true ≡ every p (drop i l)
-unfolding every
-every-end p l i h = rw (drop-of-length-le l h)
+digits-end p read n at i h = rw (records-end read 1 n at i h)

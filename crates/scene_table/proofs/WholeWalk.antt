@@ -8,23 +8,19 @@ use native.Mathlib.Omega.{arith}
 use lib.ListN.{length, replicate, length-append, length-replicate}
 use Rattle.octets.specs.Lists.{every}
 use Rattle.scene_table.specs.Scene.{Line, cellBytes, cellLengths, bytesLine, hashLine, inputLine, cellLine, digitsLine, linesOf}
-use Rattle.scene_table.specs.Lent.{tableEntry, inputsAt, outputsAt, depsAt, witnessesAt, verdictsAt, recordsAt, cellFrom, inputFrom, cellRecordFrom, bytesFrom, sceneFrom, blankScene}
-use Rattle.scene_table.specs.Places.{digitCount}
-use Rattle.scene_table.specs.Walk.{placed, cellSize, recordStep, walkRecords, anyRecord, groupOk, bytesSize, cellRecordSize, inputSize, startWalk, walkHead, walkInputs, walkOutputs, walkDeps, walkWitnesses, walkLines}
-use Rattle.scene_table.specs.declared.validity.Walk.{Walk}
-use Rattle.scene_table.proofs.Rows.{length-rows}
-use Rattle.scene_table.proofs.WalkLaws.{need-true}
+use Rattle.scene_table.specs.Lent.{tableEntry, inputsAt, outputsAt, depsAt, witnessesAt, verdictsAt, recordsAt, cellFrom, inputFrom, cellRecordFrom, bytesFrom, sceneFrom, blankScene, inputCount, witnessCount, outputCount, depCount, digitCount, cellRecordPlaces, cellFieldPlaces, bytesPlace, inputRecordPlaces, scriptPlace, transactionPlace, zerosAt, placeAt}
+use Rattle.scene_table.specs.RecordsWalk.{withRecord, cellSize, recordStep, walkRecords, anyRecord, groupOk, bytesSize, cellRecordSize, inputSize, recordsStart, walkHead, walkInputs, walkOutputs, walkDeps, walkWitnesses, walkLines}
+use Rattle.scene_table.specs.declared.validity.RecordsWalk.{RecordsWalk}
+use Rattle.scene_table.proofs.Records.{length-records}
+use Rattle.scene_table.proofs.WalkLaws.{required-true}
 use Rattle.scene_table.proofs.Lines.{cut, fromInputs, fromOutputs, fromDeps, fromWitnesses, lines-by-kind}
-use Rattle.scene_table.proofs.Segments.{Segment, join, retest, row-segment, rows-segment}
+use Rattle.scene_table.proofs.Segments.{Segment, join, retest, record-segment, records-segment}
 
 -- bytes of a length, all zero
-abbrev pub blank : ℕ → ℕ → List ℕ
-blank at n = replicate n 0
-
-pub map-rows : {A B : Type 0} (f : A → B) (read : ℕ → A) (w n at : ℕ) → map f (recordsAt read w n at) ≡ recordsAt (λ i. f (read i)) w n at
+pub map-records : {A B : Type 0} (f : A → B) (read : ℕ → A) (w n at : ℕ) → map f (recordsAt read w n at) ≡ recordsAt (λ i. f (read i)) w n at
 unfolding recordsAt
-map-rows f read w zero at = refl
-map-rows f read w (suc n) at = rw (map-rows f read w n (at + w))
+map-records f read w zero at = refl
+map-records f read w (suc n) at = rw (map-records f read w n (at + w))
 
 pub every-any : (l : List ℕ) → every anyRecord l ≡ true
 unfolding every anyRecord
@@ -34,24 +30,24 @@ every-any (x ∷ xs) = every-any xs
 length-blank : (n : ℕ) → length {A = ℕ} (replicate n 0) ≡ n
 length-blank n = length-replicate {A = ℕ} n 0
 
-blank-cell : (start script content : ℕ) → length (cellBytes (cellFrom blank start script content)) ≡ cellSize script content
-unfolding cellBytes cellFrom cellSize
+blank-cell : (start script content : ℕ) → length (cellBytes (cellFrom zerosAt (cellFieldPlaces start script content))) ≡ cellSize script content
+unfolding cellBytes cellFrom cellFieldPlaces cellSize
 blank-cell start script content = simp (length-append, length-replicate) (omega arith)
 
 module _ (table : List ℕ) where
   -- the table's own numbers
-  own-bytes : (at : ℕ) → bytesLine (bytesFrom blank table at) .numbers ≡ cut table 1 (at + 1)
-  unfolding bytesLine bytesFrom cut recordsAt
+  own-bytes : (at : ℕ) → bytesLine (bytesFrom zerosAt table at) .numbers ≡ cut table 1 (at + 1)
+  unfolding bytesLine bytesPlace cut recordsAt
   own-bytes at = rw (length-blank (tableEntry table (at + 1)))
 
-  own-cell : (at : ℕ) → cellLine (cellRecordFrom blank table at) .numbers ≡ cut table 2 (at + 1)
-  unfolding cellLine cellLengths cellRecordFrom cellFrom cut recordsAt
+  own-cell : (at : ℕ) → cellLine (cellRecordFrom zerosAt table at) .numbers ≡ cut table 2 (at + 1)
+  unfolding cellLine cellLengths cellRecordPlaces cellFieldPlaces cellFrom cut recordsAt
   own-cell at =
       let two : at + 1 + 1 ≡ at + 2 = omega arith in
       rw (two, length-blank (tableEntry table (at + 1)), length-blank (tableEntry table (at + 2)))
 
-  own-input : ((i : ℕ) → tableEntry table i < 2 ^ 32) → (at : ℕ) → inputLine (inputFrom blank table at) .numbers ≡ cut table 5 (at + 1)
-  unfolding inputLine cellLengths inputFrom cellFrom cut recordsAt
+  own-input : ((i : ℕ) → tableEntry table i < 2 ^ 32) → (at : ℕ) → inputLine (inputFrom zerosAt table at) .numbers ≡ cut table 5 (at + 1)
+  unfolding inputLine cellLengths inputFrom inputRecordPlaces cellFrom cellFieldPlaces cut recordsAt
   own-input small at =
       let two : at + 1 + 1 ≡ at + 2 = omega arith in
       let three : at + 2 + 1 ≡ at + 3 = omega arith in
@@ -69,65 +65,65 @@ module _ (table : List ℕ) where
   unfolding digitsLine cut recordsAt digitCount
   own-digits =
       let two : verdictsAt table + 1 + 1 ≡ verdictsAt table + 2 = omega arith in
-      rw (two, length-rows (tableEntry table) 1 (tableEntry table (verdictsAt table + 1)) (verdictsAt table + 2))
+      rw (two, length-records (tableEntry table) 1 (tableEntry table (verdictsAt table + 1)) (verdictsAt table + 2))
 
   -- one record, and records, without a further test
-  one : (size : ℕ → ℕ) (k : Walk) (at v : ℕ) (l : Line) → length (l .bytes) ≡ size at → l .numbers ≡ cut table v (at + 1)
+  one : (size : ℕ → ℕ) (k : RecordsWalk) (at v : ℕ) (l : Line) → length (l .bytes) ≡ size at → l .numbers ≡ cut table v (at + 1)
       → Segment table (Unit {0}) k at (suc v) (l ∷ []) (recordStep table anyRecord size k at)
   unfolding anyRecord
-  one size k at v l sized own = retest table (λ t. tt) (λ t. refl) (row-segment table anyRecord size k at v l sized own)
+  one size k at v l sized own = retest table (λ t. tt) (λ t. refl) (record-segment table anyRecord size k at v l sized own)
 
-  placed-one : (size : ℕ) (k : Walk) (at v : ℕ) (l : Line) → length (l .bytes) ≡ size → l .numbers ≡ cut table v (at + 1)
-      → Segment table (Unit {0}) k at (suc v) (l ∷ []) (placed k (tableEntry table at) size)
+  record-one : (size : ℕ) (k : RecordsWalk) (at v : ℕ) (l : Line) → length (l .bytes) ≡ size → l .numbers ≡ cut table v (at + 1)
+      → Segment table (Unit {0}) k at (suc v) (l ∷ []) (withRecord k (tableEntry table at) size)
   unfolding recordStep anyRecord
-  placed-one size k at v l sized own = rw (need-true k) at (one (λ i. size) k at v l sized own)
+  record-one size k at v l sized own = rw (required-true k) at (one (λ i. size) k at v l sized own)
 
   many : (size : ℕ → ℕ) (v : ℕ) (line : ℕ → Line) → ((at : ℕ) → length (line at .bytes) ≡ size at) → ((at : ℕ) → line at .numbers ≡ cut table v (at + 1))
-      → (n at : ℕ) (k : Walk) → Segment table (Unit {0}) k at (suc v * n) (recordsAt line (suc v) n at) (walkRecords table anyRecord size (suc v) n at k)
+      → (n at : ℕ) (k : RecordsWalk) → Segment table (Unit {0}) k at (suc v * n) (recordsAt line (suc v) n at) (walkRecords table anyRecord size (suc v) n at k)
   many size v line sized own n at k =
-      retest table (λ t. tt) (λ t. every-any (recordsAt (λ (i : ℕ). i) (suc v) n at)) (rows-segment table anyRecord size v line sized own n at k)
+      retest table (λ t. tt) (λ t. every-any (recordsAt (λ (i : ℕ). i) (suc v) n at)) (records-segment table anyRecord size v line sized own n at k)
 
   -- the lines that the table says, kind by kind
-  inputRows : List Line
-  inputRows = recordsAt (λ i. inputLine (inputFrom blank table i)) 6 (tableEntry table 3) inputsAt
+  inputRecords : List Line
+  inputRecords = recordsAt (λ i. inputLine (inputFrom zerosAt table i)) 6 (inputCount table) inputsAt
 
-  cellRows : ℕ → ℕ → List Line
-  cellRows n at = recordsAt (λ i. cellLine (cellRecordFrom blank table i)) 3 n at
+  cellRecords : ℕ → ℕ → List Line
+  cellRecords n at = recordsAt (λ i. cellLine (cellRecordFrom zerosAt table i)) 3 n at
 
-  witnessRows : List Line
-  witnessRows = recordsAt (λ i. bytesLine (bytesFrom blank table i)) 2 (tableEntry table 6) (witnessesAt table)
+  witnessRecords : List Line
+  witnessRecords = recordsAt (λ i. bytesLine (bytesFrom zerosAt table i)) 2 (witnessCount table) (witnessesAt table)
 
-  digitsRow : Line
-  digitsRow = digitsLine (recordsAt (tableEntry table) 1 (digitCount table) (verdictsAt table + 2))
+  digitsRecord : Line
+  digitsRecord = digitsLine (recordsAt (tableEntry table) 1 (digitCount table) (verdictsAt table + 2))
 
   kinds : List Line
   kinds =
-      (bytesLine (bytesFrom blank table 8) ∷ [])
-      ++ ((hashLine (blank (tableEntry table 10) 32) ∷ [])
-      ++ (inputRows
-      ++ (cellRows (tableEntry table 4) (outputsAt table) ++ (cellRows (tableEntry table 5) (depsAt table) ++ (witnessRows ++ (digitsRow ∷ []))))))
+      (bytesLine (bytesFrom zerosAt table 8) ∷ [])
+      ++ ((hashLine (zerosAt (placeAt (tableEntry table 10) 32)) ∷ [])
+      ++ (inputRecords
+      ++ (cellRecords (outputCount table) (outputsAt table) ++ (cellRecords (depCount table) (depsAt table) ++ (witnessRecords ++ (digitsRecord ∷ []))))))
 
   lines-kinds : linesOf (blankScene table) ≡ kinds
-  unfolding blankScene sceneFrom digitCount inputRows cellRows witnessRows digitsRow kinds fromInputs fromOutputs fromDeps fromWitnesses
+  unfolding blankScene sceneFrom scriptPlace transactionPlace bytesPlace digitCount inputRecords cellRecords witnessRecords digitsRecord kinds fromInputs fromOutputs fromDeps fromWitnesses
   lines-kinds =
       lines-by-kind (blankScene table)
       ∙ rw (
-        map-rows inputLine (inputFrom blank table) 6 (tableEntry table 3) inputsAt,
-        map-rows cellLine (cellRecordFrom blank table) 3 (tableEntry table 4) (outputsAt table),
-        map-rows cellLine (cellRecordFrom blank table) 3 (tableEntry table 5) (depsAt table),
-        map-rows bytesLine (bytesFrom blank table) 2 (tableEntry table 6) (witnessesAt table),
+        map-records inputLine (inputFrom zerosAt table) 6 (inputCount table) inputsAt,
+        map-records cellLine (cellRecordFrom zerosAt table) 3 (outputCount table) (outputsAt table),
+        map-records cellLine (cellRecordFrom zerosAt table) 3 (depCount table) (depsAt table),
+        map-records bytesLine (bytesFrom zerosAt table) 2 (witnessCount table) (witnessesAt table),
       )
 
   -- how many entries they have
   unfoldable pub span : ℕ
-  span = 2 + (1 + (6 * tableEntry table 3 + (3 * tableEntry table 4 + (3 * tableEntry table 5 + (2 * tableEntry table 6 + suc (suc (digitCount table)))))))
+  span = 2 + (1 + (6 * inputCount table + (3 * outputCount table + (3 * depCount table + (2 * witnessCount table + suc (suc (digitCount table)))))))
 
   -- each input's group is 0 or 1
   unfoldable pub Groups : Type 0
-  Groups = every (groupOk table) (recordsAt (λ (i : ℕ). i) 6 (tableEntry table 3) inputsAt) ≡ true
+  Groups = every (groupOk table) (recordsAt (λ (i : ℕ). i) 6 (inputCount table) inputsAt) ≡ true
 
-  pub whole : ((i : ℕ) → tableEntry table i < 2 ^ 32) → Segment table Groups startWalk 8 span (linesOf (blankScene table)) (walkLines table)
-  unfolding walkLines walkWitnesses walkDeps walkOutputs walkInputs walkHead inputsAt outputsAt depsAt witnessesAt verdictsAt inputRows cellRows witnessRows digitsRow kinds span Groups bytesSize cellRecordSize inputSize bytesLine bytesFrom hashLine digitsLine inputLine cellLine inputFrom cellRecordFrom
+  pub whole : ((i : ℕ) → tableEntry table i < 2 ^ 32) → Segment table Groups recordsStart 8 span (linesOf (blankScene table)) (walkLines table)
+  unfolding walkLines walkWitnesses walkDeps walkOutputs walkInputs walkHead inputsAt outputsAt depsAt witnessesAt verdictsAt inputRecords cellRecords witnessRecords digitsRecord kinds span Groups bytesSize cellRecordSize inputSize bytesLine bytesPlace hashLine digitsLine inputLine cellLine inputFrom inputRecordPlaces cellRecordPlaces cellFieldPlaces
   whole small =
       rw
       lines-kinds
@@ -137,20 +133,20 @@ module _ (table : List ℕ) where
       (λ g. (tt, (tt, (g, (tt, (tt, (tt, tt)))))))
       (join
       table
-      (one (bytesSize table) startWalk 8 1 (bytesLine (bytesFrom blank table 8)) (length-blank (tableEntry table 9)) (own-bytes 8))
+      (one (bytesSize table) recordsStart 8 1 (bytesLine (bytesFrom zerosAt table 8)) (length-blank (tableEntry table 9)) (own-bytes 8))
       (join
       table
-      (placed-one 32 (recordStep table anyRecord (bytesSize table) startWalk 8) 10 0 (hashLine (blank (tableEntry table 10) 32)) refl (own-hash (blank (tableEntry table 10) 32)))
+      (record-one 32 (recordStep table anyRecord (bytesSize table) recordsStart 8) 10 0 (hashLine (zerosAt (placeAt (tableEntry table 10) 32))) refl (own-hash (zerosAt (placeAt (tableEntry table 10) 32))))
       (join
       table
-      (rows-segment table (groupOk table) (inputSize table) 5 (λ i. inputLine (inputFrom blank table i)) (λ i. blank-cell (tableEntry table i) (tableEntry table (i + 4)) (tableEntry table (i + 5))) (own-input small) (tableEntry table 3) inputsAt (walkHead table))
+      (records-segment table (groupOk table) (inputSize table) 5 (λ i. inputLine (inputFrom zerosAt table i)) (λ i. blank-cell (tableEntry table i) (tableEntry table (i + 4)) (tableEntry table (i + 5))) (own-input small) (inputCount table) inputsAt (walkHead table))
       (join
       table
-      (many (cellRecordSize table) 2 (λ i. cellLine (cellRecordFrom blank table i)) (λ i. blank-cell (tableEntry table i) (tableEntry table (i + 1)) (tableEntry table (i + 2))) own-cell (tableEntry table 4) (outputsAt table) (walkInputs table))
+      (many (cellRecordSize table) 2 (λ i. cellLine (cellRecordFrom zerosAt table i)) (λ i. blank-cell (tableEntry table i) (tableEntry table (i + 1)) (tableEntry table (i + 2))) own-cell (outputCount table) (outputsAt table) (walkInputs table))
       (join
       table
-      (many (cellRecordSize table) 2 (λ i. cellLine (cellRecordFrom blank table i)) (λ i. blank-cell (tableEntry table i) (tableEntry table (i + 1)) (tableEntry table (i + 2))) own-cell (tableEntry table 5) (depsAt table) (walkOutputs table))
+      (many (cellRecordSize table) 2 (λ i. cellLine (cellRecordFrom zerosAt table i)) (λ i. blank-cell (tableEntry table i) (tableEntry table (i + 1)) (tableEntry table (i + 2))) own-cell (depCount table) (depsAt table) (walkOutputs table))
       (join
       table
-      (many (bytesSize table) 1 (λ i. bytesLine (bytesFrom blank table i)) (λ i. length-blank (tableEntry table (i + 1))) own-bytes (tableEntry table 6) (witnessesAt table) (walkDeps table))
-      (placed-one 0 (walkWitnesses table) (verdictsAt table) (suc (digitCount table)) (digitsLine (recordsAt (tableEntry table) 1 (digitCount table) (verdictsAt table + 2))) refl own-digits))))))))
+      (many (bytesSize table) 1 (λ i. bytesLine (bytesFrom zerosAt table i)) (λ i. length-blank (tableEntry table (i + 1))) own-bytes (witnessCount table) (witnessesAt table) (walkDeps table))
+      (record-one 0 (walkWitnesses table) (verdictsAt table) (suc (digitCount table)) (digitsLine (recordsAt (tableEntry table) 1 (digitCount table) (verdictsAt table + 2))) refl own-digits))))))))

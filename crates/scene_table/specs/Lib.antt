@@ -2,4 +2,4 @@ pub mod Scene
 pub mod Lent
 pub mod Valid
 pub mod Places
-pub mod Walk
+pub mod RecordsWalk

@@ -1,5 +1,5 @@
 -- What the lock reads from a table: numbers, and places of bytes in the store.
-use Prim.Native.Nat.{ℕ, _+_, _*_, _^_}
+use Prim.Native.Nat.{ℕ, _+_, _*_}
 use mathlib.Core.Bool.{Bool}
 use mathlib.Core.List.{List}
 use lib.ListN.{getD}
@@ -7,62 +7,32 @@ use lib.Dec.{eqb}
 use Rattle.octets.specs.declared.place.Place.{Place}
 use Rattle.octets.specs.Places.{bytesAt}
 use Rattle.scene_table.specs.Scene.{Cell}
-use Rattle.scene_table.specs.Lent.{tableEntry, inputsAt, outputsAt, depsAt, witnessesAt, verdictsAt, hashLength, blankScene}
+use Rattle.scene_table.specs.Lent.{inputsAt, outputsAt, depsAt, witnessesAt, inputWidth, cellWidth, bytesWidth, inputRecordGroup, inputRecordSince, blankScene, bytesPlace, cellRecordPlaces, inputRecordPlaces, cellFrom}
 use Rattle.scene_table.specs.declared.places.CellPlaces.{CellPlaces}
-
--- a place of n bytes
-unfoldable pub placeAt : ℕ → ℕ → Place
-placeAt start n = record { start = start; len = n }
-
--- the fields of a cell, by where its bytes begin and the lengths of its type script and its data
-unfoldable pub cellFieldPlaces : ℕ → ℕ → ℕ → CellPlaces
-cellFieldPlaces start script content = record {
-  «type_hash» = placeAt start (hashLength script);
-  «data_hash» = placeAt (start + hashLength script) 32;
-  «type_script» = placeAt (start + hashLength script + 32) script;
-  content = placeAt (start + hashLength script + 32 + script) content;
-}
-
--- the bytes of a record of a place and a length
-unfoldable pub bytesPlace : List ℕ → ℕ → Place
-bytesPlace table at = placeAt (tableEntry table at) (tableEntry table (at + 1))
-
--- the cell of an output's or a dep's record
-unfoldable pub recordPlaces : List ℕ → ℕ → CellPlaces
-recordPlaces table at = cellFieldPlaces (tableEntry table at) (tableEntry table (at + 1)) (tableEntry table (at + 2))
-
-unfoldable pub scriptPlace : List ℕ → Place
-scriptPlace table = bytesPlace table 8
-
-unfoldable pub transactionPlace : List ℕ → Place
-transactionPlace table = placeAt (tableEntry table 10) 32
-
-unfoldable pub digitCount : List ℕ → ℕ
-digitCount table = tableEntry table (verdictsAt table + 1)
 
 -- where the record of input i begins
 unfoldable pub inputAt : ℕ → ℕ
-inputAt i = inputsAt + 6 * i
+inputAt i = inputsAt + inputWidth * i
 
 -- "GROUP is 1 where the input runs this lock"
 unfoldable pub inputGroup : List ℕ → ℕ → Bool
-inputGroup table i = eqb (tableEntry table (inputAt i + 1)) 1
+inputGroup table i = eqb (inputRecordGroup table (inputAt i)) 1
 
 unfoldable pub inputSince : List ℕ → ℕ → ℕ
-inputSince table i = tableEntry table (inputAt i + 2) + 2 ^ 32 * tableEntry table (inputAt i + 3)
+inputSince table i = inputRecordSince table (inputAt i)
 
 unfoldable pub inputPlaces : List ℕ → ℕ → CellPlaces
-inputPlaces table i = cellFieldPlaces (tableEntry table (inputAt i)) (tableEntry table (inputAt i + 4)) (tableEntry table (inputAt i + 5))
+inputPlaces table i = inputRecordPlaces table (inputAt i)
 
 unfoldable pub outputPlaces : List ℕ → ℕ → CellPlaces
-outputPlaces table i = recordPlaces table (outputsAt table + 3 * i)
+outputPlaces table i = cellRecordPlaces table (outputsAt table + cellWidth * i)
 
 unfoldable pub depPlaces : List ℕ → ℕ → CellPlaces
-depPlaces table i = recordPlaces table (depsAt table + 3 * i)
+depPlaces table i = cellRecordPlaces table (depsAt table + cellWidth * i)
 
 -- "witness i belongs to input i"
 unfoldable pub witnessPlace : List ℕ → ℕ → Place
-witnessPlace table i = bytesPlace table (witnessesAt table + 2 * i)
+witnessPlace table i = bytesPlace table (witnessesAt table + bytesWidth * i)
 
 -- "a proof without a digit counts as 2"
 unfoldable pub verdictAt : List ℕ → ℕ → ℕ
@@ -72,10 +42,5 @@ unfoldable pub verdictOf : List ℕ → ℕ → ℕ
 verdictOf table i = verdictAt (blankScene table .digits) i
 
 -- the cell at its places in the store
-unfoldable pub cellIn : List ℕ → CellPlaces → Cell
-cellIn store p = record {
-  typeHash = bytesAt store (p .«type_hash»);
-  dataHash = bytesAt store (p .«data_hash»);
-  typeScript = bytesAt store (p .«type_script»);
-  content = bytesAt store (p .content);
-}
+abbrev pub cellIn : List ℕ → CellPlaces → Cell
+cellIn store p = cellFrom (bytesAt store) p

@@ -1,10 +1,11 @@
 -- 01, the row for 7: "a table that the reader, scene length aside, leaves for no accepted scene with a store this long".
 use Prim.Native.Nat.{ℕ, _^_}
-use mathlib.Core.Bool.{Bool, true, cond, _&&_}
-use mathlib.Core.List.{List, [], _∷_}
+use mathlib.Core.Bool.{Bool, cond, _&&_}
+use mathlib.Core.List.{List}
 use lib.ListN.{length}
 use lib.Dec.{leb, ltb, eqb}
 use Rattle.octets.specs.Lists.{same, every}
+use Rattle.protocol.specs.Limits.{tableMinEntries, kindMaxLines, digitsMaxCount}
 use Rattle.scene_table.specs.Scene.{Cell, Input, Scene, sceneBytes, sceneTable}
 use Rattle.scene_table.specs.Lent.{blankScene}
 
@@ -26,11 +27,11 @@ inputOk i = ltb (i .group) 2 && (ltb (i .since) (2 ^ 64) && cellOk (i .cell))
 
 -- "Script, tx and verdicts stand once; each other kind 0 to 64 times."
 unfoldable pub fewOf : {A : Type 0} → (A → Bool) → List A → Bool
-fewOf p xs = leb (length xs) 64 && every p xs
+fewOf p xs = leb (length xs) kindMaxLines && every p xs
 
 -- "DIGITS is up to 16 of 0 approved, 1 refused, 2 failed"
 unfoldable pub digitsOk : List ℕ → Bool
-digitsOk digits = leb (length digits) 16 && every (λ (d : ℕ). ltb d 3) digits
+digitsOk digits = leb (length digits) digitsMaxCount && every (λ (d : ℕ). ltb d 3) digits
 
 -- the scenes that a text can say
 unfoldable pub sceneOk : Scene → Bool
@@ -43,6 +44,6 @@ sceneOk s =
 -- a table of at least 2,048 entries that is the table of the scene which it says, whose bytes a store of n bytes holds
 unfoldable pub validTable : List ℕ → ℕ → Bool
 validTable table n =
-    leb 2048 (length table)
+    leb tableMinEntries (length table)
     && (sceneOk (blankScene table)
     && (leb (length (sceneBytes (blankScene table))) n && same table (sceneTable (blankScene table) (length table))))

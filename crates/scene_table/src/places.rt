@@ -2,8 +2,22 @@
 use octets::Place;
 ghost use mathlib.Core.Path.{_≡_};
 ghost use Prim.Native.Nat.{_≤_, _<_, _^_};
-ghost use Rattle.scene_table.specs.Lent.{tableEntry, outputsAt, depsAt, witnessesAt, verdictsAt, hashLength};
-ghost use Rattle.scene_table.specs.Places.{cellFieldPlaces, bytesPlace, recordPlaces, scriptPlace, transactionPlace, digitCount, inputGroup, inputSince, inputPlaces, outputPlaces, depPlaces, witnessPlace, verdictOf};
+ghost use Rattle.scene_table.specs.Lent.{tableEntry, outputsAt, depsAt, witnessesAt, verdictsAt, hashLength, digitCount, inputCount, outputCount, depCount, witnessCount, cellFieldPlaces, bytesPlace, cellRecordPlaces, scriptPlace, transactionPlace};
+ghost use Rattle.scene_table.specs.Places.{inputGroup, inputSince, inputPlaces, outputPlaces, depPlaces, witnessPlace, verdictOf};
+
+// How many entries the record of an input has, that of an output or a dep, and that of a witness.
+pub(crate) const INPUT_WIDTH: usize = 6;
+
+pub(crate) const CELL_WIDTH: usize = 3;
+
+pub(crate) const BYTES_WIDTH: usize = 2;
+
+// Where the records of the script, of tx and of the inputs begin.
+pub(crate) const SCRIPT_AT: usize = 8;
+
+pub(crate) const TRANSACTION_AT: usize = 10;
+
+pub(crate) const INPUTS_AT: usize = 11;
 
 // The places of a cell's fields. A cell without a type script has nothing at the first and the third.
 pub struct CellPlaces {
@@ -24,28 +38,28 @@ pub(crate) fn outputs_at(table: &[u32]) -> usize
     ensures { λ r. ⌜ r ≡ outputsAt (now (table .entry)) ⌝ }
     ensures { λ r. ⌜ r < 2 ^ 36 ⌝ }
 {
-    11 + 6 * table_entry(table, 3) as usize
+    INPUTS_AT + INPUT_WIDTH * input_count(table) as usize
 }
 
 pub(crate) fn deps_at(table: &[u32]) -> usize
     ensures { λ r. ⌜ r ≡ depsAt (now (table .entry)) ⌝ }
     ensures { λ r. ⌜ r < 2 ^ 37 ⌝ }
 {
-    outputs_at(table) + 3 * table_entry(table, 4) as usize
+    outputs_at(table) + CELL_WIDTH * output_count(table) as usize
 }
 
 pub(crate) fn witnesses_at(table: &[u32]) -> usize
     ensures { λ r. ⌜ r ≡ witnessesAt (now (table .entry)) ⌝ }
     ensures { λ r. ⌜ r < 2 ^ 38 ⌝ }
 {
-    deps_at(table) + 3 * table_entry(table, 5) as usize
+    deps_at(table) + CELL_WIDTH * dep_count(table) as usize
 }
 
 pub(crate) fn verdicts_at(table: &[u32]) -> usize
     ensures { λ r. ⌜ r ≡ verdictsAt (now (table .entry)) ⌝ }
     ensures { λ r. ⌜ r < 2 ^ 39 ⌝ }
 {
-    witnesses_at(table) + 2 * table_entry(table, 6) as usize
+    witnesses_at(table) + BYTES_WIDTH * witness_count(table) as usize
 }
 
 // How many bytes the type hash has beside a type script of this length.
@@ -97,7 +111,7 @@ fn bytes_place(table: &[u32], at: usize) -> Place
 // The places of the output or the dep whose record begins at `at`.
 fn record_places(table: &[u32], at: usize) -> CellPlaces
     requires { ⌜ at < 2 ^ 40 ⌝ }
-    ensures { λ r. ⌜ r ≡ recordPlaces (now (table .entry)) at ⌝ }
+    ensures { λ r. ⌜ r ≡ cellRecordPlaces (now (table .entry)) at ⌝ }
 {
     cell_places(
         table_entry(table, at),
@@ -109,38 +123,38 @@ fn record_places(table: &[u32], at: usize) -> CellPlaces
 pub fn script(table: &[u32]) -> Place
     ensures { λ r. ⌜ r ≡ scriptPlace (now (table .entry)) ⌝ }
 {
-    bytes_place(table, 8)
+    bytes_place(table, SCRIPT_AT)
 }
 
 pub fn transaction_hash(table: &[u32]) -> Place
     ensures { λ r. ⌜ r ≡ transactionPlace (now (table .entry)) ⌝ }
 {
     Place {
-        start: table_entry(table, 10) as usize,
+        start: table_entry(table, TRANSACTION_AT) as usize,
         len: 32,
     }
 }
 
 pub fn input_count(table: &[u32]) -> u32
-    ensures { λ r. ⌜ r ≡ tableEntry (now (table .entry)) 3 ⌝ }
+    ensures { λ r. ⌜ r ≡ inputCount (now (table .entry)) ⌝ }
 {
     table_entry(table, 3)
 }
 
 pub fn output_count(table: &[u32]) -> u32
-    ensures { λ r. ⌜ r ≡ tableEntry (now (table .entry)) 4 ⌝ }
+    ensures { λ r. ⌜ r ≡ outputCount (now (table .entry)) ⌝ }
 {
     table_entry(table, 4)
 }
 
 pub fn dep_count(table: &[u32]) -> u32
-    ensures { λ r. ⌜ r ≡ tableEntry (now (table .entry)) 5 ⌝ }
+    ensures { λ r. ⌜ r ≡ depCount (now (table .entry)) ⌝ }
 {
     table_entry(table, 5)
 }
 
 pub fn witness_count(table: &[u32]) -> u32
-    ensures { λ r. ⌜ r ≡ tableEntry (now (table .entry)) 6 ⌝ }
+    ensures { λ r. ⌜ r ≡ witnessCount (now (table .entry)) ⌝ }
 {
     table_entry(table, 6)
 }
@@ -155,20 +169,20 @@ pub fn digit_count(table: &[u32]) -> u32
 pub fn input_group(table: &[u32], i: u32) -> bool
     ensures { λ r. ⌜ r ≡ inputGroup (now (table .entry)) i ⌝ }
 {
-    table_entry(table, 11 + 6 * i as usize + 1) == 1
+    table_entry(table, INPUTS_AT + INPUT_WIDTH * i as usize + 1) == 1
 }
 
 pub fn input_since(table: &[u32], i: u32) -> u64
     ensures { λ r. ⌜ r ≡ inputSince (now (table .entry)) i ⌝ }
 {
-    let at = 11 + 6 * i as usize;
+    let at = INPUTS_AT + INPUT_WIDTH * i as usize;
     table_entry(table, at + 2) as u64 + 4294967296 * table_entry(table, at + 3) as u64
 }
 
 pub fn input_cell(table: &[u32], i: u32) -> CellPlaces
     ensures { λ r. ⌜ r ≡ inputPlaces (now (table .entry)) i ⌝ }
 {
-    let at = 11 + 6 * i as usize;
+    let at = INPUTS_AT + INPUT_WIDTH * i as usize;
     cell_places(
         table_entry(table, at),
         table_entry(table, at + 4),
@@ -179,19 +193,19 @@ pub fn input_cell(table: &[u32], i: u32) -> CellPlaces
 pub fn output_cell(table: &[u32], i: u32) -> CellPlaces
     ensures { λ r. ⌜ r ≡ outputPlaces (now (table .entry)) i ⌝ }
 {
-    record_places(table, outputs_at(table) + 3 * i as usize)
+    record_places(table, outputs_at(table) + CELL_WIDTH * i as usize)
 }
 
 pub fn dep_cell(table: &[u32], i: u32) -> CellPlaces
     ensures { λ r. ⌜ r ≡ depPlaces (now (table .entry)) i ⌝ }
 {
-    record_places(table, deps_at(table) + 3 * i as usize)
+    record_places(table, deps_at(table) + CELL_WIDTH * i as usize)
 }
 
 pub fn witness(table: &[u32], i: u32) -> Place
     ensures { λ r. ⌜ r ≡ witnessPlace (now (table .entry)) i ⌝ }
 {
-    bytes_place(table, witnesses_at(table) + 2 * i as usize)
+    bytes_place(table, witnesses_at(table) + BYTES_WIDTH * i as usize)
 }
 
 // The digit of proof `i`; 2 where there is none.

@@ -1,11 +1,24 @@
 // Whether a scene, its length aside, leaves a table: a walk over its records.
+use crate::places::BYTES_WIDTH;
+use crate::places::CELL_WIDTH;
+use crate::places::INPUT_WIDTH;
+use crate::places::INPUTS_AT;
+use crate::places::SCRIPT_AT;
+use crate::places::TRANSACTION_AT;
+use crate::places::dep_count;
 use crate::places::deps_at;
 use crate::places::digit_count;
 use crate::places::hash_length;
+use crate::places::input_count;
+use crate::places::output_count;
 use crate::places::outputs_at;
 use crate::places::table_entry;
 use crate::places::verdicts_at;
+use crate::places::witness_count;
 use crate::places::witnesses_at;
+use protocol::DIGITS_MAX_COUNT;
+use protocol::KIND_MAX_LINES;
+use protocol::TABLE_MIN_ENTRIES;
 ghost use mathlib.Core.Path.{_≡_};
 ghost use Prim.Native.Nat.{_≤_, _<_, _^_};
 ghost use lib.Dec.{ltb, eqb};
@@ -13,23 +26,23 @@ ghost use lib.ListN.{drop};
 ghost use Rattle.octets.specs.Lists.{every};
 ghost use Rattle.scene_table.specs.Lent.{tableEntry, recordsAt};
 ghost use Rattle.scene_table.specs.Valid.{validTable};
-ghost use Rattle.scene_table.specs.Walk.{need, placed, cellSize, recordStep, walkRecords, anyRecord, groupOk, bytesSize, cellRecordSize, inputSize, recordOk, recordSize, recordWidth, countsOk, walkLines, restOk};
+ghost use Rattle.scene_table.specs.RecordsWalk.{required, withRecord, cellSize, recordStep, walkRecords, anyRecord, groupOk, bytesSize, cellRecordSize, inputSize, recordOk, recordSize, recordWidth, countsOk, walkLines, restOk};
 
 // Whether the records so far are good, and where their bytes end.
-pub(crate) struct Walk {
+pub(crate) struct RecordsWalk {
     good: bool,
     used: u64,
 }
 
-impl Walk {
+impl RecordsWalk {
     // One test more.
-    fn require(self, ok: bool) -> Walk
-        ensures { λ r. ⌜ r ≡ need self ok ⌝ }
+    fn require(self, ok: bool) -> RecordsWalk
+        ensures { λ r. ⌜ r ≡ required self ok ⌝ }
     {
         if ok {
             self
         } else {
-            Walk {
+            RecordsWalk {
                 good: false,
                 used: self.used,
             }
@@ -37,12 +50,12 @@ impl Walk {
     }
 
     // A record whose bytes begin at `start`, which must be where the last ones end.
-    fn row(self, start: u32, size: u64) -> Walk
+    fn next_record(self, start: u32, size: u64) -> RecordsWalk
         requires { ⌜ size < 2 ^ 40 ⌝ }
-        ensures { λ r. ⌜ r ≡ placed self start size ⌝ }
+        ensures { λ r. ⌜ r ≡ withRecord self start size ⌝ }
     {
         let begun = self.require(start as u64 == self.used);
-        Walk {
+        RecordsWalk {
             good: begun.good,
             used: start as u64 + size,
         }
@@ -64,28 +77,28 @@ fn cell_size(script: u32, content: u32) -> u64
     hash_length(script) as u64 + 32 + script as u64 + content as u64
 }
 
-fn bytes_record(table: &[u32], at: usize, walk: Walk) -> Walk
+fn bytes_record(table: &[u32], at: usize, walk: RecordsWalk) -> RecordsWalk
     requires { ⌜ at < 2 ^ 40 ⌝ }
     ensures { λ r. ⌜ r ≡ recordStep (now (table .entry)) anyRecord (bytesSize (now (table .entry))) walk at ⌝ }
 {
-    walk.row(table_entry(table, at), table_entry(table, at + 1) as u64)
+    walk.next_record(table_entry(table, at), table_entry(table, at + 1) as u64)
 }
 
-fn cell_record(table: &[u32], at: usize, walk: Walk) -> Walk
+fn cell_record(table: &[u32], at: usize, walk: RecordsWalk) -> RecordsWalk
     requires { ⌜ at < 2 ^ 40 ⌝ }
     ensures { λ r. ⌜ r ≡ recordStep (now (table .entry)) anyRecord (cellRecordSize (now (table .entry))) walk at ⌝ }
 {
-    walk.row(
+    walk.next_record(
         table_entry(table, at),
         cell_size(table_entry(table, at + 1), table_entry(table, at + 2)),
     )
 }
 
-fn input_record(table: &[u32], at: usize, walk: Walk) -> Walk
+fn input_record(table: &[u32], at: usize, walk: RecordsWalk) -> RecordsWalk
     requires { ⌜ at < 2 ^ 40 ⌝ }
     ensures { λ r. ⌜ r ≡ recordStep (now (table .entry)) (groupOk (now (table .entry))) (inputSize (now (table .entry))) walk at ⌝ }
 {
-    walk.require(table_entry(table, at + 1) < 2).row(
+    walk.require(table_entry(table, at + 1) < 2).next_record(
         table_entry(table, at),
         cell_size(table_entry(table, at + 4), table_entry(table, at + 5)),
     )
@@ -97,13 +110,13 @@ fn record_width(form: RecordForm) -> usize
     ensures { λ r. ⌜ r ≤ 6 ⌝ }
 {
     match form {
-        RecordForm::Bytes => 2,
-        RecordForm::Cell => 3,
-        RecordForm::Input => 6,
+        RecordForm::Bytes => BYTES_WIDTH,
+        RecordForm::Cell => CELL_WIDTH,
+        RecordForm::Input => INPUT_WIDTH,
     }
 }
 
-fn record_of(table: &[u32], form: RecordForm, at: usize, walk: Walk) -> Walk
+fn record_of(table: &[u32], form: RecordForm, at: usize, walk: RecordsWalk) -> RecordsWalk
     requires { ⌜ at < 2 ^ 40 ⌝ }
     ensures { λ r. ⌜ r ≡ recordStep (now (table .entry)) (recordOk (now (table .entry)) form) (recordSize (now (table .entry)) form) walk at ⌝ }
 {
@@ -115,9 +128,16 @@ fn record_of(table: &[u32], form: RecordForm, at: usize, walk: Walk) -> Walk
 }
 
 // `n` records of a form, from `first` on.
-fn walk_records(table: &[u32], form: RecordForm, first: usize, n: u32, walk: Walk) -> Walk
+fn walk_records(
+    table: &[u32],
+    form: RecordForm,
+    first: usize,
+    n: u32,
+    walk: RecordsWalk,
+) -> RecordsWalk
     requires { ⌜ first < 2 ^ 38 ⌝ }
-    ensures { λ r. ⌜ r ≡ walkRecords (now (table .entry)) (recordOk (now (table .entry)) form) (recordSize (now (table .entry)) form) (recordWidth form) n first walk ⌝ }
+    ensures { λ r. ⌜ r
+        ≡ walkRecords (now (table .entry)) (recordOk (now (table .entry)) form) (recordSize (now (table .entry)) form) (recordWidth form) n first walk ⌝ }
 {
     let width = record_width(form);
     let mut at = first;
@@ -132,56 +152,65 @@ fn walk_records(table: &[u32], form: RecordForm, first: usize, n: u32, walk: Wal
 }
 
 // All lines of the scene.
-fn walk_lines(table: &[u32]) -> Walk
+fn walk_lines(table: &[u32]) -> RecordsWalk
     ensures { λ r. ⌜ r ≡ walkLines (now (table .entry)) ⌝ }
 {
-    let start = Walk {
+    let start = RecordsWalk {
         good: true,
         used: 0,
     };
-    let head = bytes_record(table, 8, start).row(table_entry(table, 10), 32);
-    let inputs = walk_records(table, RecordForm::Input, 11, table_entry(table, 3), head);
+    let head = bytes_record(table, SCRIPT_AT, start).next_record(
+        table_entry(table, TRANSACTION_AT),
+        32,
+    );
+    let inputs = walk_records(
+        table,
+        RecordForm::Input,
+        INPUTS_AT,
+        input_count(table),
+        head,
+    );
     let outputs = walk_records(
         table,
         RecordForm::Cell,
         outputs_at(table),
-        table_entry(table, 4),
+        output_count(table),
         inputs,
     );
     let deps = walk_records(
         table,
         RecordForm::Cell,
         deps_at(table),
-        table_entry(table, 5),
+        dep_count(table),
         outputs,
     );
     walk_records(
         table,
         RecordForm::Bytes,
         witnesses_at(table),
-        table_entry(table, 6),
+        witness_count(table),
         deps,
-    ).row(table_entry(table, verdicts_at(table)), 0)
+    ).next_record(table_entry(table, verdicts_at(table)), 0)
 }
 
 // Enough entries, and as many lines of each kind and digits as a scene may have.
 fn counts_valid(table: &[u32]) -> bool
     ensures { λ r. ⌜ r ≡ countsOk (now (table .entry)) ⌝ }
 {
-    let start = Walk {
-        good: 2048 <= table.len(),
+    let start = RecordsWalk {
+        good: TABLE_MIN_ENTRIES <= table.len(),
         used: 0,
     };
     let counted = start
         .require(table_entry(table, 0) == 0)
         .require(table_entry(table, 1) == 1)
         .require(table_entry(table, 2) == 1)
-        .require(table_entry(table, 3) <= 64)
-        .require(table_entry(table, 4) <= 64)
-        .require(table_entry(table, 5) <= 64)
-        .require(table_entry(table, 6) <= 64)
+        .require(input_count(table) as usize <= KIND_MAX_LINES)
+        .require(output_count(table) as usize <= KIND_MAX_LINES)
+        .require(dep_count(table) as usize <= KIND_MAX_LINES)
+        .require(witness_count(table) as usize <= KIND_MAX_LINES)
         .require(table_entry(table, 7) == 1)
-        .require(digit_count(table) <= 16);
+        .require(digit_count(table) as usize <= DIGITS_MAX_COUNT);
     counted.good
 }
 

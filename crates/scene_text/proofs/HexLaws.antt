@@ -8,8 +8,9 @@ use native.Mathlib.Nat.{zero-add, add-zero}
 use native.Mathlib.Omega.{arith}
 use lib.ListN.{length, take, drop, getD, length-drop}
 use lib.Seq.{drop-cons, take-nil}
+use Rattle.scene_text.specs.Print.{hexText}
 use Rattle.scene_text.specs.Text.{inRange, hexVal, hexBytes}
-use Rattle.scene_text.proofs.Tests.{between-under, between-high}
+use Rattle.scene_text.proofs.RangeLaws.{between-under, between-high}
 
 pub hex-pair : (s : List ℕ) (i : ℕ) → i + 1 < length s
     → hexBytes (drop i s) ≡ (hexVal (getD s i 0) * 16 + hexVal (getD s (i + 1) 0)) ∷ hexBytes (drop (i + 2) s)
@@ -64,3 +65,9 @@ hex-small x = go (inRange 48 57 x) (inRange 97 102 x) refl refl
     go true b e f = omega (arith, between-high 48 57 x e)
     go false true e f = omega (arith, between-high 97 102 x f)
     go false false e f = omega arith
+
+-- the text of bytes has two digits for each
+pub hex-text-length : (bs : List ℕ) → length (hexText bs) ≡ 2 * length bs
+unfolding hexText
+hex-text-length [] = refl
+hex-text-length (b ∷ bs) = let e = hex-text-length bs in omega arith

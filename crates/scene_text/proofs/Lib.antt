@@ -1,4 +1,4 @@
 pub mod Pieces
-pub mod Tests
+pub mod RangeLaws
 pub mod HexLaws
 pub mod DecimalLaws

@@ -1,6 +1,6 @@
 -- The scene's text: pieces between separators, and the values of fields. Byte values are ASCII.
 use Prim.Native.Nat.{ℕ, _+_, _-_, _*_, _%_, _^_, _≤_, _<_}
-use mathlib.Core.Bool.{Bool, true, cond, not, _&&_, _||_}
+use mathlib.Core.Bool.{Bool, cond, not, _&&_, _||_}
 use mathlib.Core.Path.{_≡_}
 use mathlib.Core.List.{List, [], _∷_, _++_}
 use lib.ListN.{length, take, drop, getD}
@@ -9,13 +9,19 @@ use Rattle.octets.specs.Lists.{every}
 use Rattle.scene_text.specs.declared.decimal.Decimal.{Decimal}
 use Rattle.scene_text.specs.declared.decimal.Decimal.the-variants.{Value, Invalid}
 
+-- 01: "Text lines ended by byte 10, fields parted by commas, no quoting"
+abbrev pub lineEnd : ℕ
+lineEnd = 10
+
+abbrev pub comma : ℕ
+comma = 44
+
 -- the first piece with a text before it
 unfoldable pub before : List ℕ → List (List ℕ) → List (List ℕ)
 before t [] = t ∷ []
 before t (p ∷ ps) = (t ++ p) ∷ ps
 
--- 01: "Text lines ended by byte 10, fields parted by commas, no quoting": a text cut at each c, one piece more than there
--- are separators
+-- a text cut at each c, one piece more than there are separators
 unfoldable pub pieces : ℕ → List ℕ → List (List ℕ)
 unfolding before
 pieces c [] = [] ∷ []

@@ -6,6 +6,11 @@ ghost use Prim.Native.Nat.{_+_, _-_, min};
 ghost use lib.ListN.{length, take, drop};
 ghost use Rattle.scene_text.specs.Text.{pieces, Cut};
 
+// The bytes that end a line and part its fields.
+pub const LINE_END: u8 = b'\n';
+
+pub const COMMA: u8 = b',';
+
 // The place of the first c in s, or the length of s.
 pub fn find(s: &[u8], c: u8) -> usize
     ensures { λ r. ⌜ Cut c (now (s .entry)) r ⌝ }

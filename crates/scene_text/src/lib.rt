@@ -3,6 +3,8 @@ mod cut; // cut.rt
 mod hex; // hex.rt
 mod decimal; // decimal.rt
 
+pub use self::cut::COMMA;
+pub use self::cut::LINE_END;
 pub use self::cut::count;
 pub use self::cut::find;
 pub use self::cut::head;

@@ -2,6 +2,7 @@
 use decide_scene::program_line;
 use octets::part;
 use octets::same_bytes;
+use scene_text::LINE_END;
 use scene_text::find;
 use scene_text::head;
 use scene_text::tail;
@@ -17,7 +18,7 @@ fn run_all(list: &[u8]) {
     let mut scene = list;
     let mut n: usize = 0;
     loop {
-        let e = find(rest, 10);
+        let e = find(rest, LINE_END);
         if e == rest.len() {
             return;
         }

@@ -8,6 +8,7 @@ mod record; // record.rt
 use crate::record::behind_record;
 use crate::record::run;
 use crate::record::value;
+use scene_text::LINE_END;
 use scene_text::find;
 use scene_text::head;
 use scene_text::tail;
@@ -37,7 +38,7 @@ fn run_all(records: &[u8], store: &mut [u8], table: &mut [u32], answer: &mut [u8
         failed: 0,
     };
     loop {
-        let e = find(rest, 10);
+        let e = find(rest, LINE_END);
         if e == rest.len() {
             return counts;
         }

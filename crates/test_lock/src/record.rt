@@ -7,7 +7,9 @@ use octets::same_bytes;
 use protocol::Check;
 use protocol::check_number;
 use scene_reader::read_scene;
+use scene_text::COMMA;
 use scene_text::Decimal;
+use scene_text::LINE_END;
 use scene_text::decode;
 use scene_text::find;
 use scene_text::head;
@@ -26,12 +28,12 @@ pub(crate) fn value(f: &[u8]) -> u64 {
 
 // The first field.
 fn field(fields: &[u8]) -> &[u8] {
-    head(fields, find(fields, 44))
+    head(fields, find(fields, COMMA))
 }
 
 // The fields behind the first.
 fn behind(fields: &[u8]) -> &[u8] {
-    tail(fields, find(fields, 44))
+    tail(fields, find(fields, COMMA))
 }
 
 // What follows the record of a scene of that length.
@@ -39,7 +41,7 @@ pub(crate) fn behind_record(text: &[u8], len: usize) -> &[u8]
     ensures { λ r. ⌜ length (now r) ≤ length (now (text .entry)) ⌝ }
 {
     let line = rest(text, len);
-    tail(line, find(line, 10))
+    tail(line, find(line, LINE_END))
 }
 
 fn same_digest(digits: &[u8], reached: bool, digest: &[u8]) -> bool {
@@ -87,7 +89,7 @@ pub(crate) fn run(
     answer: &mut [u8],
 ) -> bool {
     let behind_scene = rest(text, len);
-    let line = head(behind_scene, find(behind_scene, 10));
+    let line = head(behind_scene, find(behind_scene, LINE_END));
     let passed = passes(part(text, 0, len), line, store, table, answer);
     if !passed {
         io::write_all(1, line);

@@ -3,6 +3,7 @@ use octets::store_bytes;
 use protocol::Check;
 use protocol::error_number;
 use scene_reader::read_scene;
+use scene_text::COMMA;
 use scene_text::Decimal;
 use scene_text::all_between;
 use scene_text::find;
@@ -37,12 +38,12 @@ fn at_most(n: usize, most: usize) -> usize
 
 // The first field.
 fn field(fields: &[u8]) -> &[u8] {
-    head(fields, find(fields, 44))
+    head(fields, find(fields, COMMA))
 }
 
 // The fields behind the first.
 fn behind(fields: &[u8]) -> &[u8] {
-    tail(fields, find(fields, 44))
+    tail(fields, find(fields, COMMA))
 }
 
 // A case of these fields; its name is written.

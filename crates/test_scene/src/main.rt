@@ -12,6 +12,8 @@ use crate::case::add;
 use crate::case::begin;
 use crate::case::run;
 use octets::u8_at;
+use scene_text::COMMA;
+use scene_text::LINE_END;
 use scene_text::find;
 use scene_text::head;
 use scene_text::tail;
@@ -24,7 +26,7 @@ fn step(case: Case, line: &[u8], scene: &mut [u8], store: &mut [u8], table: &mut
     requires { ⌜ case .at ≤ length (now scene) ⌝ }
     ensures { λ r. ⌜ r .at ≤ length (now (scene .entry)) ⌝ }
 {
-    let fields = tail(line, find(line, 44));
+    let fields = tail(line, find(line, COMMA));
     match u8_at(line, 0) {
         99 => begin(case, fields),
         97 => add(case, fields, b"", scene),
@@ -45,7 +47,7 @@ fn run_all(list: &[u8], scene: &mut [u8], store: &mut [u8], table: &mut [u32]) -
         failed: 0,
     };
     loop {
-        let e = find(rest, 10);
+        let e = find(rest, LINE_END);
         if e == rest.len() {
             return case;
         }

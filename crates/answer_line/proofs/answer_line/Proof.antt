@@ -5,15 +5,16 @@ use Prim.Native.Nat.{ℕ, _+_, _≤_}
 use mathlib.Core.Path.{_≡_, refl}
 use mathlib.Core.List.{List, [], _∷_, _++_, append-nil, append-assoc}
 use native.Mathlib.Omega.{arith}
-use Rattle.scene_reading.specs.Print.{commaed, lineText}
+use Rattle.scene_text.specs.Print.{partedBy, lineText}
+use Rattle.scene_text.specs.Text.{comma, lineEnd}
 use Rattle.answer_line.specs.Line.{answerWord, numberText, digestText, lineOf}
 use Rattle.answer_line.proofs.Stored.{Stored, stored-more}
 use Rattle.answer_line.proofs.answer_line.Statement.{statement}
 use Rattle.answer_line.proofs.answer_line.Tie as tie
 
 -- the parts of the line, joined
-line-parts : (word n c t d : List ℕ) → lineText word (n ∷ c ∷ t ∷ d ∷ []) ++ (10 ∷ []) ≡ ((((word ++ (44 ∷ n)) ++ (44 ∷ c)) ++ (44 ∷ t)) ++ (44 ∷ d)) ++ (10 ∷ [])
-unfolding lineText commaed
+line-parts : (word n c t d : List ℕ) → lineText word (n ∷ c ∷ t ∷ d ∷ []) ++ (lineEnd ∷ []) ≡ ((((word ++ (comma ∷ n)) ++ (comma ∷ c)) ++ (comma ∷ t)) ++ (comma ∷ d)) ++ (lineEnd ∷ [])
+unfolding lineText partedBy
 line-parts word n c t d = simp (append-assoc, append-nil)
 
 returns : tie.Need-returns
@@ -26,11 +27,11 @@ returns c =
     let word = number .before .before .before .before in
     let a = word .before .before .before .before .args in
     let begun : Stored (a .out .now) (word .store-bytes .last .0) answerWord 6 = record { here = word .store-bytes .ensures; ends = refl } in
-    let numbered = stored-more (44 ∷ numberText (a .number)) _ _ begun (number .put-number .ensures .1 .1) (number .put-number .ensures .0) in
-    let counted = stored-more (44 ∷ numberText (a .count)) _ _ numbered (count .put-number2 .ensures .1 .1) (count .put-number2 .ensures .0) in
-    let totalled = stored-more (44 ∷ numberText (a .total)) _ _ counted (total .put-number3 .ensures .1 .1) (total .put-number3 .ensures .0) in
-    let digested = stored-more (44 ∷ digestText (a .reached) (a .t5)) _ _ totalled (digest .put-digest .ensures .1 .1) (digest .put-digest .ensures .0) in
-    let ended = stored-more (10 ∷ []) _ (digest .put-digest .result + 1) digested (c .before .before .put-byte .ensures) refl in
+    let numbered = stored-more (comma ∷ numberText (a .number)) _ _ begun (number .put-number .ensures .1 .1) (number .put-number .ensures .0) in
+    let counted = stored-more (comma ∷ numberText (a .count)) _ _ numbered (count .put-number2 .ensures .1 .1) (count .put-number2 .ensures .0) in
+    let totalled = stored-more (comma ∷ numberText (a .total)) _ _ counted (total .put-number3 .ensures .1 .1) (total .put-number3 .ensures .0) in
+    let digested = stored-more (comma ∷ digestText (a .reached) (a .t5)) _ _ totalled (digest .put-digest .ensures .1 .1) (digest .put-digest .ensures .0) in
+    let ended = stored-more (lineEnd ∷ []) _ (digest .put-digest .result + 1) digested (c .before .before .put-byte .ensures) refl in
     let parts = line-parts answerWord (numberText (a .number)) (numberText (a .count)) (numberText (a .total)) (digestText (a .reached) (a .t5)) in
     let short : digest .put-digest .result + 1 ≤ 135 =
     omega (arith, number .put-number .ensures .1 .0, count .put-number2 .ensures .1 .0, total .put-number3 .ensures .1 .0, digest .put-digest .ensures .1 .0) in

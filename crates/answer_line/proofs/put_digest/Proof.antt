@@ -6,8 +6,8 @@ use mathlib.Core.List.{_∷_}
 use native.Mathlib.Omega.{arith}
 use lib.ListN.{length}
 use Rattle.octets.proofs.Stores.{sets-cons}
-use Rattle.scene_reading.specs.Print.{hexText}
-use Rattle.scene_reading.proofs.PrintDigits.{hex-length}
+use Rattle.scene_text.specs.Print.{hexText}
+use Rattle.scene_text.proofs.HexLaws.{hex-text-length}
 use Rattle.answer_line.specs.Line.{digestText}
 use Rattle.answer_line.proofs.put_digest.Statement.{statement}
 use Rattle.answer_line.proofs.put_digest.Tie as tie
@@ -18,7 +18,7 @@ returns c =
     let comma = c .before .before .before .before .before .before .before .before in
     let a = comma .before .before .before .args in
     let done = c .before .before .put-hex .ensures in
-    let n : length (hexText (a .digest .now)) ≡ 2 * length (a .digest .now) = hex-length (a .digest .now) in
+    let n : length (hexText (a .digest .now)) ≡ 2 * length (a .digest .now) = hex-text-length (a .digest .now) in
     let t = c .before .before .before .before .before .if1 .taken in (
       rw t (omega (arith, done .0)),
       (

@@ -5,7 +5,7 @@ use mathlib.Core.Path.{refl, _∙_}
 use mathlib.Core.List.{_∷_}
 use native.Mathlib.Omega.{arith}
 use Rattle.octets.proofs.Stores.{sets-cons}
-use Rattle.scene_reading.specs.Print.{decimalText}
+use Rattle.scene_text.specs.Print.{decimalText}
 use Rattle.answer_line.specs.Line.{numberText}
 use Rattle.answer_line.proofs.put_number.Statement.{statement}
 use Rattle.answer_line.proofs.put_number.Tie as tie

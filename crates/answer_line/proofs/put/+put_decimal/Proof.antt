@@ -7,7 +7,7 @@ use mathlib.Core.List.{[], _∷_}
 use native.Mathlib.Omega.{arith}
 use lib.ListN.{length, length-append}
 use Rattle.octets.proofs.Stores.{sets-append}
-use Rattle.scene_reading.specs.Print.{decimalText}
+use Rattle.scene_text.specs.Print.{decimalText}
 use Rattle.answer_line.proofs.Digits.{decimal-none, decimal-one, decimal-more}
 use borrow.Fn.Kinds.{In}
 use borrow.Fn.PlainCycle.{Measures, is, falls, and}

@@ -1,7 +1,7 @@
 -- `answer_line::put::hex_digit` meets its contract. Assumes nothing.
 use borrow.Author.Needs.{needs}
 use borrow.Author.Tests.{lt-ltb, le-ltb}
-use Rattle.scene_reading.specs.Print.{digitText}
+use Rattle.scene_text.specs.Print.{digitText}
 use Rattle.answer_line.proofs.put.hex_digit.Statement.{statement}
 use Rattle.answer_line.proofs.put.hex_digit.Tie as tie
 

@@ -6,7 +6,7 @@ use mathlib.Core.List.{List}
 use native.Mathlib.Omega.{arith}
 use lib.ListN.{length, drop, getD}
 use lib.Seq.{sets}
-use Rattle.scene_reading.specs.Print.{digitText, hexText}
+use Rattle.scene_text.specs.Print.{digitText, hexText}
 use Rattle.answer_line.proofs.Digits.{sets-two, hex-turn, hex-end}
 use Rattle.answer_line.proofs.put.put_hex.Statement.{statement}
 use Rattle.answer_line.proofs.put.put_hex.Tie as tie

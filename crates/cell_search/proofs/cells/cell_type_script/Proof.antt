@@ -3,14 +3,14 @@ use denote.Ref.{now}
 use mathlib.Core.Path.{ap, _∙_}
 use Rattle.octets.specs.Places.{bytesAt}
 use Rattle.scene_table.specs.Scene.{Cell}
-use Rattle.scene_table.specs.Places as places
+use Rattle.scene_table.specs.Lent.{cellFrom}
 use Rattle.cell_search.proofs.CellLaws.{cell-within}
 use borrow.Author.Needs.{needs}
 use Rattle.cell_search.proofs.cells.cell_type_script.Statement.{statement}
 use Rattle.cell_search.proofs.cells.cell_type_script.Tie as tie
 
 returns : tie.Need-returns
-unfolding places.cellIn bytesAt
+unfolding cellFrom bytesAt
 returns c =
     let a = c .before .before .before .before .args in
     rw (c .before .places-within .ensures) at (c .part .ensures)

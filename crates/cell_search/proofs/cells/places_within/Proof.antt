@@ -11,7 +11,7 @@ unfolding placesWithin
 returns c = rw (lt-ltb _ _ (rw (c .before .before .cell-count .ensures) at (c .before .if1 .taken))) (c .cell-places .ensures)
 
 returns-2 : tie.Need-returns-2
-unfolding placesWithin noPlaces places.placeAt
+unfolding placesWithin noPlaces
 returns-2 c = rw (le-ltb _ _ (rw (c .before .cell-count .ensures) at (c .if1 .left)))
 
 pub places-within-spec : {M : Type 1} → statement M

@@ -30,12 +30,12 @@ unfolding placesOf
 loop-again c =
     let l = c .before .before .before .before in
     let a = c .before .before .before .before .before .before .before .before .before .args in
-    let rows = cells-listed (a .source) (now (a .table)) (now (a .store)) in
+    let cells = cells-listed (a .source) (now (a .table)) (now (a .store)) in
     let more = rw (l .loop .inv .0) at (c .before .before .before .loop-test .taken) in (
       l .loop .inv .0,
       ⊎-elim
-          (λ w. l .loop .inv .1 ∙ rw (w .2 .given .1, w .3, match-yes (a .field) (now (a .hash)) rows (l .loop .i) more (sym (rw (c .before .before .cell-hash .ensures) at (c .before .same-bytes .ensures)) ∙ w .0 .taken)))
-          (λ w. l .loop .inv .1 ∙ rw (w .1, match-no (a .field) (now (a .hash)) rows (l .loop .i) more (sym (rw (c .before .before .cell-hash .ensures) at (c .before .same-bytes .ensures)) ∙ w .0 .left)))
+          (λ w. l .loop .inv .1 ∙ rw (w .2 .given .1, w .3, match-yes (a .field) (now (a .hash)) cells (l .loop .i) more (sym (rw (c .before .before .cell-hash .ensures) at (c .before .same-bytes .ensures)) ∙ w .0 .taken)))
+          (λ w. l .loop .inv .1 ∙ rw (w .1, match-no (a .field) (now (a .hash)) cells (l .loop .i) more (sym (rw (c .before .before .cell-hash .ensures) at (c .before .same-bytes .ensures)) ∙ w .0 .left)))
           (c .if1 .came),
     )
 
@@ -43,18 +43,18 @@ returns : tie.Need-returns Inv-loop μ-loop
 returns c =
     let l = c .before in
     let a = c .before .before .before .before .before .before .args in
-    let rows = cells-listed (a .source) (now (a .table)) (now (a .store)) in
-    sym (l .loop .inv .1 ∙ rw (match-end (a .field) (now (a .hash)) rows (l .loop .i) (rw (l .loop .inv .0) at (c .loop-test .left))) (found-places (l .loop .found)))
+    let cells = cells-listed (a .source) (now (a .table)) (now (a .store)) in
+    sym (l .loop .inv .1 ∙ rw (match-end (a .field) (now (a .hash)) cells (l .loop .i) (rw (l .loop .inv .0) at (c .loop-test .left))) (found-places (l .loop .found)))
 
 returns-2 : tie.Need-returns-2 Inv-loop μ-loop
 returns-2 c =
     let l = c .before .before .before .before .before in
     let a = c .before .before .before .before .before .before .before .before .before .before .args in
-    let rows = cells-listed (a .source) (now (a .table)) (now (a .store)) in
+    let cells = cells-listed (a .source) (now (a .table)) (now (a .store)) in
     let more = rw (l .loop .inv .0) at (c .before .before .before .before .loop-test .taken) in
     sym
     (l .loop .inv .1
-    ∙ rw (match-yes (a .field) (now (a .hash)) rows (l .loop .i) more (sym (rw (c .before .before .before .cell-hash .ensures) at (c .before .before .same-bytes .ensures)) ∙ c .before .if1 .taken))
+    ∙ rw (match-yes (a .field) (now (a .hash)) cells (l .loop .i) more (sym (rw (c .before .before .before .cell-hash .ensures) at (c .before .before .same-bytes .ensures)) ∙ c .before .if1 .taken))
     (second-match (l .loop .found) (l .loop .i) _ (c .match .keys2)))
 
 pub search-cells-spec : {M : Type 1} → statement M

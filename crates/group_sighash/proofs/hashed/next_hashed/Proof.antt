@@ -5,7 +5,7 @@ use denote.Ref.{now}
 use borrow.Author.Needs.{needs}
 use mathlib.Core.List.{List}
 use Prim.Native.Nat.{ℕ, _-_, _≤_}
-use Rattle.scene_table.specs.Lent.{tableEntry}
+use Rattle.scene_table.specs.Lent.{witnessCount}
 use Rattle.group_sighash.specs.Hashed.{hashedFrom, groupFrom}
 use Rattle.group_sighash.proofs.HashedLaws.{hashed-skip, group-skip}
 use Rattle.group_sighash.proofs.hashed.next_hashed.Statement.{statement}
@@ -13,7 +13,7 @@ use Rattle.group_sighash.proofs.hashed.next_hashed.Tie as tie
 
 abbrev Inv-loop : tie.InvT-loop
 Inv-loop table from count i₀ i =
-    (count ≡ tableEntry table 6)
+    (count ≡ witnessCount table)
     × ((store : List ℕ) → hashedFrom table store from ≡ hashedFrom table store i)
     × ((store : List ℕ) → groupFrom table store from ≡ groupFrom table store i)
     × (from ≤ i)

@@ -7,7 +7,7 @@ use mathlib.Core.List.{[]}
 use native.Mathlib.Omega.{arith}
 use borrow.Author.Needs.{needs}
 use lib.ListN.{length, take}
-use Rattle.scene_text.specs.Text.{pieces}
+use Rattle.scene_text.specs.Text.{pieces, comma}
 use Rattle.scene_line.specs.Line.{fieldOk, bareAfter, formsOk, fieldBytes, lineBytes, fieldsFound}
 use Rattle.scene_line.proofs.FieldLaws.{forms-next, fields-length, bytes-on}
 use Rattle.scene_line.proofs.fields.check_fields.Statement.{statement}
@@ -15,8 +15,8 @@ use Rattle.scene_line.proofs.fields.check_fields.Tie as tie
 
 abbrev Inv-loop : tie.InvT-loop
 Inv-loop fields rest₀ t₀ bare₀ ok₀ bytes₀ rest t bare ok bytes =
-    (formsOk true t₀ (pieces 44 fields) ≡ (ok && formsOk bare t (pieces 44 rest)))
-    × (bytes + length (lineBytes t (pieces 44 rest)) ≡ length (lineBytes t₀ (pieces 44 fields)))
+    (formsOk true t₀ (pieces comma fields) ≡ (ok && formsOk bare t (pieces comma rest)))
+    × (bytes + length (lineBytes t (pieces comma rest)) ≡ length (lineBytes t₀ (pieces comma fields)))
     × (bytes + length rest ≤ length fields)
 
 abbrev μ-loop : tie.MeasureT-loop
@@ -35,9 +35,9 @@ returns c =
     let good : c .before .before .field-ok .result ≡ fieldOk (l .bare) (l .t) f = rw h at (c .before .before .field-ok .ensures) in
     let size : c .before .field-size .result ≡ length (fieldBytes (l .t) f) = rw h at (c .before .field-size .ensures .0) in
     let a = c .before .before .before .before .before .before .before .args in
-    let oks : formsOk true (a .first) (pieces 44 (a .fields .now)) ≡ (l .ok && c .before .before .field-ok .result) =
+    let oks : formsOk true (a .first) (pieces comma (a .fields .now)) ≡ (l .ok && c .before .before .field-ok .result) =
     l .inv .0 ∙ forms-next (l .t) _ [] _ cut (l .bare) (l .ok) _ good ∙ and-true (l .ok && c .before .before .field-ok .result) in
-    let sizes : length (lineBytes (a .first) (pieces 44 (a .fields .now))) ≡ l .bytes + c .before .field-size .result = omega (arith, fields-length fieldBytes lineBytes bytes-on (l .t) _ [] _ cut) in
+    let sizes : length (lineBytes (a .first) (pieces comma (a .fields .now))) ≡ l .bytes + c .before .field-size .result = omega (arith, fields-length fieldBytes lineBytes bytes-on (l .t) _ [] _ cut) in
     (rw (oks, sizes), omega arith)
 
 loop-again : tie.Need-loop-again Inv-loop μ-loop

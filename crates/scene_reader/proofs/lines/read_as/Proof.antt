@@ -3,7 +3,7 @@ use mathlib.Core.Path.{refl, sym, _∙_}
 use native.Mathlib.Omega.{arith}
 use borrow.Author.Needs.{needs}
 use lib.ListN.{length}
-use Rattle.scene_text.specs.Text.{pieces}
+use Rattle.scene_text.specs.Text.{pieces, comma}
 use Rattle.scene_reader.specs.Room.{stateHolding}
 use Rattle.scene_reader.proofs.LineRows.{line-passes}
 use Rattle.scene_reader.proofs.PutDown.{found-as, counted, room, stepped, kept}
@@ -22,7 +22,7 @@ put-line-requires c κs =
     let p = c .before .before .before .before .before .before .before .before .before .before .pre in
     let st = a .store .now in
     let tb = a .table .now in
-    let fs = pieces 44 (a .fields .now) in
+    let fs = pieces comma (a .fields .now) in
     let f = found-as (a .s) st tb (a .k) fs _ _ (c .before .before .before .before .before .before .first-form .ensures) (c .before .before .before .before .before .check-fields .ensures .0) in
     let q = c .before .before .before .before .check-line .ensures fs st tb f refl in
     let z = line-passes (stateHolding (a .s) st tb) (a .k) fs (sym q ∙ c .before .before .enum-told .given .1) in
@@ -36,7 +36,7 @@ returns c =
     let a = c .before .before .before .before .before .before .before .before .before .args in
     let st = a .store .now in
     let tb = a .table .now in
-    let fs = pieces 44 (a .fields .now) in
+    let fs = pieces comma (a .fields .now) in
     let f = found-as (a .s) st tb (a .k) fs _ _ (c .before .before .before .before .before .first-form .ensures) (c .before .before .before .before .check-fields .ensures .0) in
     let q = c .before .before .before .check-line .ensures fs st tb f refl in
     (rw (sym q ∙ c .before .error .given .1), tt)
@@ -47,7 +47,7 @@ returns-2 c =
     let p = c .before .before .before .before .before .before .before .before .before .before .before .before .before .before .before .pre in
     let st = a .store .now in
     let tb = a .table .now in
-    let fs = pieces 44 (a .fields .now) in
+    let fs = pieces comma (a .fields .now) in
     let f = found-as (a .s) st tb (a .k) fs _ _ (c .before .before .before .before .before .before .before .before .before .before .before .first-form .ensures) (c .before .before .before .before .before .before .before .before .before .before .check-fields .ensures .0) in
     let q = c .before .before .before .before .before .before .before .before .before .check-line .ensures fs st tb f refl in
     let z = line-passes (stateHolding (a .s) st tb) (a .k) fs (sym q ∙ c .before .before .before .before .before .before .before .enum-told .given .1) in

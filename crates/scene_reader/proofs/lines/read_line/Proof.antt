@@ -5,7 +5,7 @@ use borrow.Author.Needs.{needs}
 use mathlib.Core.Bool.{and-false}
 use Rattle.scene_reader.proofs.Runs.{kept-more, step-cut}
 use Rattle.protocol.specs.Rows.{_▷_, decide}
-use Rattle.scene_text.specs.Text.{pieces}
+use Rattle.scene_text.specs.Text.{pieces, comma}
 use Rattle.scene_line.proofs.KindLaws.{shape, counted}
 use Rattle.scene_line.specs.Kind.{lineKind, kindOf, lineFields}
 use Rattle.scene_reader.specs.Reader.{lineRows, rowsOfLine}
@@ -21,7 +21,7 @@ read-as-requires : tie.Need-read-as-requires
 read-as-requires c κs =
     let p = c .before .before .before .before .before .before .before .before .before .before .pre in (
       record { known = p .known; few = p .few; inside = p .inside; small = omega arith; enough = p .enough; fits = p .fits },
-      rw (c .before .before .line-kind .ensures) (shape (c .before .before .before .before .before .before .before .before .before .before .args .s .last) _ (pieces 44 (c .before .before .before .before .tail .result .now))),
+      rw (c .before .before .line-kind .ensures) (shape (c .before .before .before .before .before .before .before .before .before .before .args .s .last) _ (pieces comma (c .before .before .before .before .tail .result .now))),
     )
 
 returns-2 : tie.Need-returns-2

@@ -5,26 +5,26 @@ use Prim.Native.Nat.{_+_}
 use mathlib.Core.Path.{_≡_, refl, sym, ap, _∙_}
 use lib.ListN.{length, take, drop}
 use lib.Seq.{take-all}
-use Rattle.scene_reader.specs.Reader.{ReaderState, start, run}
+use Rattle.scene_reader.specs.Reader.{ReaderState, readerStart, linesOutcome}
 use Rattle.scene_reader.specs.declared.state.LineStep.the-variants.{Next}
 use Rattle.scene_reader.specs.declared.state.LineStep.{LineStep}
-use Rattle.scene_reader.specs.Room.{step, Ready, Kept, stateHolding, stepOutcome}
-use Rattle.scene_text.specs.Text.{pieces}
+use Rattle.scene_reader.specs.Room.{lineOutcome, ReaderReady, ReadyAfter, stateHolding, stepOutcome}
+use Rattle.scene_text.specs.Text.{pieces, lineEnd}
 use Rattle.scene_reader.proofs.Runs.{starts, run-last, run-on, run-off}
 use Rattle.scene_reader.proofs.lines.read_lines.Statement.{statement}
 use Rattle.scene_reader.proofs.lines.read_lines.Tie as tie
 
 abbrev Inv-loop : tie.InvT-loop
-Inv-loop scene store₀ table₀ rest₀ s₀ store table rest s = (run (start (length store₀) (length table₀)) (pieces 10 scene) ≡ run (stateHolding s store table) (pieces 10 rest)) × (length store ≡ length store₀) × (length table ≡ length table₀) × Ready s (length rest) (length store₀) (length table₀)
+Inv-loop scene store₀ table₀ rest₀ s₀ store table rest s = (linesOutcome (readerStart (length store₀) (length table₀)) (pieces lineEnd scene) ≡ linesOutcome (stateHolding s store table) (pieces lineEnd rest)) × (length store ≡ length store₀) × (length table ≡ length table₀) × ReaderReady s (length rest) (length store₀) (length table₀)
 
 abbrev μ-loop : tie.MeasureT-loop
 μ-loop scene store₀ table₀ rest₀ s₀ store table rest s = length rest
 
 loop-holds : tie.Need-loop-holds Inv-loop μ-loop
-unfolding Rattle.scene_reader.specs.Room.limit
+unfolding Rattle.scene_reader.specs.Room.entriesLimit
 loop-holds c =
     let a = c .before .before .before .args in (
-      ap (λ (h : ReaderState). run h (pieces 10 (a .scene .now))) (starts (length (a .store .now)) (length (a .table .now)) (a .store .now) (a .table .now) (c .before .before .before .pre .1 .0) (c .before .before .before .pre .1 .1)),
+      ap (λ (h : ReaderState). linesOutcome h (pieces lineEnd (a .scene .now))) (starts (length (a .store .now)) (length (a .table .now)) (a .store .now) (a .table .now) (c .before .before .before .pre .1 .0) (c .before .before .before .pre .1 .1)),
       refl,
       refl,
       record { known = omega arith; few = omega arith; inside = omega arith; small = omega arith; enough = c .before .before .before .pre .0 .1; fits = omega arith },
@@ -54,7 +54,7 @@ returns-2 c =
     let cut = c .before .before .before .before .before .before .before .before .before .before .before .find .ensures .cut (omega arith) in
     let st = c .before .before .before .before .before .before .read-line .last .1 .1 .0 in
     let tb = c .before .before .before .before .before .before .read-line .last .1 .1 .1 .0 in
-    let done : stepOutcome (c .before .before .before .before .before .before .read-line .result) st tb ≡ step (stateHolding (l .s) (l .store) (l .table)) (take e s) = rw (c .before .before .before .before .before .before .before .before .before .head .ensures .0) at (c .before .before .before .before .before .before .read-line .ensures .0) in
+    let done : stepOutcome (c .before .before .before .before .before .before .read-line .result) st tb ≡ lineOutcome (stateHolding (l .s) (l .store) (l .table)) (take e s) = rw (c .before .before .before .before .before .before .before .before .before .head .ensures .0) at (c .before .before .before .before .before .before .read-line .ensures .0) in
     let told : stepOutcome (c .before .before .before .before .before .before .read-line .result) st tb ≡ _ = ap (λ (x : LineStep). stepOutcome x st tb) (c .enum-told .given .1) in
     told ∙ sym (l .inv .0 ∙ run-off (stateHolding (l .s) (l .store) (l .table)) (take e s) (drop (e + 1) s) _ cut _ (sym done ∙ told))
 
@@ -66,10 +66,10 @@ loop-again c =
     let cut = c .before .before .before .before .before .before .before .before .before .before .before .before .before .find .ensures .cut (omega arith) in
     let st = c .before .before .before .before .before .before .before .before .read-line .last .1 .1 .0 in
     let tb = c .before .before .before .before .before .before .before .before .read-line .last .1 .1 .1 .0 in
-    let done : stepOutcome (c .before .before .before .before .before .before .before .before .read-line .result) st tb ≡ step (stateHolding (l .s) (l .store) (l .table)) (take e s) = rw (c .before .before .before .before .before .before .before .before .before .before .before .head .ensures .0) at (c .before .before .before .before .before .before .before .before .read-line .ensures .0) in
+    let done : stepOutcome (c .before .before .before .before .before .before .before .before .read-line .result) st tb ≡ lineOutcome (stateHolding (l .s) (l .store) (l .table)) (take e s) = rw (c .before .before .before .before .before .before .before .before .before .before .before .head .ensures .0) at (c .before .before .before .before .before .before .before .before .read-line .ensures .0) in
     let after = c .before .before .step .given .0 .0 in
     let is : c .before .before .before .before .before .before .before .before .read-line .result ≡ Next after = c .before .before .step .given .1 in
-    let k : Kept (l .s) (length (c .before .before .before .before .before .before .before .before .before .before .before .head .result .now)) (length (l .store)) (length (l .table)) (Next after) = rw is at (c .before .before .before .before .before .before .before .before .read-line .ensures .1) in (
+    let k : ReadyAfter (l .s) (length (c .before .before .before .before .before .before .before .before .before .before .before .head .result .now)) (length (l .store)) (length (l .table)) (Next after) = rw is at (c .before .before .before .before .before .before .before .before .read-line .ensures .1) in (
       l .inv .0 ∙ run-on (stateHolding (l .s) (l .store) (l .table)) (take e s) (drop (e + 1) s) _ cut (stateHolding after st tb) (sym done ∙ ap (λ (x : LineStep). stepOutcome x st tb) is) ∙ rw (c .tail .ensures .0),
       c .before .before .before .before .before .before .before .before .read-line .kept .1 .1 .0 ∙ l .inv .1,
       c .before .before .before .before .before .before .before .before .read-line .kept .1 .1 .1 .0 ∙ l .inv .2,

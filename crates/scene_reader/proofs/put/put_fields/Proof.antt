@@ -5,7 +5,7 @@ use native.Mathlib.Omega.{arith}
 use borrow.Author.Needs.{needs}
 use lib.ListN.{length}
 use lib.Seq.{sets}
-use Rattle.scene_text.specs.Text.{pieces}
+use Rattle.scene_text.specs.Text.{pieces, comma}
 use Rattle.scene_line.specs.Line.{fieldBytes, lineBytes, fieldEntries, lineEntries}
 use Rattle.scene_line.proofs.FieldLaws.{bytes-on, numbers-on}
 use Rattle.scene_reader.proofs.FieldsPut.{bytes-none, numbers-none, put-within, put-on, put-end}
@@ -18,9 +18,9 @@ Inv-loop fields store₀ used table₀ filled rest₀ t₀ at₀ entry₀ store 
     × (length table ≡ length table₀)
     × (at + length rest ≤ used + length fields)
     × (length rest ≤ length fields)
-    × (entry + length (lineEntries t (pieces 44 rest)) ≡ filled + length (lineEntries t₀ (pieces 44 fields)))
-    × (sets store₀ used (lineBytes t₀ (pieces 44 fields)) ≡ sets store at (lineBytes t (pieces 44 rest)))
-    × (sets table₀ filled (lineEntries t₀ (pieces 44 fields)) ≡ sets table entry (lineEntries t (pieces 44 rest)))
+    × (entry + length (lineEntries t (pieces comma rest)) ≡ filled + length (lineEntries t₀ (pieces comma fields)))
+    × (sets store₀ used (lineBytes t₀ (pieces comma fields)) ≡ sets store at (lineBytes t (pieces comma rest)))
+    × (sets table₀ filled (lineEntries t₀ (pieces comma fields)) ≡ sets table entry (lineEntries t (pieces comma rest)))
 
 abbrev μ-loop : tie.MeasureT-loop
 μ-loop fields store₀ used table₀ filled rest₀ t₀ at₀ entry₀ store table rest t at entry = length rest

@@ -3,7 +3,7 @@ use mathlib.Core.Path.{_∙_}
 use native.Mathlib.Omega.{arith}
 use borrow.Author.Needs.{needs}
 use lib.ListN.{length-set}
-use Rattle.scene_text.specs.Text.{pieces}
+use Rattle.scene_text.specs.Text.{pieces, comma}
 use Rattle.scene_reader.proofs.Bounds.{seen-few}
 use Rattle.scene_reader.proofs.PutDown.{is-put}
 use Rattle.scene_reader.proofs.put.put_line.Statement.{statement}
@@ -27,7 +27,7 @@ returns : tie.Need-returns
 returns c =
     let a = c .before .before .before .before .before .before .before .before .before .before .before .before .before .args in
     let e = c .before .before .before .before .put-fields .ensures in
-    is-put (a .s) (a .store .now) (a .table .now) (a .k) (pieces 44 (a .fields .now)) _ _ _ _ _ _ _ (c .before .before .before .before .before .before .before .before .before .rank-of .ensures) (c .before .before .before .before .before .before .before .before .seen-with .ensures) (c .before .before .before .before .before .before .before .first-form .ensures) (c .before .before .before .before .before .before .before .before .before .before .before .before .before .pre .0) (e .0) (e .1 .0) (e .1 .1)
+    is-put (a .s) (a .store .now) (a .table .now) (a .k) (pieces comma (a .fields .now)) _ _ _ _ _ _ _ (c .before .before .before .before .before .before .before .before .before .rank-of .ensures) (c .before .before .before .before .before .before .before .before .seen-with .ensures) (c .before .before .before .before .before .before .before .first-form .ensures) (c .before .before .before .before .before .before .before .before .before .before .before .before .before .pre .0) (e .0) (e .1 .0) (e .1 .1)
 
 pub put-line-spec : {M : Type 1} → statement M
 put-line-spec =

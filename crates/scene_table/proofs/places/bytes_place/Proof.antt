@@ -1,11 +1,11 @@
 -- `scene_table::places::bytes_place` meets its contract. Assumes nothing.
-use Rattle.scene_table.specs.Places.{placeAt, bytesPlace}
 use borrow.Author.Needs.{needs}
+use Rattle.scene_table.specs.Lent.{bytesPlace}
 use Rattle.scene_table.proofs.places.bytes_place.Statement.{statement}
 use Rattle.scene_table.proofs.places.bytes_place.Tie as tie
 
 returns : tie.Need-returns
-unfolding placeAt bytesPlace
+unfolding bytesPlace
 returns c = rw (c .table-entry2 .ensures, c .before .table-entry .ensures)
 
 pub bytes-place-spec : {M : Type 1} → statement M

@@ -1,11 +1,11 @@
 -- `scene_table::places::cell_places` meets its contract. Assumes nothing.
-use Rattle.scene_table.specs.Places.{placeAt, cellFieldPlaces}
 use borrow.Author.Needs.{needs}
+use Rattle.scene_table.specs.Lent.{cellFieldPlaces}
 use Rattle.scene_table.proofs.places.cell_places.Statement.{statement}
 use Rattle.scene_table.proofs.places.cell_places.Tie as tie
 
 returns : tie.Need-returns
-unfolding placeAt cellFieldPlaces
+unfolding cellFieldPlaces
 returns c = rw (c .hash-length .ensures .0)
 
 pub cell-places-spec : {M : Type 1} → statement M

@@ -7,7 +7,7 @@ use Rattle.scene_table.proofs.places.deps_at.Tie as tie
 
 returns : tie.Need-returns
 unfolding depsAt
-returns c = (rw (c .table-entry .ensures, c .before .outputs-at .ensures .0), omega arith)
+returns c = (rw (c .output-count .ensures, c .before .outputs-at .ensures .0), omega arith)
 
 pub deps-at-spec : {M : Type 1} → statement M
 deps-at-spec =

@@ -1,6 +1,6 @@
 -- `scene_table::places::digit_count` meets its contract. Assumes nothing.
-use Rattle.scene_table.specs.Places.{digitCount}
 use borrow.Author.Needs.{needs}
+use Rattle.scene_table.specs.Lent.{digitCount}
 use Rattle.scene_table.proofs.places.digit_count.Statement.{statement}
 use Rattle.scene_table.proofs.places.digit_count.Tie as tie
 

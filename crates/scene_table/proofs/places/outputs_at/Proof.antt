@@ -7,7 +7,7 @@ use Rattle.scene_table.proofs.places.outputs_at.Tie as tie
 
 returns : tie.Need-returns
 unfolding inputsAt outputsAt
-returns c = (rw (c .table-entry .ensures), omega arith)
+returns c = (rw (c .input-count .ensures), omega arith)
 
 pub outputs-at-spec : {M : Type 1} → statement M
 outputs-at-spec = tie.close (tie.spec (λ c κs. search needs) (λ c. search needs) (λ c. search needs) (λ c. search needs) returns)

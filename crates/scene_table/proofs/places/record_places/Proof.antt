@@ -1,11 +1,11 @@
 -- `scene_table::places::record_places` meets its contract. Assumes nothing.
-use Rattle.scene_table.specs.Places.{recordPlaces}
 use borrow.Author.Needs.{needs}
+use Rattle.scene_table.specs.Lent.{cellRecordPlaces}
 use Rattle.scene_table.proofs.places.record_places.Statement.{statement}
 use Rattle.scene_table.proofs.places.record_places.Tie as tie
 
 returns : tie.Need-returns
-unfolding recordPlaces
+unfolding cellRecordPlaces
 returns c = rw (c .cell-places .ensures, c .before .table-entry3 .ensures, c .before .before .table-entry2 .ensures, c .before .before .before .table-entry .ensures)
 
 pub record-places-spec : {M : Type 1} → statement M

@@ -1,6 +1,6 @@
 -- `scene_table::places::script` meets its contract. Assumes nothing.
-use Rattle.scene_table.specs.Places.{scriptPlace}
 use borrow.Author.Needs.{needs}
+use Rattle.scene_table.specs.Lent.{scriptPlace}
 use Rattle.scene_table.proofs.places.script.Statement.{statement}
 use Rattle.scene_table.proofs.places.script.Tie as tie
 

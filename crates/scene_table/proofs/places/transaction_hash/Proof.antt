@@ -1,11 +1,11 @@
 -- `scene_table::places::transaction_hash` meets its contract. Assumes nothing.
-use Rattle.scene_table.specs.Places.{placeAt, transactionPlace}
 use borrow.Author.Needs.{needs}
+use Rattle.scene_table.specs.Lent.{transactionPlace}
 use Rattle.scene_table.proofs.places.transaction_hash.Statement.{statement}
 use Rattle.scene_table.proofs.places.transaction_hash.Tie as tie
 
 returns : tie.Need-returns
-unfolding placeAt transactionPlace
+unfolding transactionPlace
 returns c = rw (c .table-entry .ensures)
 
 pub transaction-hash-spec : {M : Type 1} → statement M

@@ -7,7 +7,7 @@ use Rattle.scene_table.proofs.places.verdicts_at.Tie as tie
 
 returns : tie.Need-returns
 unfolding verdictsAt
-returns c = (rw (c .table-entry .ensures, c .before .witnesses-at .ensures .0), omega arith)
+returns c = (rw (c .witness-count .ensures, c .before .witnesses-at .ensures .0), omega arith)
 
 pub verdicts-at-spec : {M : Type 1} → statement M
 verdicts-at-spec =

@@ -7,7 +7,7 @@ use Rattle.scene_table.proofs.places.witnesses_at.Tie as tie
 
 returns : tie.Need-returns
 unfolding witnessesAt
-returns c = (rw (c .table-entry .ensures, c .before .deps-at .ensures .0), omega arith)
+returns c = (rw (c .dep-count .ensures, c .before .deps-at .ensures .0), omega arith)
 
 pub witnesses-at-spec : {M : Type 1} → statement M
 witnesses-at-spec =

@@ -1,6 +1,6 @@
 -- `scene_table::validity::cell_size` meets its contract. Assumes nothing.
 use native.Mathlib.Omega.{arith}
-use Rattle.scene_table.specs.Walk.{cellSize}
+use Rattle.scene_table.specs.RecordsWalk.{cellSize}
 use borrow.Author.Needs.{needs}
 use Rattle.scene_table.proofs.validity.cell_size.Statement.{statement}
 use Rattle.scene_table.proofs.validity.cell_size.Tie as tie

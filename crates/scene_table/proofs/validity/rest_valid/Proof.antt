@@ -1,13 +1,12 @@
 -- `scene_table::validity::rest_valid` meets its contract. Assumes nothing.
-use Rattle.scene_table.specs.Lent.{sceneFrom, blankScene}
-use Rattle.scene_table.specs.Places.{digitCount}
-use Rattle.scene_table.specs.Walk.{need, zerosBehind, restOk}
+use Rattle.scene_table.specs.Lent.{sceneFrom, blankScene, digitCount, bytesPlace, scriptPlace, transactionPlace}
+use Rattle.scene_table.specs.RecordsWalk.{required, zerosBehind, restOk}
 use borrow.Author.Needs.{needs}
 use Rattle.scene_table.proofs.validity.rest_valid.Statement.{statement}
 use Rattle.scene_table.proofs.validity.rest_valid.Tie as tie
 
 returns : tie.Need-returns
-unfolding need zerosBehind restOk digitCount sceneFrom blankScene
+unfolding required zerosBehind restOk digitCount sceneFrom scriptPlace transactionPlace bytesPlace blankScene
 returns c = rw
     (c .require3 .ensures, c .before .zeros-from .ensures, c .before .before .require2 .ensures, c .before .before .before .before .require .ensures, c .before .before .before .before .before .digits-valid .ensures, c .before .before .before .before .before .before .walk-lines .ensures, c .before .before .before .before .before .before .before .digit-count .ensures, c .before .before .before .before .before .before .before .before .verdicts-at .ensures .0)
 

@@ -3,7 +3,7 @@ use mathlib.Core.Path.{_≡_, sym, _∙_}
 use Prim.Native.Nat.{_+_, _-_, _*_, _≤_}
 use native.Mathlib.Nat.{sub-zero}
 use native.Mathlib.Omega.{arith}
-use Rattle.scene_table.specs.Walk.{walkRecords, recordOk, recordSize}
+use Rattle.scene_table.specs.RecordsWalk.{walkRecords, recordOk, recordSize}
 use Rattle.scene_table.proofs.WalkLaws.{walk-turn, walk-end}
 use borrow.Author.Needs.{needs}
 use Rattle.scene_table.proofs.validity.walk_records.Statement.{statement}

@@ -8,7 +8,7 @@ use borrow.Author.Tests.{eq-eqb, ne-eqb}
 use lib.Dec.{eqb}
 use lib.ListN.{length, drop, getD}
 use Rattle.octets.specs.Lists.{every}
-use Rattle.scene_table.proofs.WalkLaws.{every-turn, every-end}
+use Rattle.octets.proofs.Every.{every-first, every-end}
 use Rattle.scene_table.proofs.validity.zeros_from.Statement.{statement}
 use Rattle.scene_table.proofs.validity.zeros_from.Tie as tie
 
@@ -25,7 +25,7 @@ loop-again : tie.Need-loop-again Inv-loop μ-loop
 loop-again c =
     let l = c .before .before .before .loop in
     let T = c .before .before .before .before .args .table .now in
-    let turn = every-turn good T (l .at) (c .before .before .loop-test .taken) in
+    let turn = every-first good T (l .at) (c .before .before .loop-test .taken) in
     ⊎-elim
     (λ w. rw (w .1) (sym (and-false (l .zero)) ∙ rw (turn, ne-eqb (getD T (l .at) 0) 0 (w .0 .taken)) at (l .inv)))
     (λ w. rw (w .1) (rw (turn, eq-eqb (getD T (l .at) 0) 0 (w .0 .left)) at (l .inv)))
@@ -34,7 +34,7 @@ loop-again c =
 returns : tie.Need-returns Inv-loop μ-loop
 returns c =
     let l = c .before .loop in
-    sym (and-true (l .zero)) ∙ rw (sym (every-end good (c .before .before .args .table .now) (l .at) (c .loop-test .left))) at (l .inv)
+    sym (and-true (l .zero)) ∙ rw (every-end good (c .before .before .args .table .now) (l .at) (c .loop-test .left)) at (l .inv)
 
 pub zeros-from-spec : {M : Type 1} → statement M
 zeros-from-spec =

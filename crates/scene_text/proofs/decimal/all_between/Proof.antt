@@ -4,7 +4,8 @@ use Prim.Native.Nat.{_-_, _≤_}
 use mathlib.Core.Path.{_≡_, refl, sym, _∙_}
 use lib.ListN.{length, drop}
 use Rattle.octets.specs.Lists.{every}
-use Rattle.scene_text.proofs.Tests.{between-yes, between-under, between-over, all-on, all-off, all-end}
+use Rattle.octets.proofs.Every.{every-on, every-off, every-end}
+use Rattle.scene_text.proofs.RangeLaws.{between-yes, between-under, between-over}
 use Rattle.scene_text.specs.Text.{inRange}
 use Rattle.scene_text.proofs.decimal.all_between.Statement.{statement}
 use Rattle.scene_text.proofs.decimal.all_between.Tie as tie
@@ -22,22 +23,22 @@ returns : tie.Need-returns Inv-loop μ-loop
 returns c =
     let a = c .before .before .before .before .args in
     let l = c .before .before .before .loop in
-    sym (l .inv .1 ∙ all-off (inRange (a .low) (a .high)) (a .s .now) (l .i) (c .before .before .loop-test .taken) (between-under _ _ _ (c .if1 .taken)))
+    sym (l .inv .1 ∙ every-off (inRange (a .low) (a .high)) (a .s .now) (l .i) (c .before .before .loop-test .taken) (between-under _ _ _ (c .if1 .taken)))
 
 returns-2 : tie.Need-returns-2 Inv-loop μ-loop
 returns-2 c =
     let a = c .before .before .before .before .before .before .args in
     let l = c .before .before .before .before .before .loop in
-    sym (l .inv .1 ∙ all-off (inRange (a .low) (a .high)) (a .s .now) (l .i) (c .before .before .before .before .loop-test .taken) (between-over (a .low) _ _ (c .if2 .taken)))
+    sym (l .inv .1 ∙ every-off (inRange (a .low) (a .high)) (a .s .now) (l .i) (c .before .before .before .before .loop-test .taken) (between-over (a .low) _ _ (c .if2 .taken)))
 
 loop-again : tie.Need-loop-again Inv-loop μ-loop
 loop-again c =
     let a = c .before .before .before .before .before .before .args in
     let l = c .before .before .before .before .before .loop in
-    (search needs, l .inv .1 ∙ all-on (inRange (a .low) (a .high)) (a .s .now) (l .i) (c .before .before .before .before .loop-test .taken) (between-yes _ _ _ (c .before .before .if1 .left) (c .if2 .left)))
+    (search needs, l .inv .1 ∙ every-on (inRange (a .low) (a .high)) (a .s .now) (l .i) (c .before .before .before .before .loop-test .taken) (between-yes _ _ _ (c .before .before .if1 .left) (c .if2 .left)))
 
 returns-3 : tie.Need-returns-3 Inv-loop μ-loop
-returns-3 c = sym (c .before .loop .inv .1 ∙ all-end _ _ _ (c .loop-test .left))
+returns-3 c = sym (c .before .loop .inv .1 ∙ every-end _ _ _ (c .loop-test .left))
 
 pub all-between-spec : {M : Type 1} → statement M
 all-between-spec =

@@ -5,8 +5,8 @@ use mathlib.Core.Path.{_≡_, refl, sym, _∙_}
 use borrow.Author.Needs.{needs}
 use lib.ListN.{length, drop}
 use Rattle.octets.specs.Lists.{every}
+use Rattle.octets.proofs.Every.{every-next, every-end}
 use Rattle.scene_text.specs.Text.{hexOk, isHex}
-use Rattle.scene_text.proofs.Tests.{all-next, all-end}
 use Rattle.scene_text.proofs.hex.hex_ok.Statement.{statement}
 use Rattle.scene_text.proofs.hex.hex_ok.Tie as tie
 
@@ -24,12 +24,12 @@ loop-again : tie.Need-loop-again Inv-loop μ-loop
 loop-again c =
     let l = c .before .before .before .loop in
     let s = c .before .before .before .before .before .args .s .now in
-    (search needs, l .inv .1 ∙ all-next isHex s (l .i) (c .before .before .loop-test .taken) (l .ok) (c .is-hex .result) (c .is-hex .ensures))
+    (search needs, l .inv .1 ∙ every-next isHex s (l .i) (c .before .before .loop-test .taken) (l .ok) (c .is-hex .result) (c .is-hex .ensures))
 
 returns : tie.Need-returns Inv-loop μ-loop
 returns c =
     let l = c .before .loop in
-    sym (l .inv .1 ∙ rw (all-end isHex _ (l .i) (c .loop-test .left)) (and-true (l .ok)))
+    sym (l .inv .1 ∙ rw (every-end isHex _ (l .i) (c .loop-test .left)) (and-true (l .ok)))
 
 pub hex-ok-spec : {M : Type 1} → statement M
 hex-ok-spec =

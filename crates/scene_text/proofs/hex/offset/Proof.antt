@@ -1,7 +1,7 @@
 -- `scene_text::hex::offset` meets its contract. Assumes nothing.
 use native.Mathlib.Omega.{arith}
 use borrow.Author.Needs.{needs}
-use Rattle.scene_text.proofs.Tests.{between-yes, between-under, between-over}
+use Rattle.scene_text.proofs.RangeLaws.{between-yes, between-under, between-over}
 use Rattle.scene_text.proofs.hex.offset.Statement.{statement}
 use Rattle.scene_text.proofs.hex.offset.Tie as tie
 

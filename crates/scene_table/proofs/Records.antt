@@ -1,4 +1,4 @@
--- Rows of a table: how many, one by one, and what is left of them.
+-- Records of a table: how many, one by one, and what is left of them.
 -- Assumes nothing.
 use mathlib.Core.Path.{_≡_, refl, ap, _∙_}
 use mathlib.Core.List.{List, [], _∷_}
@@ -27,33 +27,33 @@ listed l n f long nth = record {
 
 module _ {A : Type 0} (read : ℕ → A) (w : ℕ) where
   -- the next record
-  next-row : (at i : ℕ) → at + w + w * i ≡ at + w * suc i
-  next-row at i = rw mul-suc (omega arith)
+  record-next : (at i : ℕ) → at + w + w * i ≡ at + w * suc i
+  record-next at i = rw mul-suc (omega arith)
 
-  pub length-rows : (n at : ℕ) → length (recordsAt read w n at) ≡ n
+  pub length-records : (n at : ℕ) → length (recordsAt read w n at) ≡ n
   unfolding recordsAt
-  length-rows zero at = refl
-  length-rows (suc n) at = ap suc (length-rows n (at + w))
+  length-records zero at = refl
+  length-records (suc n) at = ap suc (length-records n (at + w))
 
   -- record i
-  pub row-nth : (n at i : ℕ) (d : A) → i < n → getD (recordsAt read w n at) i d ≡ read (at + w * i)
+  pub record-nth : (n at i : ℕ) (d : A) → i < n → getD (recordsAt read w n at) i d ≡ read (at + w * i)
   unfolding recordsAt
-  row-nth zero at i d h = absurd (not-suc-le-zero h)
-  row-nth (suc n) at zero d h = ap read (rw mul-zero (omega arith))
-  row-nth (suc n) at (suc i) d h = row-nth n (at + w) i d (le-of-suc-le-suc h) ∙ ap read (next-row at i)
+  record-nth zero at i d h = absurd (not-suc-le-zero h)
+  record-nth (suc n) at zero d h = ap read (rw mul-zero (omega arith))
+  record-nth (suc n) at (suc i) d h = record-nth n (at + w) i d (le-of-suc-le-suc h) ∙ ap read (record-next at i)
 
   -- no record
-  pub row-past : (n at i : ℕ) (d : A) → n ≤ i → getD (recordsAt read w n at) i d ≡ d
+  pub record-past : (n at i : ℕ) (d : A) → n ≤ i → getD (recordsAt read w n at) i d ≡ d
   unfolding recordsAt
-  row-past zero at i d h = refl
-  row-past (suc n) at zero d h = absurd (not-suc-le-zero h)
-  row-past (suc n) at (suc i) d h = row-past n (at + w) i d (le-of-suc-le-suc h)
+  record-past zero at i d h = refl
+  record-past (suc n) at zero d h = absurd (not-suc-le-zero h)
+  record-past (suc n) at (suc i) d h = record-past n (at + w) i d (le-of-suc-le-suc h)
 
   -- after the last turn nothing is left
-  pub rows-end : (n at i : ℕ) → n ≤ i → recordsAt read w (n - i) at ≡ []
+  pub records-end : (n at i : ℕ) → n ≤ i → recordsAt read w (n - i) at ≡ []
   unfolding recordsAt
-  rows-end n at i h = let e : n - i ≡ 0 = omega arith in rw e
+  records-end n at i h = let e : n - i ≡ 0 = omega arith in rw e
 
   -- the records as a list
-  pub rows-listed : (n at : ℕ) → Listed (recordsAt read w n at) n (λ i. read (at + w * i))
-  rows-listed n at = listed (recordsAt read w n at) n (λ i. read (at + w * i)) (length-rows n at) (row-nth n at)
+  pub records-listed : (n at : ℕ) → Listed (recordsAt read w n at) n (λ i. read (at + w * i))
+  records-listed n at = listed (recordsAt read w n at) n (λ i. read (at + w * i)) (length-records n at) (record-nth n at)
