@@ -46,7 +46,7 @@ pub use self::header::StateHeader;
 pub use self::header::StateHeaderAnswer;
 pub use self::thresholds::check_thresholds;
 pub use self::walk::StateSummary;
-pub use self::walk::share;
+pub use self::walk::capable_share;
 
 pub enum StateAnswer {
     Valid(StateHeader, StateSummary),

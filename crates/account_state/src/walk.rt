@@ -34,7 +34,7 @@ pub(crate) enum EntriesWalkAnswer {
 }
 
 // The weight that an entry adds to the capability of a bit; 0 is no bit.
-pub fn share(bit: u16, capabilities: u16, weight: u16) -> u32
+pub fn capable_share(bit: u16, capabilities: u16, weight: u16) -> u32
     ensures { λ r. ⌜ (r ≡ capableShare bit capabilities weight) × (r < 65536) ⌝ }
 {
     if bit == 0 {
@@ -48,9 +48,10 @@ fn with_entry(summary: StateSummary, capabilities: u16, weight: u16) -> StateSum
     ensures { λ r. ⌜ r ≡ withEntry summary capabilities weight ⌝ }
 {
     StateSummary {
-        spend_weight: summary.spend_weight + share(CAP_SPEND, capabilities, weight),
-        rotate_weight: summary.rotate_weight + share(CAP_ROTATE, capabilities, weight),
-        recovery_weight: summary.recovery_weight + share(CAP_RECOVERY, capabilities, weight),
+        spend_weight: summary.spend_weight + capable_share(CAP_SPEND, capabilities, weight),
+        rotate_weight: summary.rotate_weight + capable_share(CAP_ROTATE, capabilities, weight),
+        recovery_weight: summary.recovery_weight
+            + capable_share(CAP_RECOVERY, capabilities, weight),
     }
 }
 

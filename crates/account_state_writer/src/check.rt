@@ -10,9 +10,9 @@ use crate::slices::LENT_WEIGHT;
 use crate::slices::LENT_WIDTH;
 use account_state::EntryFields;
 use account_state::StateSummary;
+use account_state::capable_share;
 use account_state::check_entry_fields;
 use account_state::check_thresholds;
-use account_state::share;
 use protocol::AUTHENTICATOR_MAX_COUNT;
 use protocol::CAP_RECOVERY;
 use protocol::CAP_ROTATE;
@@ -93,7 +93,7 @@ fn lent_capable_weight(bit: u16, fields: &[u16], count: usize) -> u32
     let mut sum: u32 = 0;
     while i < count {
         let start = LENT_WIDTH * i;
-        sum += share(
+        sum += capable_share(
             bit,
             fields[start + LENT_CAPABILITIES],
             fields[start + LENT_WEIGHT],

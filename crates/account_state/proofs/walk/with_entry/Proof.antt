@@ -7,7 +7,7 @@ use Rattle.account_state.proofs.walk.with_entry.Tie as tie
 returns : tie.Need-returns
 unfolding withEntry
 returns c =
-    rw (c .before .share3 .ensures .0, c .before .before .before .share2 .ensures .0, c .before .before .before .before .before .share .ensures .0)
+    rw (c .before .capable-share3 .ensures .0, c .before .before .before .capable-share2 .ensures .0, c .before .before .before .before .before .capable-share .ensures .0)
 
 pub with-entry-spec : {M : Type 1} → statement M
 with-entry-spec =

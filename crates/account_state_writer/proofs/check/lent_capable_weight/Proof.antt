@@ -32,7 +32,7 @@ loop-again c =
     let l = c3 .before .loop in
     let a = c3 .before .before .before .args in
     let w = weight-turn (a .fields .now) (a .count) (l .i) (c3 .loop-test .taken) (a .bit) in
-    let z = c .share .ensures in
+    let z = c .capable-share .ensures in
     let h = l .inv in
     (omega arith, rw (z .0) (omega (arith, w, h .1)), omega (arith, z .1, h .2))
 
@@ -58,7 +58,7 @@ lent-capable-weight-spec =
     (λ c. omega arith)
     (λ c. omega arith)
     (λ c κs. search needs)
-    (λ c. omega (arith, c .share .ensures .1))
+    (λ c. omega (arith, c .capable-share .ensures .1))
     (λ c. omega arith)
     (λ c. omega arith)
     loop-again

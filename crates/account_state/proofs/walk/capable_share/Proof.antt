@@ -1,4 +1,4 @@
--- `account_state::walk::share` meets its contract: by the capability bit. Assumes nothing.
+-- `account_state::walk::capable_share` meets its contract: by the capability bit. Assumes nothing.
 use mathlib.Core.Path.{_≡_, refl}
 use mathlib.Core.Bool.{cond}
 use Prim.Native.Nat.{ℕ, zero, suc, _*_, _/_, _%_, _≤_, _<_}
@@ -8,8 +8,8 @@ use lib.Dec.{eqb}
 use Rattle.protocol.specs.Policy.{hasCapability}
 use Rattle.account_state.specs.Reading.{capableShare}
 use borrow.Author.Needs.{needs}
-use Rattle.account_state.proofs.walk.share.Statement.{statement}
-use Rattle.account_state.proofs.walk.share.Tie as tie
+use Rattle.account_state.proofs.walk.capable_share.Statement.{statement}
+use Rattle.account_state.proofs.walk.capable_share.Tie as tie
 
 -- a bit times a number
 bit-times : (k n : ℕ) → k < 2 → (k * n ≡ cond (eqb k 1) n 0) × (k * n ≤ n)
@@ -34,5 +34,5 @@ returns-2 c =
     let b = bit-times (a .capabilities / a .bit % 2) (a .weight) (omega arith) in
     (b .0, omega (arith, b .1, c .before .fits .weight))
 
-pub share-spec : {M : Type 1} → statement M
-share-spec = tie.close (tie.spec returns (λ c. search needs) (λ c. search needs) mul-result returns-2)
+pub capable-share-spec : {M : Type 1} → statement M
+capable-share-spec = tie.close (tie.spec returns (λ c. search needs) (λ c. search needs) mul-result returns-2)
