@@ -1,11 +1,14 @@
 // The program: decides the scene of standard input, and prints one line `answer,NUMBER,COUNT,LENGTH,DIGEST`. Where standard input
 // cannot be read it prints none, and says so on standard error.
+use decide_scene::PROGRAM_SCENE_MAX_LEN;
 use decide_scene::program_line;
 use libc::STDERR_FILENO;
 use libc::STDIN_FILENO;
 use libc::STDOUT_FILENO;
 ghost use mathlib.Core.Path.{_≡_};
+ghost use Prim.Native.Nat.{_+_};
 ghost use lib.ListN.{length};
+ghost use Rattle.decide_scene.specs.Decided.{programSceneMaxLength};
 ghost use Rattle.account_lock_cli.specs.Within.{Within};
 
 // What reading gave: so many bytes, or a read failed.
@@ -56,10 +59,10 @@ fn print_answer(scene: &[u8]) {
 }
 
 // Room for a scene that is one byte too long, so that it is seen to be.
-fn scene_buffer() -> [u8; 65537]
-    ensures { λ r. ⌜ 65537 ≡ length r ⌝ }
+fn scene_buffer() -> [u8; PROGRAM_SCENE_MAX_LEN + 1]
+    ensures { λ r. ⌜ programSceneMaxLength + 1 ≡ length r ⌝ }
 {
-    [0; 65537]
+    [0; PROGRAM_SCENE_MAX_LEN + 1]
 }
 
 fn main() {

@@ -1,4 +1,4 @@
-// Text put into a slice from a place on, as far as there is room.
+// Text put into a slice from an index on, as far as there is room.
 ghost use mathlib.Core.Path.{_≡_};
 ghost use mathlib.Core.List.{[], _∷_};
 ghost use Prim.Native.Nat.{_+_, _*_, _≤_, _<_};

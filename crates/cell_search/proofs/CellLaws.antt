@@ -68,7 +68,7 @@ module _ (from : Source) (table store : List ℕ) (i : ℕ) where
       go true e = sym (cell-there (ltb-true i (cellCount from table) e))
       go false e = sym (cell-missing (ltb-false i (cellCount from table) e))
 
--- the places of the cells that have the hash, from cell k on
+-- the indices of the cells that have the hash, from cell k on
 unfoldable pub matchFrom : CellField → List ℕ → List Cell → ℕ → List ℕ
 matchFrom f hash cells k = matching f hash k (drop k cells)
 
@@ -85,7 +85,7 @@ module _ (f : CellField) (hash : List ℕ) {cells : List Cell} {n : ℕ} {g : �
   unfolding matchFrom matching
   match-end h = rw (l .none k h)
 
--- the places behind an answer, as many of them as tell the answers apart
+-- the indices behind an answer, as many of them as tell the answers apart
 unfoldable pub placesOf : Search → List ℕ
 placesOf Missing = []
 placesOf (One k) = k ∷ []
@@ -105,7 +105,7 @@ second-match Missing k xs o = absurd (⊎-elim (λ e. omega arith) (λ e. omega 
 second-match (One j) k xs o = refl
 second-match Several k xs o = refl
 
--- none, one and several, told by how many places there are
+-- none, one and several, told by how many indices there are
 pub missing-count : (xs : List ℕ) → eqb (length xs) 0 ≡ isMissing (searchOf xs)
 unfolding searchOf
 missing-count [] = refl

@@ -21,8 +21,8 @@ unfoldable pub cellHash : CellField → Cell → List ℕ
 cellHash field.TypeHash c = c .typeHash
 cellHash field.DataHash c = c .dataHash
 
--- the places, counted from k, of the cells whose hash this is; a hash has 32 bytes, so a cell without a type script has no
--- place by its type hash
+-- the indices, counted from k, of the cells whose hash this is; a hash has 32 bytes, so a cell without a type script has no
+-- index by its type hash
 unfoldable pub matching : CellField → List ℕ → ℕ → List Cell → List ℕ
 matching f hash k [] = []
 matching f hash k (c ∷ cs) = cond (same (cellHash f c) hash) (k ∷ matching f hash (k + 1) cs) (matching f hash (k + 1) cs)
@@ -54,13 +54,13 @@ isSeveral Missing = false
 isSeveral (One k) = false
 isSeveral Several = true
 
--- the place of the one cell, 0 where there is none or several
+-- the index of the one cell, 0 where there is none or several
 abbrev pub indexOf : Search → ℕ
 indexOf Missing = 0
 indexOf (One k) = k
 indexOf Several = 0
 
--- the cell at a place
+-- the cell at an index
 unfoldable pub noCell : Cell
 noCell = record { typeHash = []; dataHash = []; typeScript = []; content = [] }
 

@@ -25,7 +25,7 @@ use Rattle.scene_line.specs.Line.{nextForm, hexForm, fieldBytes, lineBytes}
 use Rattle.scene_line.specs.Kind.{firstForm, lineKind, lineFields}
 use Rattle.scene_reader.specs.Reader.{ReaderState, ReaderOutcome, outcomeAfter, linePutAs, lineRows, rowsOfLine, linePut, sceneEndRows, linesOutcome, readerStart, sceneLimitRows, readOf, readerCheck}
 use Rattle.scene_reader.specs.Room.{sceneEndOutcome}
-use Rattle.scene_reader.proofs.Runs.{run-passed, run-failed, run-last, limits-passed, limits-failed, pieces-some}
+use Rattle.scene_reader.proofs.LinesOutcome.{run-passed, run-failed, run-last, limits-passed, limits-failed, pieces-some}
 use Rattle.protocol.specs.Limits.{tableMinEntries}
 
 -- the pieces of a text have no more bytes than it

@@ -20,7 +20,7 @@ ghost use Rattle.account_lock.specs.Lock.{answerOf};
 ghost use Rattle.decide_scene.specs.Decided.{programDecides, programLine, decidedInto, lockAnswerLine};
 
 // The longest scene that the program reads.
-const PROGRAM_SCENE_MAX_LEN: usize = 65_536;
+pub const PROGRAM_SCENE_MAX_LEN: usize = 65_536;
 
 // The line that the program prints: the first `length` bytes.
 pub struct ProgramLine {

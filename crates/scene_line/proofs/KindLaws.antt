@@ -1,4 +1,4 @@
--- The kinds' places and fields, and what a line's kind says. Assumes nothing.
+-- The kinds' ranks and fields, and what a line's kind says. Assumes nothing.
 use Prim.Native.Nat.{ℕ, _<_}
 use mathlib.Core.Bool.{Bool, true, false, cond, _&&_}
 use mathlib.Core.Path.{_≡_, refl}
@@ -12,15 +12,15 @@ use Rattle.scene_line.specs.declared.kind.Kind.{Kind}
 use Rattle.scene_line.specs.declared.kind.Kind.the-variants.{Script, Tx, Input, Output, Dep, Witness, Verdicts, Unknown}
 use Rattle.scene_line.specs.Kind.{rank, fieldCount, kindOf, follows, lineKind}
 
-pub place-small : (k : Kind) → rank k < 8
-place-small Script = omega arith
-place-small Tx = omega arith
-place-small Input = omega arith
-place-small Output = omega arith
-place-small Dep = omega arith
-place-small Witness = omega arith
-place-small Verdicts = omega arith
-place-small Unknown = omega arith
+pub rank-small : (k : Kind) → rank k < 8
+rank-small Script = omega arith
+rank-small Tx = omega arith
+rank-small Input = omega arith
+rank-small Output = omega arith
+rank-small Dep = omega arith
+rank-small Witness = omega arith
+rank-small Verdicts = omega arith
+rank-small Unknown = omega arith
 
 -- a line has a field at least
 pub counted : (k : Kind) → eqb 0 (fieldCount k) ≡ false

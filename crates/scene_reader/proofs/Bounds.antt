@@ -16,7 +16,7 @@ use Rattle.scene_line.specs.declared.kind.Kind.{Kind}
 use Rattle.scene_line.specs.declared.kind.Kind.the-variants.{Script, Tx, Input, Output, Dep, Witness, Verdicts, Unknown}
 use Rattle.scene_text.specs.Text.{hexVal, sinceOf, inRange}
 use Rattle.scene_line.specs.Line.{nextForm, fieldEntries, lineEntries, formsOk}
-use Rattle.scene_line.proofs.KindLaws.{place-small}
+use Rattle.scene_line.proofs.KindLaws.{rank-small}
 use Rattle.scene_line.specs.Kind.{rank, fieldCount, firstForm, follows}
 use Rattle.protocol.specs.Limits.{tableMinEntries}
 use Rattle.octets.proofs.Truth.{and-left, and-right}
@@ -71,21 +71,21 @@ numbers-few t (f ∷ fs) e =
     omega (arith, length-append (fieldEntries t f) (lineEntries (nextForm t) fs), numbers-few (nextForm t) fs (stays t e), adds t f (length fs) e)
 
 -- what a line adds to the table: at most 6 entries, or 18 for verdicts
-pub row-few : (k : Kind) (fs : List (List ℕ)) → length fs ≡ fieldCount k → formsOk true (firstForm k) fs ≡ true
+pub entries-few : (k : Kind) (fs : List (List ℕ)) → length fs ≡ fieldCount k → formsOk true (firstForm k) fs ≡ true
     → 1 + length (lineEntries (firstForm k) fs) ≤ 6 + 12 * (rank k - 6)
 unfolding most notDigits lineEntries formsOk
-row-few Script fs n ok = omega (arith, numbers-few Hex fs refl)
-row-few Tx fs n ok = omega (arith, numbers-few Hash fs refl)
-row-few Input fs n ok = omega (arith, numbers-few Group fs refl)
-row-few Output fs n ok = omega (arith, numbers-few TypeHash fs refl)
-row-few Dep fs n ok = omega (arith, numbers-few TypeHash fs refl)
-row-few Witness fs n ok = omega (arith, numbers-few Hex fs refl)
-row-few Verdicts [] n ok = omega arith
-row-few Verdicts (f ∷ []) n ok =
+entries-few Script fs n ok = omega (arith, numbers-few Hex fs refl)
+entries-few Tx fs n ok = omega (arith, numbers-few Hash fs refl)
+entries-few Input fs n ok = omega (arith, numbers-few Group fs refl)
+entries-few Output fs n ok = omega (arith, numbers-few TypeHash fs refl)
+entries-few Dep fs n ok = omega (arith, numbers-few TypeHash fs refl)
+entries-few Witness fs n ok = omega (arith, numbers-few Hex fs refl)
+entries-few Verdicts [] n ok = omega arith
+entries-few Verdicts (f ∷ []) n ok =
     let short : length f ≤ 16 = leb-true (length f) 16 (and-left (leb (length f) 16) (every (inRange 48 50) f) (and-left (leb (length f) 16 && every (inRange 48 50) f) true ok)) in
     omega (arith, length-map f hexVal, length-append (fieldEntries Digits f) [])
-row-few Verdicts (f ∷ g ∷ fs) n ok = absurd (omega arith)
-row-few Unknown fs n ok = omega (arith, numbers-few Hex fs refl)
+entries-few Verdicts (f ∷ g ∷ fs) n ok = absurd (omega arith)
+entries-few Unknown fs n ok = omega (arith, numbers-few Hex fs refl)
 
 pub seen-few : (last seen k : ℕ) → seenWith last seen k ≤ seen + 1
 seen-few last seen k = go (eqb k last)
@@ -94,7 +94,7 @@ seen-few last seen k = go (eqb k last)
     go true = omega arith
     go false = omega arith
 
--- what the order says of two places
+-- what the order says of two ranks
 order : (last k : ℕ) → follows last k ≡ true → ((last < 2) × (k ≡ last + 1)) ⊎ ((2 ≤ last) × (3 ≤ k) × (last ≤ k) × (last ≡ 7 → ⊥))
 unfolding follows
 order last k e = go (ltb last 2) refl e
@@ -160,7 +160,7 @@ pub fits : (last seen filled : ℕ) (k : Kind) (fs : List (List ℕ)) → last <
     → length fs ≡ fieldCount k → follows last (rank k) ≡ true → formsOk true (firstForm k) fs ≡ true
     → filled + 1 + length (lineEntries (firstForm k) fs) ≤ entriesLimit (rank k) (seenWith last seen (rank k))
 fits last seen filled k fs hl hs hf hn n o ok =
-    let h = grows last seen (rank k) (seenWith last seen (rank k)) (1 + length (lineEntries (firstForm k) fs)) filled (place-small k) hs hn hf (row-few k fs n ok) (order last (rank k) o) (seen-either last seen (rank k)) in
+    let h = grows last seen (rank k) (seenWith last seen (rank k)) (1 + length (lineEntries (firstForm k) fs)) filled (rank-small k) hs hn hf (entries-few k fs n ok) (order last (rank k) o) (seen-either last seen (rank k)) in
     let e : filled + 1 + length (lineEntries (firstForm k) fs) ≡ filled + (1 + length (lineEntries (firstForm k) fs)) = omega arith in
     rw e h
 

@@ -1,8 +1,8 @@
 pub mod Zeroed
 pub mod NumberLaws
 pub mod Bounds
-pub mod Runs
-pub mod LineRows
+pub mod LinesOutcome
+pub mod LinePasses
 pub mod PutDown
 pub mod FieldsPut
-pub mod Theorem
+pub mod SceneRefuses

@@ -12,13 +12,13 @@ use Rattle.scene_line.specs.declared.fields.FieldsFound.{FieldsFound}
 use Rattle.scene_line.specs.declared.kind.Kind.{Kind}
 use Rattle.scene_line.specs.Line.{lineBytes, lineEntries, fieldsFound}
 use Rattle.scene_line.specs.Kind.{rank, fieldCount, firstForm, follows}
-use Rattle.scene_line.proofs.KindLaws.{place-small}
+use Rattle.scene_line.proofs.KindLaws.{rank-small}
 use Rattle.scene_reader.specs.declared.state.State.{State}
 use Rattle.scene_reader.specs.declared.state.LineStep.the-variants.{Next}
 use Rattle.scene_reader.specs.Reader.{ReaderState, held, seenWith, linePutAs}
 use Rattle.scene_reader.specs.Room.{stateHolding, lineOutcomeAs, entriesLimit, ReaderReady, ReadyAfter}
 use Rattle.scene_reader.proofs.Bounds.{fits, entries-limit-small}
-use Rattle.scene_reader.proofs.LineRows.{Passes}
+use Rattle.scene_reader.proofs.LinePasses.{Passes}
 
 module _ (s : State) (st tb : List ℕ) (k : Kind) (fs : List (List ℕ)) where
   -- the state and the lists after the line, part by part, are the line put down
@@ -52,8 +52,8 @@ module _ (s : State) (st tb : List ℕ) (k : Kind) (fs : List (List ℕ)) where
     pub room : (rank k < length tb) × (s .filled + 1 + length (lineEntries (firstForm k) fs) ≤ length tb)
     room =
         let least = ready .enough in
-        let small = entries-limit-small (rank k) (seenWith (s .last) (s .seen) (rank k)) (place-small k) (z .few) in
-        (omega (arith, least, place-small k), omega (arith, least, small, within))
+        let small = entries-limit-small (rank k) (seenWith (s .last) (s .seen) (rank k)) (rank-small k) (z .few) in
+        (omega (arith, least, rank-small k), omega (arith, least, small, within))
 
     -- what the line's step gives
     pub stepped : (r : State) (st′ tb′ : List ℕ) → stateHolding r st′ tb′ ≡ linePutAs (stateHolding s st tb) k fs → held (stateHolding r st′ tb′) ≡ lineOutcomeAs (stateHolding s st tb) k fs
@@ -70,7 +70,7 @@ module _ (s : State) (st tb : List ℕ) (k : Kind) (fs : List (List ℕ)) where
         let filled′ : r .filled ≡ s .filled + 1 + length (lineEntries (firstForm k) fs) = ap (λ (g : ReaderState). g .filled) e in
         let small = ready .small in (
           record {
-            known = rw last′ (place-small k);
+            known = rw last′ (rank-small k);
             few = rw seen′ (z .few);
             inside = rw used′ (z .room);
             small = omega (arith, used′, few, small);

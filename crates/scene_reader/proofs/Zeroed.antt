@@ -1,4 +1,4 @@
--- A loop that zeroes a list place by place. Assumes nothing.
+-- A loop that zeroes a list entry by entry. Assumes nothing.
 use Prim.Native.Nat.{ℕ, _+_, _≤_, _<_}
 use mathlib.Core.Path.{_≡_, refl, ap, _∙_}
 use mathlib.Core.List.{List, [], _++_, append-nil}
@@ -7,7 +7,7 @@ use native.Mathlib.Omega.{arith}
 use borrow.Author.Fill.{fill-none, fill-more}
 use lib.ListN.{length, drop, set, replicate, length-set, drop-of-length-le}
 
--- the loop has come to place i of l, and the list is now s
+-- the loop has come to index i of l, and the list is now s
 pub record Zeroed (l s : List ℕ) (i : ℕ) : Type 0 where
   pub within : i ≤ length l
   pub long : length s ≡ length l

@@ -37,7 +37,7 @@ abbrev pub seenWith : ℕ → ℕ → ℕ → ℕ
 seenWith last seen k = cond (eqb k last) (seen + 1) 1
 
 -- 01: "The reader puts the bytes of all hexadecimal fields end to end into a lent store, the rest into a lent u32 table": a line
--- put down. Its kind's count stands at the table's entry `rank k`; behind the table's entries the place of its bytes in the
+-- put down. Its kind's count stands at the table's entry `rank k`; behind the table's entries the offset of its bytes in the
 -- store and its numbers; behind the store's bytes its bytes
 unfoldable pub linePutAs : ReaderState → Kind → List (List ℕ) → ReaderState
 linePutAs h k fs = record {

@@ -1,7 +1,7 @@
 // What the reader holds between two lines.
 use protocol::ProtocolError;
 
-// The place of the last kind, how many lines of it were read, how many bytes of the store and how many entries of the table
+// The rank of the last kind, how many lines of it were read, how many bytes of the store and how many entries of the table
 // are used.
 pub(crate) struct State {
     pub last: usize,

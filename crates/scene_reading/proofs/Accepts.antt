@@ -14,8 +14,8 @@ use Rattle.scene_reader.specs.Reader.{ReaderState, held, seenWith, linesOutcome
 use Rattle.scene_reading.specs.Lines.{LinesAccepted, kindOfLine, countOk, formOk, bytesOfLine}
 use Rattle.octets.proofs.Truth.{and-both, both-and}
 use Rattle.scene_reading.proofs.Order.{Order}
-use Rattle.scene_reading.proofs.Ordered.{order-kinds, kinds-order}
-use Rattle.scene_reading.proofs.Run.{LinesPass, Ran, putLines, lines-run, run-text}
+use Rattle.scene_reading.proofs.KindsOrder.{order-kinds, kinds-order}
+use Rattle.scene_reading.proofs.LinesPass.{LinesPass, Ran, putLines, lines-run, run-text}
 
 -- what the rows say of all lines together
 record Together (last seen used size : ℕ) (ls : List (List ℕ)) : Type 0 where

@@ -25,7 +25,7 @@ use Rattle.scene_reading.proofs.Accepts.{accepted-passes, passes-accept
 use Rattle.scene_reading.proofs.Leaves.{bytes-fit, passes-leaves}
 use Rattle.scene_reading.proofs.PrintBack.{reading-ok}
 use Rattle.scene_table.proofs.SceneBack.{numbers-few}
-use Rattle.scene_reading.proofs.Theorem.{scene-accepts, scene-encodes}
+use Rattle.scene_reading.proofs.SceneAccepts.{scene-accepts, scene-encodes}
 use Rattle.scene_reading.proofs.Printed.{printed-passes, printed-lines, printed-reading}
 
 -- the lent table and store of an accepted text are read as its scene

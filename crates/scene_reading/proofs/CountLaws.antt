@@ -13,8 +13,8 @@ use Rattle.scene_line.specs.declared.kind.Kind.the-variants.{Input, Output, Dep
 use Rattle.scene_line.specs.Kind.{rank}
 use Rattle.scene_reader.specs.Reader.{seenWith}
 use Rattle.scene_reading.specs.Lines.{kindsOf}
-use Rattle.scene_line.proofs.KindLaws.{place-small}
-use Rattle.scene_reading.proofs.Ordered.{bodyKinds, body-right}
+use Rattle.scene_line.proofs.KindLaws.{rank-small}
+use Rattle.scene_reading.proofs.KindsOrder.{bodyKinds, body-right}
 
 -- a table after the counts of lines of these kinds
 unfoldable pub counted : List ℕ → ℕ → ℕ → List Kind → List ℕ
@@ -32,7 +32,7 @@ pub counted-behind : (ks : List Kind) (t : List ℕ) (last seen at : ℕ) (vs : 
 unfolding counted
 counted-behind [] t last seen at vs h = refl
 counted-behind (k ∷ ks) t last seen at vs h =
-    let p : rank k < 8 = place-small k in
+    let p : rank k < 8 = rank-small k in
     let s = seenWith last seen (rank k) in
     rw (set-sets vs t (rank k) s at (omega arith)) (counted-behind ks (set t (rank k) s) (rank k) s at vs h)
 

@@ -18,11 +18,11 @@ use Rattle.scene_table.specs.Scene.{Scene, linesOf, countsOf, recordsFrom, scen
 use Rattle.scene_reading.specs.Lines.{LinesAccepted, kindsOf, kindOfLine, fieldsOfLine, bytesOfLine}
 use Rattle.scene_reading.specs.Reading.{sceneOf}
 use Rattle.scene_table.proofs.SceneBack.{sayable}
-use Rattle.scene_reading.proofs.Run.{putLine, putLines, held-same}
+use Rattle.scene_reading.proofs.LinesPass.{putLine, putLines, held-same}
 use Rattle.scene_reading.proofs.Accepts.{passes-run}
-use Rattle.scene_reading.proofs.LineRows.{lineIn, rowOf}
-use Rattle.scene_reading.proofs.PrintLines.{Rows, each-rows}
-use Rattle.scene_reading.proofs.Printed.{row-bytes, scene-prints}
+use Rattle.scene_reading.proofs.LinesPut.{lineIn, lineRead}
+use Rattle.scene_reading.proofs.PrintLines.{LinesPrinted, each-printed}
+use Rattle.scene_reading.proofs.Printed.{line-bytes, scene-prints}
 use Rattle.scene_reading.proofs.PrintBack.{reading-ok, lines-back}
 use Rattle.scene_reading.proofs.CountLaws.{counted, counted-behind, counts-set}
 
@@ -35,8 +35,8 @@ module _ (h : ReaderState) (l : List ℕ) where
 
   table-line : (ks : List Kind) (rs : List ℕ) → 8 ≤ h .filled
       → sets (counted (putLine h l .table) (putLine h l .last) (putLine h l .seen) ks) (putLine h l .filled) rs
-      ≡ sets (counted (h .table) (h .last) (h .seen) (kindOfLine l ∷ ks)) (h .filled) ((h .used ∷ rowOf l .numbers) ++ rs)
-  unfolding putLine linePutAs counted rowOf lineIn
+      ≡ sets (counted (h .table) (h .last) (h .seen) (kindOfLine l ∷ ks)) (h .filled) ((h .used ∷ lineRead l .numbers) ++ rs)
+  unfolding putLine linePutAs counted lineRead lineIn
   table-line ks rs e =
       let k = kindOfLine l in
       let s = seenWith (h .last) (h .seen) (rank k) in
@@ -54,17 +54,17 @@ unfolding putLines joined
 store-lines [] h = refl
 store-lines (l ∷ ls) h = store-lines ls (putLine h l) ∙ store-line h l (joined (map bytesOfLine ls))
 
-used-line : (h : ReaderState) (l : List ℕ) → putLine h l .used ≡ h .used + length (rowOf l .bytes)
-unfolding putLine linePutAs rowOf lineIn
+used-line : (h : ReaderState) (l : List ℕ) → putLine h l .used ≡ h .used + length (lineRead l .bytes)
+unfolding putLine linePutAs lineRead lineIn
 used-line h l = refl
 
 table-lines : (ls : List (List ℕ)) (h : ReaderState) → 8 ≤ h .filled
-    → putLines h ls .table ≡ sets (counted (h .table) (h .last) (h .seen) (map kindOfLine ls)) (h .filled) (recordsFrom (h .used) (map rowOf ls))
+    → putLines h ls .table ≡ sets (counted (h .table) (h .last) (h .seen) (map kindOfLine ls)) (h .filled) (recordsFrom (h .used) (map lineRead ls))
 unfolding putLines counted recordsFrom
 table-lines [] h e = refl
 table-lines (l ∷ ls) h e =
     table-lines ls (putLine h l) (behind-counts h l e)
-    ∙ (table-line h l (map kindOfLine ls) (recordsFrom (putLine h l .used) (map rowOf ls)) e ∙ rw (used-line h l))
+    ∙ (table-line h l (map kindOfLine ls) (recordsFrom (putLine h l .used) (map lineRead ls)) e ∙ rw (used-line h l))
 
 -- ---- zeros behind
 
@@ -85,19 +85,19 @@ module _ (text : List ℕ) (n : ℕ) (p : LinesAccepted text n) where
   scene = sceneOf (p .lines)
 
   -- the lines are those of the scene that they say
-  said : Rows (p .lines) (kindsOf (length (scene .inputs)) (length (scene .outputs)) (length (scene .deps)) (length (scene .witnesses))) (linesOf scene)
+  said : LinesPrinted (p .lines) (kindsOf (length (scene .inputs)) (length (scene .outputs)) (length (scene .deps)) (length (scene .witnesses))) (linesOf scene)
   unfolding scene
-  said = rw (lines-back text n p) at (each-rows (scene-prints scene (sayable scene (reading-ok text n p))))
+  said = rw (lines-back text n p) at (each-printed (scene-prints scene (sayable scene (reading-ok text n p))))
 
   -- their bytes are the scene's
   bytes-said : joined (map bytesOfLine (p .lines)) ≡ sceneBytes scene
   unfolding sceneBytes
-  bytes-said = rw (row-bytes (p .lines), said .rows)
+  bytes-said = rw (line-bytes (p .lines), said .read)
 
-  -- and their rows
-  numbers-said : countsOf scene ++ recordsFrom 0 (map rowOf (p .lines)) ≡ sceneNumbers scene
+  -- and their records
+  numbers-said : countsOf scene ++ recordsFrom 0 (map lineRead (p .lines)) ≡ sceneNumbers scene
   unfolding sceneNumbers
-  numbers-said = rw (said .rows)
+  numbers-said = rw (said .read)
 
   -- the store holds the scene's bytes
   pub bytes-fit : length (sceneBytes (sceneOf (p .lines))) ≤ n
@@ -125,8 +125,8 @@ module _ (text : List ℕ) (n : ℕ) (p : LinesAccepted text n) where
     unfolding readerStart sceneTable countsOf
     table-left h =
         table-lines (p .lines) (readerStart n m) (omega arith)
-        ∙ (ap (λ (t : List ℕ). sets t 8 (recordsFrom 0 (map rowOf (p .lines)))) (counts-left (counts-room h))
-        ∙ (sets-append (replicate m 0) 0 (countsOf scene) (recordsFrom 0 (map rowOf (p .lines))) 8 refl
+        ∙ (ap (λ (t : List ℕ). sets t 8 (recordsFrom 0 (map lineRead (p .lines)))) (counts-left (counts-room h))
+        ∙ (sets-append (replicate m 0) 0 (countsOf scene) (recordsFrom 0 (map lineRead (p .lines))) 8 refl
         ∙ rw numbers-said (front-padded (sceneNumbers scene) m h)))
 
     -- what the run holds at the end

@@ -1,11 +1,11 @@
 pub mod Order
-pub mod Ordered
-pub mod Run
+pub mod KindsOrder
+pub mod LinesPass
 pub mod Accepts
-pub mod LineRows
+pub mod LinesPut
 pub mod CountLaws
 pub mod Leaves
-pub mod Theorem
+pub mod SceneAccepts
 pub mod PrintPieces
 pub mod PrintDigits
 pub mod PrintFields

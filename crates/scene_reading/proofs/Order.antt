@@ -44,7 +44,7 @@ pub body-follows : (last k : ℕ) → 2 ≤ last → 3 ≤ k → last ≤ k → 
 unfolding follows
 body-follows last k h a b c = rw (le-ltb last 2 h, le-leb 3 k a, le-leb last k b, ne-eqb last 7 (λ e. omega arith))
 
--- a line at place q among them
+-- a line of rank q among them
 left-line : (last seen q : ℕ) → last ≤ q → left last seen q ≡ 65 - seenWith last seen q
 left-line last seen q h = by (eqb q last) refl
   where

@@ -65,7 +65,7 @@ type-print a c false e h k =
     let some : length (hexBytes c) ≡ 0 → ⊥ = λ z. omega arith in
     record { ok = rw (ne-eqb (length (hexBytes c)) 0 some, x .ok); hash = x .text; script = y }
 
--- the fields of a line by their places
+-- the fields of a line by their indices
 unfoldable pub fieldsFrom : (ℕ → List ℕ) → ℕ → List (List ℕ)
 fieldsFrom f zero = []
 fieldsFrom f (suc n) = f 0 ∷ fieldsFrom (λ (i : ℕ). f (suc i)) n

@@ -22,7 +22,7 @@ use Rattle.octets.proofs.Truth.{and-left, and-right}
 use Rattle.scene_text.specs.Print.{partedBy, lineText, hexText, digitsText}
 use Rattle.scene_reading.specs.Lines.{wordOf, kindOfLine, fieldsOfLine, countOk, formOk}
 use Rattle.scene_reading.specs.Print.{cellFields, inputFields, inputText, cellText, bytesText}
-use Rattle.scene_reading.proofs.LineRows.{lineIn, rowOf, hex-row, hash-row, digits-row, cell-row, input-row}
+use Rattle.scene_reading.proofs.LinesPut.{lineIn, lineRead, hex-put, hash-put, digits-put, cell-put, input-put}
 use Rattle.scene_reading.proofs.PrintPieces.{without, line-pieces}
 use Rattle.scene_reading.proofs.PrintDigits.{hex-back, hex-ok, hex-high, digits-form, digits-high, digits-length, digits-back}
 use Rattle.scene_reading.proofs.PrintFields.{HashHolds, hash-form, CellHolds, cell-high, cell-form, cell-back, InputHolds, input-high, input-form, input-back}
@@ -90,7 +90,7 @@ pub record Prints (l : List ℕ) (k : Kind) (line : Line) : Type 0 where
   pub says : Says l k fields
   pub counted : eqb (length fields) (fieldCount k) ≡ true
   pub formed : formsOk true (firstForm k) fields ≡ true
-  pub row : lineIn (firstForm k) fields ≡ line
+  pub read : lineIn (firstForm k) fields ≡ line
 
 -- lines of bytes and of cells
 module _ (k : Kind) where
@@ -110,7 +110,7 @@ module _ (k : Kind) where
         says = bytes-says bs h;
         counted = rw n;
         formed = rw (f, hex-ok bs h);
-        row = rw f (hex-row (hexText bs) ∙ rw (hex-back bs h));
+        read = rw f (hex-put (hexText bs) ∙ rw (hex-back bs h));
       }
 
   pub cell-prints : firstForm k ≡ TypeHash → fieldCount k ≡ 4 → (c : Cell) → CellHolds c → Prints (cellText (kindWord k) c) k (cellLine c)
@@ -121,7 +121,7 @@ module _ (k : Kind) where
         says = cell-says c h;
         counted = rw n;
         formed = rw f (cell-form c h);
-        row = rw f (cell-row _ _ _ _ ∙ ap cellLine (cell-back c h));
+        read = rw f (cell-put _ _ _ _ ∙ ap cellLine (cell-back c h));
       }
 
 pub hash-prints : (hash : List ℕ) → HashHolds hash → Prints (bytesText tx hash) kind.Tx (hashLine hash)
@@ -132,7 +132,7 @@ hash-prints hash h =
       says = bytes-says kind.Tx hash (h .bytes);
       counted = refl;
       formed = rw (hash-form hash h);
-      row = hash-row (hexText hash) ∙ rw (hex-back hash (h .bytes));
+      read = hash-put (hexText hash) ∙ rw (hex-back hash (h .bytes));
     }
 
 pub input-says : (i : Input) → InputHolds i → Says (inputText i) kind.Input (inputFields i)
@@ -147,7 +147,7 @@ input-prints i h =
       says = input-says i h;
       counted = refl;
       formed = input-form i h;
-      row = input-row _ _ _ _ _ _ ∙ ap inputLine (input-back i h);
+      read = input-put _ _ _ _ _ _ ∙ ap inputLine (input-back i h);
     }
 
 pub record DigitsHold (ds : List ℕ) : Type 0 where
@@ -166,7 +166,7 @@ digits-prints ds h =
       says = digits-says ds h;
       counted = refl;
       formed = rw (digits-length ds, le-leb (length ds) 16 (h .few), digits-form 3 (omega arith) ds (h .each));
-      row = digits-row (digitsText ds) ∙ rw (digits-back 3 (omega arith) ds (h .each));
+      read = digits-put (digitsText ds) ∙ rw (digits-back 3 (omega arith) ds (h .each));
     }
 
 -- lines one by one, with their kinds and with what they hold
@@ -189,18 +189,18 @@ each-map ok text k line p (x ∷ xs) h =
     more (p x (and-left (ok x) (every ok xs) h)) (each-map ok text k line p xs (and-right (ok x) (every ok xs) h))
 
 -- what the line rows ask of all of them, and what the reader puts down of them
-pub record Rows (ls : List (List ℕ)) (ks : List Kind) (lines : List Line) : Type 0 where
+pub record LinesPrinted (ls : List (List ℕ)) (ks : List Kind) (lines : List Line) : Type 0 where
   pub ended : every (without lineEnd) ls ≡ true
   pub ordered : map kindOfLine ls ≡ ks
   pub counted : every countOk ls ≡ true
   pub formed : every formOk ls ≡ true
-  pub rows : map rowOf ls ≡ lines
+  pub read : map lineRead ls ≡ lines
 
-pub each-rows : {ls : List (List ℕ)} {ks : List Kind} {lines : List Line} → EachPrints ls ks lines → Rows ls ks lines
-unfolding every countOk formOk rowOf
-each-rows none = record { ended = refl; ordered = refl; counted = refl; formed = refl; rows = refl }
-each-rows (more p r) =
-    let h = each-rows r in
+pub each-printed : {ls : List (List ℕ)} {ks : List Kind} {lines : List Line} → EachPrints ls ks lines → LinesPrinted ls ks lines
+unfolding every countOk formOk lineRead
+each-printed none = record { ended = refl; ordered = refl; counted = refl; formed = refl; read = refl }
+each-printed (more p r) =
+    let h = each-printed r in
     let k = p .says .kind in
     let f = p .says .fields in
     record {
@@ -208,5 +208,5 @@ each-rows (more p r) =
       ordered = rw (k, h .ordered);
       counted = rw (k, f, p .counted, h .counted);
       formed = rw (k, f, p .formed, h .formed);
-      rows = rw (k, f, p .row, h .rows);
+      read = rw (k, f, p .read, h .read);
     }

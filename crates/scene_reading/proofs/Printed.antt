@@ -19,13 +19,13 @@ use Rattle.scene_text.specs.Print.{hexText, digitsText}
 use Rattle.scene_reading.specs.Lines.{kindsOf, bytesOfLine, LinesAccepted}
 use Rattle.scene_reading.specs.Print.{cellFields, inputFields, inputText, cellText, bytesText, textLines, textOf}
 use Rattle.scene_reading.specs.Reading.{cellOf, inputOf, bytesField, fieldsOfKind, onlyField, sceneOf}
-use Rattle.scene_reading.proofs.LineRows.{lineIn, rowOf}
+use Rattle.scene_reading.proofs.LinesPut.{lineIn, lineRead}
 use Rattle.scene_table.proofs.Lines.{right-nested}
 use Rattle.scene_table.proofs.SceneBack.{Sayable, sayable}
 use Rattle.scene_reading.proofs.PrintPieces.{lines-pieces}
 use Rattle.scene_reading.proofs.PrintDigits.{hex-back, digits-back}
 use Rattle.scene_reading.proofs.PrintFields.{hash-holds, cell-holds, cell-back, input-holds, input-back}
-use Rattle.scene_reading.proofs.PrintLines.{Says, bytes-says, cell-says, input-says, digits-says, bytes-prints, hash-prints, input-prints, cell-prints, digits-prints, EachPrints, none, more, each-append, each-map, each-rows}
+use Rattle.scene_reading.proofs.PrintLines.{Says, bytes-says, cell-says, input-says, digits-says, bytes-prints, hash-prints, input-prints, cell-prints, digits-prints, EachPrints, none, more, each-append, each-map, each-printed}
 
 -- each line of the printed text, with its kind and with what it holds
 pub scene-prints : (s : Scene) → Sayable s
@@ -41,22 +41,22 @@ scene-prints s h =
     each-append (each-append (each-append (each-append head outputs) deps) witnesses) verdict
 
 -- the bytes of lines are those that the reader puts down
-pub row-bytes : (ls : List (List ℕ)) → map bytesOfLine ls ≡ map (λ (l : Line). l .bytes) (map rowOf ls)
-unfolding bytesOfLine rowOf lineIn
-row-bytes [] = refl
-row-bytes (l ∷ ls) = ap (λ (t : List (List ℕ)). bytesOfLine l ∷ t) (row-bytes ls)
+pub line-bytes : (ls : List (List ℕ)) → map bytesOfLine ls ≡ map (λ (l : Line). l .bytes) (map lineRead ls)
+unfolding bytesOfLine lineRead lineIn
+line-bytes [] = refl
+line-bytes (l ∷ ls) = ap (λ (t : List (List ℕ)). bytesOfLine l ∷ t) (line-bytes ls)
 
 -- the printed text is cut into its lines
 pub printed-pieces : (s : Scene) → sceneOk s ≡ true → pieces lineEnd (textOf s) ≡ textLines s ++ ([] ∷ [])
 unfolding textOf
-printed-pieces s ok = lines-pieces (textLines s) (each-rows (scene-prints s (sayable s ok)) .ended)
+printed-pieces s ok = lines-pieces (textLines s) (each-printed (scene-prints s (sayable s ok)) .ended)
 
 -- no line row refuses it
 unfoldable pub printed-passes : (s : Scene) (n : ℕ) → sceneOk s ≡ true → length (sceneBytes s) ≤ n → LinesAccepted (textOf s) n
 unfolding sceneBytes
 printed-passes s n ok room =
     let h = sayable s ok in
-    let r = each-rows (scene-prints s h) in
+    let r = each-printed (scene-prints s h) in
     record {
       lines = textLines s;
       inputs = length (s .inputs);
@@ -71,7 +71,7 @@ printed-passes s n ok room =
       few-deps = h .fewDeps;
       few-witnesses = h .fewWitnesses;
       formed = r .formed;
-      room = rw (row-bytes (textLines s), r .rows) room;
+      room = rw (line-bytes (textLines s), r .read) room;
     }
 
 -- its lines are the printed ones

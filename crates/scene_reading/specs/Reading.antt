@@ -18,7 +18,7 @@ unfoldable pub numberIn : Decimal → ℕ
 numberIn (Value v) = v
 numberIn Invalid = 0
 
--- "TYPEHASH,DATAHASH,TYPESCRIPT,DATA", the first of them at a place
+-- "TYPEHASH,DATAHASH,TYPESCRIPT,DATA", the first of them at an index
 unfoldable pub cellOf : ℕ → List (List ℕ) → Cell
 cellOf at fs = record {
   typeHash = hexBytes (getD fs at []);

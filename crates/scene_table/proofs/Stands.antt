@@ -23,7 +23,7 @@ unfolding bytesOf joined
 bytes-append [] ms = refl
 bytes-append (l ∷ ls) ms = rw (bytes-append ls ms) (sym (append-assoc (l .bytes) (joined (map (λ (l : Line). l .bytes) ls)) (joined (map (λ (l : Line). l .bytes) ms))))
 
--- lines whose records begin at entry `at` and whose bytes begin at place `used`
+-- lines whose records begin at entry `at` and whose bytes begin at offset `used`
 pub record Stands (table store : List ℕ) (at used : ℕ) (ls : List Line) : Type 0 where
   pub before : List ℕ
   pub after : List ℕ

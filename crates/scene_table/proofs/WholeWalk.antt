@@ -1,4 +1,4 @@
--- The walk over all lines that a table says: each kind's records hold the table's own numbers, so only their places are tested.
+-- The walk over all lines that a table says: each kind's records hold the table's own numbers, so only their offsets are tested.
 -- Assumes nothing.
 use mathlib.Core.Path.{_≡_, refl, _∙_}
 use mathlib.Core.Bool.{true}

@@ -13,7 +13,7 @@ use Rattle.scene_table.specs.declared.places.CellPlaces.{CellPlaces}
 unfoldable pub tableEntry : List ℕ → ℕ → ℕ
 tableEntry table i = getD table i 0
 
--- "1 to 7: the number of lines of each kind": of those that may stand more than once
+-- "the number of lines of each kind": of those that may stand more than once
 abbrev pub inputCount : List ℕ → ℕ
 inputCount table = tableEntry table 3
 
@@ -58,7 +58,7 @@ witnessesAt table = depsAt table + cellWidth * depCount table
 unfoldable pub verdictsAt : List ℕ → ℕ
 verdictsAt table = witnessesAt table + bytesWidth * witnessCount table
 
--- "verdicts: offset, number of digits, the digits"
+-- the verdicts' record: "offset, number of digits, the digits"
 unfoldable pub digitCount : List ℕ → ℕ
 digitCount table = tableEntry table (verdictsAt table + 1)
 
@@ -69,11 +69,11 @@ digitsAt table = verdictsAt table + 2
 abbrev pub recordOffset : List ℕ → ℕ → ℕ
 recordOffset table at = tableEntry table at
 
--- "script", "witness": "offset, length"
+-- of the script and of a witness: "offset, length"
 abbrev pub bytesLength : List ℕ → ℕ → ℕ
 bytesLength table at = tableEntry table (at + 1)
 
--- "input": "offset, GROUP, low and high half of SINCE, length of TYPESCRIPT, length of DATA"
+-- of an input: "offset, GROUP, low and high half of SINCE, length of TYPESCRIPT, length of DATA"
 abbrev pub inputRecordGroup : List ℕ → ℕ → ℕ
 inputRecordGroup table at = tableEntry table (at + 1)
 
@@ -86,7 +86,7 @@ inputScriptLength table at = tableEntry table (at + 4)
 abbrev pub inputDataLength : List ℕ → ℕ → ℕ
 inputDataLength table at = tableEntry table (at + 5)
 
--- "output, dep": "offset, length of TYPESCRIPT, length of DATA"
+-- of an output or a dep: "offset, length of TYPESCRIPT, length of DATA"
 abbrev pub cellScriptLength : List ℕ → ℕ → ℕ
 cellScriptLength table at = tableEntry table (at + 1)
 

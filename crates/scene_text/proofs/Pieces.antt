@@ -48,11 +48,11 @@ pub cut-end : (c : ℕ) (s : List ℕ) (i : ℕ) → i ≡ length s → before (
 unfolding pieces before
 cut-end c s i e = rw (drop-of-length-le s (le-of-eq (sym e))) (ap (λ (q : List ℕ). q ∷ []) (append-nil (take i s)))
 
--- whichever way a text is cut, its first piece is what stands before the place
+-- whichever way a text is cut, its first piece is what stands before the cut
 pub cut-first : (c : ℕ) (s : List ℕ) (n : ℕ) → Cut c s n → (ps : List (List ℕ)) × (pieces c s ≡ take n s ∷ ps)
 cut-first c s n k = ⊎-elim (λ e. ([], k .whole e)) (λ h. (pieces c (drop (n + 1) s), k .cut h)) (eq-or-lt-of-le (k .within))
 
--- so there is one such place: the first piece's length
+-- so there is one such index: the first piece's length
 pub cut-place : (c : ℕ) (s : List ℕ) (n : ℕ) → Cut c s n → n ≡ length (getD (pieces c s) 0 [])
 cut-place c s n k = rw (cut-first c s n k .1) (sym (length-take-le n s (k .within)))
 

@@ -11,7 +11,7 @@ pub const LINE_END: u8 = b'\n';
 
 pub const COMMA: u8 = b',';
 
-// The place of the first c in s, or the length of s.
+// The index of the first c in s, or the length of s.
 pub fn find(s: &[u8], c: u8) -> usize
     ensures { λ r. ⌜ Cut c (now (s .entry)) r ⌝ }
 {
@@ -25,7 +25,7 @@ pub fn find(s: &[u8], c: u8) -> usize
     i
 }
 
-// The piece of s before the place e.
+// The piece of s before index e.
 pub fn head(s: &[u8], e: usize) -> &[u8]
     ensures { λ r. ⌜ now r ≡ take e (now (s .entry)) ⌝ }
     ensures { λ r. ⌜ length (now r) ≡ min e (length (now (s .entry))) ⌝ }

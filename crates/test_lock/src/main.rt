@@ -8,12 +8,15 @@ mod record; // record.rt
 use crate::record::behind_record;
 use crate::record::run;
 use crate::record::value;
+use protocol::ANSWER_BUFFER_LEN;
+use protocol::TABLE_MIN_ENTRIES;
 use scene_text::LINE_END;
 use scene_text::find;
 use scene_text::head;
 use scene_text::tail;
 ghost use mathlib.Core.Path.{_≡_};
 ghost use lib.ListN.{length};
+ghost use Rattle.protocol.specs.Limits.{answerBufferLength, tableMinEntries};
 
 struct Counts {
     passed: u64,
@@ -59,16 +62,16 @@ fn records() -> [u8; 3407872]
 }
 
 // Room for the bytes of any of the scenes, and for any answer.
-fn bytes() -> [u8; 148992]
-    ensures { λ r. ⌜ 148992 ≡ length r ⌝ }
+fn bytes() -> [u8; ANSWER_BUFFER_LEN]
+    ensures { λ r. ⌜ answerBufferLength ≡ length r ⌝ }
 {
-    [0; 148992]
+    [0; ANSWER_BUFFER_LEN]
 }
 
-fn words() -> [u32; 2048]
-    ensures { λ r. ⌜ 2048 ≡ length r ⌝ }
+fn words() -> [u32; TABLE_MIN_ENTRIES]
+    ensures { λ r. ⌜ tableMinEntries ≡ length r ⌝ }
 {
-    [0; 2048]
+    [0; TABLE_MIN_ENTRIES]
 }
 
 fn main() {

@@ -107,7 +107,7 @@ pub(crate) fn add(case: Case, fields: &[u8], ending: &[u8], scene: &mut [u8]) ->
     }
 }
 
-// Whether all entries from the place `from` on are zero.
+// Whether all entries from index `from` on are zero.
 fn zero_from(words: &[u32], from: usize) -> bool {
     let mut i = from;
     while i < words.len() {

@@ -12,14 +12,17 @@ use crate::case::add;
 use crate::case::begin;
 use crate::case::run;
 use octets::u8_at;
+use protocol::SCENE_MAX_LEN;
+use protocol::TABLE_MIN_ENTRIES;
 use scene_text::COMMA;
 use scene_text::LINE_END;
 use scene_text::find;
 use scene_text::head;
 use scene_text::tail;
 ghost use mathlib.Core.Path.{_≡_};
-ghost use Prim.Native.Nat.{_≤_};
+ghost use Prim.Native.Nat.{_+_, _≤_};
 ghost use lib.ListN.{length};
+ghost use Rattle.protocol.specs.Limits.{sceneMaxLength, tableMinEntries};
 
 // What a line of the list, told by its first letter, makes of the case.
 fn step(case: Case, line: &[u8], scene: &mut [u8], store: &mut [u8], table: &mut [u32]) -> Case
@@ -59,16 +62,16 @@ fn run_all(list: &[u8], scene: &mut [u8], store: &mut [u8], table: &mut [u32]) -
 }
 
 // Room for a scene that is one byte too long.
-fn long_buffer() -> [u8; 1048577]
-    ensures { λ r. ⌜ 1048577 ≡ length r ⌝ }
+fn long_buffer() -> [u8; SCENE_MAX_LEN + 1]
+    ensures { λ r. ⌜ sceneMaxLength + 1 ≡ length r ⌝ }
 {
-    [1; 1048577]
+    [1; SCENE_MAX_LEN + 1]
 }
 
-fn words() -> [u32; 2048]
-    ensures { λ r. ⌜ 2048 ≡ length r ⌝ }
+fn words() -> [u32; TABLE_MIN_ENTRIES]
+    ensures { λ r. ⌜ tableMinEntries ≡ length r ⌝ }
 {
-    [1; 2048]
+    [1; TABLE_MIN_ENTRIES]
 }
 
 fn main() {

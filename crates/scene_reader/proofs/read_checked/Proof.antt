@@ -5,7 +5,7 @@ use lib.ListN.{length}
 use Rattle.protocol.specs.Rows.{decide}
 use Rattle.protocol.specs.declared.check.Check.the-variants.{Passed}
 use Rattle.scene_reader.specs.Reader.{sceneLimitRows}
-use Rattle.scene_reader.proofs.Runs.{limits-within, limits-passed, limits-failed}
+use Rattle.scene_reader.proofs.LinesOutcome.{limits-within, limits-passed, limits-failed}
 use Rattle.scene_reader.proofs.read_checked.Statement.{statement}
 use Rattle.scene_reader.proofs.read_checked.Tie as tie
 

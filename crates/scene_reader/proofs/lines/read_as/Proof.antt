@@ -5,7 +5,7 @@ use borrow.Author.Needs.{needs}
 use lib.ListN.{length}
 use Rattle.scene_text.specs.Text.{pieces, comma}
 use Rattle.scene_reader.specs.Room.{stateHolding}
-use Rattle.scene_reader.proofs.LineRows.{line-passes}
+use Rattle.scene_reader.proofs.LinePasses.{line-passes}
 use Rattle.scene_reader.proofs.PutDown.{found-as, counted, room, stepped, kept}
 use Rattle.scene_reader.proofs.lines.read_as.Statement.{statement}
 use Rattle.scene_reader.proofs.lines.read_as.Tie as tie

@@ -3,7 +3,7 @@ use native.Mathlib.Omega.{arith}
 use lib.ListN.{length, take}
 use borrow.Author.Needs.{needs}
 use mathlib.Core.Bool.{and-false}
-use Rattle.scene_reader.proofs.Runs.{kept-more, step-cut}
+use Rattle.scene_reader.proofs.LinesOutcome.{kept-more, step-cut}
 use Rattle.protocol.specs.Rows.{_▷_, decide}
 use Rattle.scene_text.specs.Text.{pieces, comma}
 use Rattle.scene_line.proofs.KindLaws.{shape, counted}

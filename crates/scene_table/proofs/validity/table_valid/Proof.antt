@@ -3,7 +3,7 @@ use mathlib.Core.Path.{_≡_, sym, _∙_}
 use mathlib.Core.Bool.{true, false}
 use Rattle.scene_table.specs.Lent.{tableEntry}
 use Rattle.scene_table.specs.RecordsWalk.{countsOk}
-use Rattle.scene_table.proofs.Decides.{decides}
+use Rattle.scene_table.proofs.WalkDecides.{decides}
 use borrow.Author.Needs.{needs}
 use Rattle.scene_table.proofs.validity.table_valid.Statement.{statement}
 use Rattle.scene_table.proofs.validity.table_valid.Tie as tie

@@ -11,7 +11,7 @@ use borrow.Author.Tests.{lt-ltb, ne-eqb, eqb-true, eqb-false}
 use Rattle.scene_line.specs.declared.kind.Kind.{Kind}
 use Rattle.scene_line.specs.declared.kind.Kind.the-variants.{Script, Tx, Input, Output, Dep, Witness, Verdicts, Unknown}
 use Rattle.scene_line.specs.Kind.{rank, follows}
-use Rattle.scene_line.proofs.KindLaws.{place-small}
+use Rattle.scene_line.proofs.KindLaws.{rank-small}
 use Rattle.scene_reader.specs.Reader.{seenWith}
 use Rattle.scene_table.proofs.Lines.{right-nested}
 use lib.ListN.{replicate}
@@ -26,7 +26,7 @@ pub body-right : (a b c d : ℕ) → bodyKinds a b c d ≡ replicate a Input ++ 
 unfolding bodyKinds
 body-right a b c d = right-nested (replicate a Input) (replicate b Output) (replicate c Dep) (replicate d Witness) (Verdicts ∷ [])
 
--- ---- a place tells the kind
+-- ---- a rank tells the kind
 
 kindAt : ℕ → Kind
 kindAt p =
@@ -50,7 +50,7 @@ same-place j k e = sym (kind-at j) ∙ (ap kindAt e ∙ kind-at k)
 
 -- ---- kinds in order: a run of each
 
--- the first of the kinds stands at place p or behind it
+-- the first of the kinds has the rank p or a later one
 From : ℕ → List Kind → Type 0
 From p [] = Unit {0}
 From p (k ∷ ks) = p ≤ rank k
@@ -134,7 +134,7 @@ verdicts-alone : (ks : List Kind) (last seen : ℕ) → last ≤ 6 → From 7 ks
 unfolding Order From
 verdicts-alone [] last seen h f r = absurd (omega arith)
 verdicts-alone (k ∷ ks) last seen h f r =
-    let m : rank k < 8 = place-small k in
+    let m : rank k < 8 = rank-small k in
     let q : rank k ≡ 7 = omega arith in
     let e : k ≡ Verdicts = same-place k Verdicts q in
     let o : ks ≡ [] = nothing-behind (seenWith last seen 7) ks (rw q at (r .1 .1)) in
@@ -152,7 +152,7 @@ pub record Kinds (ks : List Kind) : Type 0 where
   pub few-deps : deps ≤ 64
   pub few-witnesses : witnesses ≤ 64
 
--- a line at the place behind `last`, one of the first two
+-- a line of the rank behind `last`, one of the first two
 next-line : (k : Kind) (ks : List Kind) (last seen : ℕ) → last < 2 → Order last seen (k ∷ ks) → (rank k ≡ last + 1) × Order (last + 1) 1 ks
 unfolding Order follows
 next-line k ks last seen h r =

@@ -21,22 +21,22 @@ unfoldable pub lineIn : Form → List (List ℕ) → Line
 lineIn t fs = record { bytes = lineBytes t fs; numbers = lineEntries t fs }
 
 -- what it puts down of a line of the text
-unfoldable pub rowOf : List ℕ → Line
-rowOf l = lineIn (firstForm (kindOfLine l)) (fieldsOfLine l)
+unfoldable pub lineRead : List ℕ → Line
+lineRead l = lineIn (firstForm (kindOfLine l)) (fieldsOfLine l)
 
 -- a line with one field: bytes, a hash, digits
 module _ (f : List ℕ) where
-  pub hex-row : lineIn Hex (f ∷ []) ≡ bytesLine (hexBytes f)
+  pub hex-put : lineIn Hex (f ∷ []) ≡ bytesLine (hexBytes f)
   unfolding lineIn lineBytes lineEntries fieldBytes bytesLine
-  hex-row = simp (append-nil, hex-length)
+  hex-put = simp (append-nil, hex-length)
 
-  pub hash-row : lineIn Hash (f ∷ []) ≡ hashLine (hexBytes f)
+  pub hash-put : lineIn Hash (f ∷ []) ≡ hashLine (hexBytes f)
   unfolding lineIn lineBytes lineEntries fieldBytes hashLine
-  hash-row = simp append-nil
+  hash-put = simp append-nil
 
-  pub digits-row : lineIn Digits (f ∷ []) ≡ digitsLine (map hexVal f)
+  pub digits-put : lineIn Digits (f ∷ []) ≡ digitsLine (map hexVal f)
   unfolding lineIn lineBytes lineEntries fieldBytes digitsLine
-  digits-row = simp (append-nil, length-map)
+  digits-put = simp (append-nil, length-map)
 
 -- the halves of SINCE
 halves-number : (n : Decimal) → sinceHalves n ≡ numberIn n % 2 ^ 32 ∷ numberIn n / 2 ^ 32 ∷ []
@@ -46,10 +46,10 @@ halves-number Invalid = refl
 
 -- a line with the fields of a cell, and with those of an input
 module _ (a b c d : List ℕ) where
-  pub cell-row : lineIn TypeHash (a ∷ b ∷ c ∷ d ∷ []) ≡ cellLine (cellOf 0 (a ∷ b ∷ c ∷ d ∷ []))
+  pub cell-put : lineIn TypeHash (a ∷ b ∷ c ∷ d ∷ []) ≡ cellLine (cellOf 0 (a ∷ b ∷ c ∷ d ∷ []))
   unfolding lineIn lineBytes lineEntries fieldBytes cellLine cellBytes cellLengths cellOf
-  cell-row = simp (append-assoc, append-nil, hex-length)
+  cell-put = simp (append-assoc, append-nil, hex-length)
 
-  pub input-row : (g t : List ℕ) → lineIn Group (g ∷ t ∷ a ∷ b ∷ c ∷ d ∷ []) ≡ inputLine (inputOf (g ∷ t ∷ a ∷ b ∷ c ∷ d ∷ []))
+  pub input-put : (g t : List ℕ) → lineIn Group (g ∷ t ∷ a ∷ b ∷ c ∷ d ∷ []) ≡ inputLine (inputOf (g ∷ t ∷ a ∷ b ∷ c ∷ d ∷ []))
   unfolding lineIn lineBytes lineEntries fieldBytes inputLine cellBytes cellLengths inputOf cellOf
-  input-row g t = simp (append-assoc, append-nil, hex-length, halves-number)
+  input-put g t = simp (append-assoc, append-nil, hex-length, halves-number)

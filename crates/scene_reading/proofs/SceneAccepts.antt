@@ -12,8 +12,8 @@ use Rattle.protocol.specs.declared.check.Check.the-variants.{Passed}
 use Rattle.protocol.proofs.AllPass.{all-pass-passed, all-pass-split}
 use Rattle.scene_text.specs.Text.{pieces, lineEnd}
 use Rattle.scene_reader.specs.Reader.{ReaderState, ReaderOutcome, refused, held, linesOutcome, readerStart, sceneLimitRows, sceneRows, readOf, readerCheck}
-use Rattle.scene_reader.proofs.Runs.{limits-within, limits-passed}
-use Rattle.scene_reader.proofs.Theorem as rows
+use Rattle.scene_reader.proofs.LinesOutcome.{limits-within, limits-passed}
+use Rattle.scene_reader.proofs.SceneRefuses as rows
 use Rattle.scene_table.specs.Scene.{sceneNumbers}
 use Rattle.protocol.specs.Limits.{sceneMaxLength, tableMinEntries}
 use Rattle.scene_reading.specs.Lines.{LinesAccepted}

@@ -20,7 +20,7 @@ use Rattle.scene_line.specs.Kind.{rank, fieldCount, firstForm, kindOf, follows,
 use Rattle.scene_line.specs.Line.{formsOk, lineBytes}
 use Rattle.octets.specs.Lists.{same}
 use Rattle.scene_reader.specs.Reader.{ReaderState, refused, held, seenWith, linePutAs, lineRows, rowsOfLine, linePut, sceneEndRows, linesOutcome}
-use Rattle.scene_reader.proofs.Runs.{run-passed, run-failed, run-last, held-passed, pieces-some}
+use Rattle.scene_reader.proofs.LinesOutcome.{run-passed, run-failed, run-last, held-passed, pieces-some}
 use Rattle.scene_reading.specs.Lines.{wordOf, kindOfLine, fieldsOfLine, countOk, formOk, bytesOfLine}
 use Rattle.octets.proofs.Truth.{and-both}
 
