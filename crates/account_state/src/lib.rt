@@ -19,7 +19,7 @@ ghost use mathlib.Core.Path.{_≡_};
 ghost use Prim.Native.Nat.{_≤_};
 ghost use lib.ListN.{length};
 ghost use Rattle.protocol.specs.Rows.{decide};
-ghost use Rattle.account_state.specs.State.{stateHeaderOf, stateAnswer, readState};
+ghost use Rattle.account_state.specs.State.{stateRows, stateHeaderOf, stateAnswer, readState};
 ghost use Rattle.account_state.specs.Walk.{endFault};
 pub use self::entry::AuthenticatorEntry;
 pub use self::entry::EntryCursor;
@@ -92,5 +92,15 @@ pub fn validate_state(state: &[u8]) -> StateAnswer
             WalkAnswer::Refused(error) => StateAnswer::Refused(error),
             WalkAnswer::Walked(walk) => state_end(state, walk),
         },
+    }
+}
+
+// What the checks of the whole state find.
+pub fn check_state(state: &[u8]) -> Check
+    ensures { λ r. ⌜ r ≡ decide Check.Passed (stateRows (now (state .entry))) ⌝ }
+{
+    match validate_state(state) {
+        StateAnswer::Valid(_, _) => Check::Passed,
+        StateAnswer::Refused(error) => Check::Failed(error),
     }
 }

@@ -10,7 +10,8 @@ use protocol::Check;
 use protocol::ProtocolError;
 use protocol::is_operation;
 ghost use mathlib.Core.Path.{_≡_};
-ghost use Rattle.account_witness.specs.Header.{witnessHeaderFault, witnessHeaderOf, readWitnessHeader};
+ghost use Rattle.protocol.specs.Rows.{decide};
+ghost use Rattle.account_witness.specs.Header.{witnessHeaderRows, witnessHeaderOf, readWitnessHeader};
 
 pub struct AccountWitnessHeader {
     pub operation: u8,
@@ -23,8 +24,8 @@ pub enum WitnessHeaderAnswer {
     Refused(ProtocolError),
 }
 
-pub(crate) fn check_header(witness: &[u8]) -> Check
-    ensures { λ r. ⌜ r ≡ witnessHeaderFault (now (witness .entry)) ⌝ }
+pub fn check_witness_header(witness: &[u8]) -> Check
+    ensures { λ r. ⌜ r ≡ decide Check.Passed (witnessHeaderRows (now (witness .entry))) ⌝ }
 {
     let invalid = ProtocolError::InvalidWitness;
     Check::Passed
@@ -51,7 +52,7 @@ pub(crate) fn header_at(witness: &[u8]) -> AccountWitnessHeader
 pub fn parse_witness_header(witness: &[u8]) -> WitnessHeaderAnswer
     ensures { λ r. ⌜ r ≡ readWitnessHeader (now (witness .entry)) ⌝ }
 {
-    match check_header(witness) {
+    match check_witness_header(witness) {
         Check::Failed(error) => WitnessHeaderAnswer::Refused(error),
         Check::Passed => WitnessHeaderAnswer::Header(header_at(witness)),
     }

@@ -9,6 +9,7 @@ pub use self::fields::proof_count_of;
 pub use self::fields::witness_sequence_of;
 pub use self::header::AccountWitnessHeader;
 pub use self::header::WitnessHeaderAnswer;
+pub use self::header::check_witness_header;
 pub use self::header::parse_witness_header;
 pub use self::walk::Proof;
 pub use self::walk::ProofCursor;

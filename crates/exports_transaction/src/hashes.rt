@@ -10,10 +10,7 @@ use protocol::Check;
 use protocol::ProtocolError;
 use scene_table::table_valid;
 ghost use mathlib.Core.Path.{_≡_};
-ghost use lib.ListN.{length};
-ghost use Rattle.protocol.specs.Rows.{checkNumber};
-ghost use Rattle.export_answers.specs.Words.{storedNumber, storedAfter};
-ghost use Rattle.exports_transaction.specs.Answers.{digestBytes, sighashBytes, lentDigest, lentSighash};
+ghost use Rattle.exports_transaction.specs.Answers.{lentDigest, lentSighash, digestReturned, digestLeft, sighashReturned, sighashLeft};
 
 // The digest over an account and a sighash that are lent as slices. One of another length than 32 is 7.
 fn digest_lent(
@@ -53,8 +50,8 @@ pub extern "C" fn fowlcredenza_authorization_digest(
     sighash: &[u8],
     out: &mut [u8],
 ) -> u32
-    ensures { λ r. ⌜ r ≡ storedNumber (checkNumber (lentDigest operation (now (account .entry)) sequence (now (state .entry)) (now (sighash .entry)) .found)) (digestBytes (lentDigest operation (now (account .entry)) sequence (now (state .entry)) (now (sighash .entry)))) (length (now (out .entry))) ⌝ }
-    ensures { λ _. ⌜ now (out .exit) ≡ storedAfter (digestBytes (lentDigest operation (now (account .entry)) sequence (now (state .entry)) (now (sighash .entry)))) (now (out .entry)) ⌝ }
+    ensures { λ r. ⌜ r ≡ digestReturned operation (now (account .entry)) sequence (now (state .entry)) (now (sighash .entry)) (now (out .entry)) ⌝ }
+    ensures { λ _. ⌜ now (out .exit) ≡ digestLeft operation (now (account .entry)) sequence (now (state .entry)) (now (sighash .entry)) (now (out .entry)) ⌝ }
 {
     let answer = digest_lent(operation, account, sequence, state, sighash);
     let found = answer.found;
@@ -84,8 +81,8 @@ pub extern "C" fn fowlcredenza_canonical_group_sighash(
     store: &[u8],
     out: &mut [u8],
 ) -> u32
-    ensures { λ r. ⌜ r ≡ storedNumber (checkNumber (lentSighash (now (table .entry)) (now (store .entry)) .found)) (sighashBytes (lentSighash (now (table .entry)) (now (store .entry)))) (length (now (out .entry))) ⌝ }
-    ensures { λ _. ⌜ now (out .exit) ≡ storedAfter (sighashBytes (lentSighash (now (table .entry)) (now (store .entry)))) (now (out .entry)) ⌝ }
+    ensures { λ r. ⌜ r ≡ sighashReturned (now (table .entry)) (now (store .entry)) (now (out .entry)) ⌝ }
+    ensures { λ _. ⌜ now (out .exit) ≡ sighashLeft (now (table .entry)) (now (store .entry)) (now (out .entry)) ⌝ }
 {
     let answer = sighash_lent(table, store);
     let found = answer.found;

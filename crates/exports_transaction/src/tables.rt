@@ -7,17 +7,16 @@ use molecule::script_args;
 use molecule::witness_lock;
 use protocol::error_number;
 ghost use mathlib.Core.Path.{_≡_};
-ghost use lib.ListN.{length};
 ghost use Rattle.protocol.specs.Write.{writeNumber};
-ghost use Rattle.export_answers.specs.Words.{wordsNumber, wordsAfter, lengthAfter};
-ghost use Rattle.molecule.specs.Bytes.{placeNumber, readWitnessLock, readScriptArgs};
+ghost use Rattle.export_answers.specs.Words.{lengthAfter};
+ghost use Rattle.molecule.specs.Bytes.{readWitnessLock, readScriptArgs};
 ghost use Rattle.molecule.specs.Canonical.{canonicalWritten, canonicalStored};
-ghost use Rattle.exports_transaction.specs.Answers.{placeWords};
+ghost use Rattle.exports_transaction.specs.Answers.{placeReturned, placeLeft};
 
 // A place's number; its start and length are stored.
 fn place_stored(answer: PlaceAnswer, out: &mut [u8]) -> u32
-    ensures { λ r. ⌜ r ≡ wordsNumber (placeNumber answer) (placeWords answer) (length (now (out .entry))) ⌝ }
-    ensures { λ _. ⌜ now (out .exit) ≡ wordsAfter (placeWords answer) (now (out .entry)) ⌝ }
+    ensures { λ r. ⌜ r ≡ placeReturned answer (now (out .entry)) ⌝ }
+    ensures { λ _. ⌜ now (out .exit) ≡ placeLeft answer (now (out .entry)) ⌝ }
 {
     match answer {
         PlaceAnswer::Refused(error) => error_number(error) as u32,
@@ -31,8 +30,8 @@ fn place_stored(answer: PlaceAnswer, out: &mut [u8]) -> u32
 // Stores place and length of the lock's bytes.
 #[no_mangle]
 pub extern "C" fn fowlcredenza_witness_lock(witness: &[u8], out: &mut [u8]) -> u32
-    ensures { λ r. ⌜ r ≡ wordsNumber (placeNumber (readWitnessLock (now (witness .entry)))) (placeWords (readWitnessLock (now (witness .entry)))) (length (now (out .entry))) ⌝ }
-    ensures { λ _. ⌜ now (out .exit) ≡ wordsAfter (placeWords (readWitnessLock (now (witness .entry)))) (now (out .entry)) ⌝ }
+    ensures { λ r. ⌜ r ≡ placeReturned (readWitnessLock (now (witness .entry))) (now (out .entry)) ⌝ }
+    ensures { λ _. ⌜ now (out .exit) ≡ placeLeft (readWitnessLock (now (witness .entry))) (now (out .entry)) ⌝ }
 {
     place_stored(witness_lock(witness), out)
 }
@@ -40,8 +39,8 @@ pub extern "C" fn fowlcredenza_witness_lock(witness: &[u8], out: &mut [u8]) -> u
 // Stores place and length of the args' bytes.
 #[no_mangle]
 pub extern "C" fn fowlcredenza_script_args(script: &[u8], out: &mut [u8]) -> u32
-    ensures { λ r. ⌜ r ≡ wordsNumber (placeNumber (readScriptArgs (now (script .entry)))) (placeWords (readScriptArgs (now (script .entry)))) (length (now (out .entry))) ⌝ }
-    ensures { λ _. ⌜ now (out .exit) ≡ wordsAfter (placeWords (readScriptArgs (now (script .entry)))) (now (out .entry)) ⌝ }
+    ensures { λ r. ⌜ r ≡ placeReturned (readScriptArgs (now (script .entry))) (now (out .entry)) ⌝ }
+    ensures { λ _. ⌜ now (out .exit) ≡ placeLeft (readScriptArgs (now (script .entry))) (now (out .entry)) ⌝ }
 {
     place_stored(script_args(script), out)
 }
