@@ -5,48 +5,40 @@
 use mathlib.Core.Path.{_≡_, refl, sym, ap, _∙_}
 use mathlib.Core.Bool.{Bool, true, false, cond, true≢false}
 use mathlib.Core.List.{List, [], _∷_, _++_}
-use Prim.Native.Nat.{ℕ, suc, _+_, _*_, _≤_}
+use Prim.Native.Nat.{ℕ, _≤_}
 use native.Mathlib.Omega.{arith}
-use lib.Dec.{eqb, leb}
-use lib.ListN.{length, drop, length-append, length-drop, length-take}
+use lib.Dec.{leb}
+use lib.ListN.{length, drop, length-take}
 use lib.Seq.{length-take-le}
-use borrow.Author.Tests.{leb-true}
-use Rattle.octets.specs.Le.{toLe}
-use Rattle.octets.specs.Lists.{joined, every}
-use Rattle.octets.proofs.LeLaws.{length-to}
 use Rattle.octets.proofs.Filled.{length-tabulate}
 use Rattle.blake2b.specs.Rfc7693.{bytesOf, halves, F, hashWords, hashOf}
 use Rattle.blake2b.specs.State.{ckbParameters}
 use Rattle.blake2b.proofs.Bytes.{length-bytes}
 use Rattle.protocol.specs.Rows.{AllPass, decide}
 use Rattle.protocol.proofs.AllPass.{all-pass-split, passed-all-pass, all-pass-passed}
-use Rattle.protocol.specs.declared.error.ProtocolError.the-variants.{InvalidWitness, SlicesDisagree}
+use Rattle.protocol.specs.declared.error.ProtocolError.the-variants.{SlicesDisagree}
 use Rattle.protocol.specs.declared.check.Check.{Check}
 use Rattle.protocol.specs.declared.check.Check.the-variants.{Passed, Failed}
-use Rattle.molecule.specs.Table3.{secondOffsetOf}
 use Rattle.molecule.specs.Canonical.{canonicalOf}
-use Rattle.molecule.proofs.Form.{passes}
-use Rattle.molecule.proofs.CanonicalForm.{length-canonical}
 use Rattle.authorization.specs.Digest.{ckbHash, digestOf, digestInput}
-use Rattle.authorization.specs.Hashed.{hashedWitness}
-use Rattle.authorization.specs.Sighash.{hashedWitnesses, sighashInput}
-use Rattle.authorization.proofs.SighashTheorem.{sighash-theorem}
-use Rattle.scene_table.specs.Scene.{Input, Scene}
+use Rattle.authorization.specs.Sighash.{sighashInput}
+use Rattle.scene_table.specs.Scene.{Scene}
 use Rattle.scene_table.specs.Lent.{tableEntry, sceneFrom, sceneIn, blankScene, witnessCount, transactionPlace}
 use Rattle.scene_table.specs.Valid.{validTable}
 use Rattle.octets.proofs.Truth.{and-both}
 use Rattle.scene_table.proofs.Records.{length-records}
 use Rattle.scene_table.proofs.SceneBack.{sayable}
 use Rattle.scene_table.proofs.PlaceLaws.{lent-given}
-use Rattle.group_sighash.specs.Witnesses.{groupWitnesses, groupOf, firstWitness, otherWitnesses, firstWitnessRows, witnessFits, groupRows, otherRows}
-use Rattle.group_sighash.specs.GroupSighash.{groupSighash}
+use Rattle.group_sighash.specs.Witnesses.{firstWitness, otherWitnesses, otherRows}
+use Rattle.group_sighash.specs.GroupSighash.{sighashRows}
+use Rattle.group_sighash.proofs.SighashHash.{sighash-hash}
 use Rattle.state_transition.specs.Resolve.{resolveRows}
 use Rattle.account_state.specs.Fields.{sequenceOf}
 use Rattle.protocol.specs.Limits.{tableMinEntries, kindMaxLines}
 use Rattle.octets.proofs.Every.{every-split}
 use Rattle.octets.specs.Places.{bytesAt}
 use Rattle.account_lock.specs.Lock.{account, operation, current, statesRows, lateRows, earlyRows, digest, Result, refused, walked, orWalked, walkResult, lockScene, lockOf}
-use Rattle.account_lock.proofs.LockLaws.{group-table}
+use Rattle.account_lock.proofs.LockLaws.{group-hashed}
 use Rattle.account_lock.proofs.LockTheorem.{late, lock-valid}
 
 -- CKB's hash has 32 bytes
@@ -57,65 +49,11 @@ length-hash xs =
     let m : length (hashWords ckbParameters xs) ≡ 8 = length-tabulate _ 8 in
     length-take-le 32 (bytesOf (hashWords ckbParameters xs)) (omega arith)
 
--- witnesses that fit add at most 132,104 bytes each
-hashed-length : (w : List ℕ) → length (hashedWitness w) ≡ 8 + length w
-unfolding hashedWitness
-hashed-length w = length-append (toLe 8 (length w)) w ∙ ap (λ (n : ℕ). n + length w) (length-to 8 (length w))
-
-others-length : (ws : List (List ℕ)) → every witnessFits ws ≡ true → length (hashedWitnesses ws) ≤ length ws * 132104
-unfolding hashedWitnesses joined witnessFits
-others-length [] e = omega arith
-others-length (w ∷ ws) e =
-    let z = every-split witnessFits w ws e in
-    let n = length-append (hashedWitness w) (hashedWitnesses ws) in
-    let k = hashed-length w in
-    let fit : length w ≤ 132096 = leb-true _ _ (z .0) in
-    let rest = others-length ws (z .1) in
-    omega arith
-
--- no more witnesses are hashed than there are
-group-few : (is : List Input) (ws : List (List ℕ)) → length (groupWitnesses is ws) ≤ length ws
-unfolding groupWitnesses
-group-few [] ws = omega arith
-group-few (i ∷ is) [] = omega arith
-group-few (i ∷ is) (w ∷ ws) = go (eqb (i .group) 1) (group-few is ws)
-  where
-    go : (b : Bool) → length (groupWitnesses is ws) ≤ length ws
-        → length (cond b (w ∷ groupWitnesses is ws) (groupWitnesses is ws)) ≤ suc (length ws)
-    go true h = omega arith
-    go false h = omega arith
-
 module _ (s : Scene) where
-  others-few : length (otherWitnesses s) ≤ 2 * length (s .witnesses)
-  unfolding otherWitnesses groupOf
-  others-few =
-      let n = length-append (drop 1 (groupOf s)) (drop (length (s .inputs)) (s .witnesses)) in
-      let a = length-drop 1 (groupOf s) in
-      let b = length-drop (length (s .inputs)) (s .witnesses) in
-      let g = group-few (s .inputs) (s .witnesses) in
-      omega arith
-
-  pub sighash-hash : length (s .transaction) ≤ 32 → length (s .witnesses) ≤ kindMaxLines → AllPass (groupRows s) → AllPass (otherRows s)
-      → groupSighash s ≡ ckbHash (sighashInput (s .transaction) (canonicalOf (firstWitness s)) (otherWitnesses s))
-  unfolding groupSighash sighashInput groupRows firstWitnessRows otherRows
-  sighash-hash t few g o =
-      let first = firstWitness s in
-      let canonical = canonicalOf first in
-      let others = otherWitnesses s in
-      let head = length-append (s .transaction) (hashedWitness canonical) in
-      let whole = length-append (s .transaction ++ hashedWitness canonical) (hashedWitnesses others) in
-      let k₁ = hashed-length canonical in
-      let k₂ = length-canonical first (passes InvalidWitness first (group-table s g)) in
-      let k₃ = length-drop (secondOffsetOf first) first in
-      let short : length first ≤ 132096 = leb-true _ _ (g .1 .0) in
-      let k₄ = others-length others (o .0) in
-      let k₅ = others-few in
-      sighash-theorem (s .transaction) first others (omega arith)
-
-  pub digest-hash : length (s .transaction) ≤ 32 → length (s .witnesses) ≤ kindMaxLines → AllPass (groupRows s) → AllPass (otherRows s)
+  pub digest-hash : length (s .transaction) ≤ 32 → length (s .witnesses) ≤ kindMaxLines → AllPass (sighashRows s)
       → digest s ≡ ckbHash (digestInput (operation s) (account s) (sequenceOf (current s)) (current s) (ckbHash (sighashInput (s .transaction) (canonicalOf (firstWitness s)) (otherWitnesses s))))
   unfolding digest digestOf
-  digest-hash t few g o = rw (sighash-hash t few g o)
+  digest-hash t few h = rw (sighash-hash s t few h)
 
 -- ---- the lock's digest
 
@@ -177,4 +115,4 @@ module _ (table store : List ℕ) (room : ℕ) where
       let s = sceneIn table store in
       let h = reached-early e in
       ap (λ (r : Result). r .digest) (early-walked (h .0) (h .1))
-      ∙ digest-hash s (short-transaction table store) (few-witnesses table store (length store) (h .0)) (late s (h .1) .0) (others-pass s (h .1))
+      ∙ digest-hash s (short-transaction table store) (few-witnesses table store (length store) (h .0)) (group-hashed s (late s (h .1) .0) (others-pass s (h .1)))

@@ -1,5 +1,4 @@
 pub mod Resolved
-pub mod Digested
 pub mod LockLaws
 pub mod LockTheorem
 pub mod DigestTheorem

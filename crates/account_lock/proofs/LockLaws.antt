@@ -10,33 +10,29 @@ use lib.ListN.{length, take, drop, length-drop}
 use lib.Seq.{length-take-le}
 use borrow.Author.Tests.{eqb-true, leb-true}
 use Rattle.protocol.specs.Args.{argsRows, accountOf}
-use Rattle.protocol.specs.Policy.{isOperation}
+use Rattle.protocol.specs.Policy.{isOperation, operationRows}
 use Rattle.protocol.specs.Rows.{Row, AllPass, decide, _▷_, _then_}
-use Rattle.protocol.proofs.AllPass.{decide-append, decide-then, failed-passed, all-pass-append, all-pass-split}
+use Rattle.protocol.proofs.AllPass.{decide-append, decide-then, all-pass-append, all-pass-split}
 use Rattle.protocol.specs.declared.error.ProtocolError.{ProtocolError}
 use Rattle.protocol.specs.declared.error.ProtocolError.the-variants.{InvalidWitness}
 use Rattle.protocol.specs.declared.check.Check.{Check}
 use Rattle.protocol.specs.declared.check.Check.the-variants.{Passed, Failed}
 use Rattle.molecule.specs.Table3.{tableRows}
 use Rattle.molecule.specs.Bytes as molecule
+use Rattle.molecule.proofs.BytesTheorem.{lock-read, args-read}
+use Rattle.octets.specs.Places.{bytesAt}
 use Rattle.account_witness.specs.Fields.{proofCountOf}
 use Rattle.account_witness.specs.Header.{witnessHeaderRows}
 use Rattle.scene_table.specs.Scene.{Scene}
 use Rattle.group_sighash.specs.Witnesses.{firstWitness, lockIn, firstWitnessRows, countRows, groupRows, otherRows, witnessFits}
 use Rattle.group_sighash.specs.GroupSighash.{sighashRows}
-use Rattle.state_transition.specs.Resolve.{resolveRows, operationRow, resolvedOf}
-use Rattle.account_state.specs.Fields.{flagsOf}
+use Rattle.state_transition.specs.Resolve.{resolveRows, resolvedOf}
 use Rattle.account_lock.specs.Lock.{argsIn, accountIn, scriptRows, account, operation, statesRows, lateRows, earlyRows, witnessLock, Result, refused, orWalked, walkResult, lateResult, lockScene}
-use Rattle.account_lock.specs.Settled.{Authorized, Named, resolved}
-
-pub then-passed : (a b : Check) → a then b ≡ Passed → (a ≡ Passed) × (b ≡ Passed)
-unfolding _then_
-then-passed Passed b e = (refl, e)
-then-passed (Failed x) b e = failed-passed x e
+use Rattle.account_lock.specs.Calls.{ScriptAndGroupPass}
 
 -- for an operation from 1 to 3 the search for the state finds what the lock's rows find
 pub resolved-found : (o : ℕ) (id : List ℕ) (s : Scene) → isOperation o ≡ true → resolvedOf o id s .found ≡ decide Passed (resolveRows o id s)
-unfolding resolvedOf operationRow decide _▷_
+unfolding resolvedOf operationRows decide _▷_
 resolved-found o id s h = rw h
 
 module _ (s : Scene) where
@@ -119,11 +115,19 @@ pub group-hashed : (s : Scene) → AllPass (groupRows s) → AllPass (otherRows 
 unfolding sighashRows groupRows firstWitnessRows witnessFits
 group-hashed s g o = (g .0, (g .1 .0, all-pass-append (tableRows InvalidWitness (firstWitness s)) (otherRows s) (group-table s g) o))
 
-pub named-authorized : (id bytes : List ℕ) (s : Scene) → Named id bytes s → AllPass (otherRows s) → Authorized (flagsOf bytes) id s
-unfolding operation account
-named-authorized id bytes s n o =
-    record {
-      known = rw (n .witness) (group-operation s (n .group));
-      whole = rw (n .account) (account-whole (s .script) (n .script));
-      witnesses = group-hashed s (n .group) o;
-    }
+-- where the script and the group pass
+module _ (id bytes : List ℕ) (s : Scene) (n : ScriptAndGroupPass id bytes s) where
+  -- the lock in the witness is the group's
+  pub pass-lock : bytesAt bytes (molecule.witnessLockPlace bytes) ≡ witnessLock s
+  unfolding witnessLock lockIn
+  pass-lock = rw (n .first) (lock-read (firstWitness s) (lock-rows s (n .group) .0))
+
+  pub pass-whole : length id ≡ 32
+  unfolding account
+  pass-whole = rw (n .account) (account-whole (s .script) (n .script))
+
+-- the args of a script that passes
+pub script-account : (script : List ℕ) → AllPass (scriptRows script)
+    → accountOf (bytesAt script (molecule.scriptArgsPlace script)) ≡ accountIn script
+unfolding scriptRows accountIn argsIn
+script-account script h = ap accountOf (args-read script (all-pass-split (molecule.scriptArgsRows script) _ (h .1) .0))

@@ -1,28 +1,26 @@
--- The places that the search for the state gives are those of the current state and its successor.
+-- The indices that the search for the state gives are those of the current state and its successor.
 -- Assumes nothing.
 use mathlib.Core.Path.{_≡_, refl}
 use mathlib.Core.Bool.{Bool, true, false, cond}
 use mathlib.Core.List.{List, []}
 use Prim.Native.Nat.{ℕ}
 use lib.Dec.{eqb}
-use lib.ListN.{getD}
 use Rattle.scene_table.specs.Scene.{Scene}
 use Rattle.cell_search.specs.declared.cells.Source.the-variants as source
 use Rattle.cell_search.specs.Search.{cellsOf, cellAt}
-use Rattle.state_transition.specs.Resolve.{stateIndex, stateCell, stateSource, currentState, successorState, stateSince, noInput, resolvedOf}
+use Rattle.state_transition.specs.Resolve.{stateIndex, currentAt, currentState, successorAt, successorState, sinceAt, stateSince, resolvedOf}
 
 module _ (operation : ℕ) (id : List ℕ) (s : Scene) where
-  pub state-current : cellAt (cellsOf (stateSource operation) s) (resolvedOf operation id s .current) .content ≡ currentState operation id s
-  unfolding currentState stateCell resolvedOf
+  pub state-current : currentAt operation (resolvedOf operation id s .current) s ≡ currentState operation id s
+  unfolding currentState resolvedOf
   state-current = refl
 
-  pub state-since : getD (s .inputs) (resolvedOf operation id s .current) noInput .since ≡ stateSince operation id s
+  pub state-since : sinceAt (resolvedOf operation id s .current) s ≡ stateSince operation id s
   unfolding stateSince resolvedOf
   state-since = refl
 
-  pub state-successor : cond (eqb operation 1) [] (cellAt (cellsOf source.Output s) (resolvedOf operation id s .successor) .content)
-      ≡ successorState operation id s
-  unfolding resolvedOf successorState stateCell
+  pub state-successor : successorAt operation (resolvedOf operation id s .successor) s ≡ successorState operation id s
+  unfolding resolvedOf successorState
   state-successor = go (eqb operation 1)
     where
       go : (b : Bool)

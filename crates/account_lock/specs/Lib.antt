@@ -1,3 +1,3 @@
 pub mod Lock
 pub mod Decides
-pub mod Settled
+pub mod Calls

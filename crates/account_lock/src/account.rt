@@ -1,12 +1,14 @@
-// The account's states and its proofs, once the script and the group's witness are read.
+// The account's states and its proofs, once the script and the group's first witness pass.
 use crate::answer::LockAnswer;
 use crate::answer::refused;
-use authorization::authorization_digest;
-use group_sighash::canonical_group_sighash;
+use account_state::sequence_of;
+use account_witness::operation_of;
+use account_witness::witness_sequence_of;
+use authorization::digest_of;
 use group_sighash::check_others;
+use group_sighash::sighash_with;
+use molecule::lock_of;
 use octets::array_32;
-use octets::u8_at;
-use octets::u64_at;
 use proof_walk::walk_proofs;
 use protocol::Check;
 use state_transition::ResolvedState;
@@ -17,30 +19,26 @@ use state_transition::state_since;
 use state_transition::successor_state;
 use state_transition::validate_transition;
 ghost use mathlib.Core.Path.{_≡_};
-ghost use lib.ListN.{length};
 ghost use Rattle.protocol.specs.Rows.{decide};
-ghost use Rattle.authorization.specs.Digest.{digestOf};
 ghost use Rattle.scene_table.specs.Lent.{sceneIn};
-ghost use Rattle.group_sighash.specs.GroupSighash.{groupSighash};
-ghost use Rattle.decision.specs.Walk.{answered};
-ghost use Rattle.account_state.specs.Fields.{sequenceOf};
-ghost use Rattle.account_lock.specs.Lock.{witnessLock, statesRows, lateRows, lateResult, walkResult, answerOf};
-ghost use Rattle.account_lock.specs.Settled.{Named, Authorized, Settled, resolved};
+ghost use Rattle.account_lock.specs.Lock.{statesRows, lateResult, walkResult, digest};
+ghost use Rattle.account_lock.specs.Calls.{ScriptAndGroupPass, DigestInputs, StatesFound, Answered, Written};
 
 // The digest that every request carries.
-fn digest_of(
+fn lock_digest(
     table: &[u32],
     store: &[u8],
-    operation: u8,
     account_id: &[u8],
+    witness: &[u8],
     current: &[u8],
 ) -> [u8; 32]
-    requires { ⌜ Authorized operation (now «account_id») (sceneIn (now table) (now store)) ⌝ }
-    ensures { λ r. ⌜ r ≡ digestOf operation (now («account_id» .entry)) (sequenceOf (now (current .entry))) (now (current .entry)) (groupSighash (sceneIn (now (table .entry)) (now (store .entry)))) ⌝ }
+    requires { ⌜ DigestInputs (now «account_id») (now witness) (now current) (sceneIn (now table) (now store)) ⌝ }
+    ensures { λ r. ⌜ r ≡ digest (sceneIn (now (table .entry)) (now (store .entry))) ⌝ }
 {
+    let operation = operation_of(lock_of(witness));
     let account = array_32(account_id);
-    let sighash = canonical_group_sighash(table, store).hash;
-    authorization_digest(operation, account, u64_at(current, 8), current, sighash).digest
+    let sighash = sighash_with(table, store, witness);
+    digest_of(operation, account, sequence_of(current), current, sighash)
 }
 
 // The proofs, walked against the current state.
@@ -48,16 +46,17 @@ fn walk_account(
     table: &[u32],
     store: &[u8],
     account_id: &[u8],
-    lock: &[u8],
+    witness: &[u8],
     current: &[u8],
     answer: &mut [u8],
 ) -> LockAnswer
-    requires { ⌜ Settled (now «account_id») (now lock) (now current) (sceneIn (now table) (now store)) ⌝ }
-    ensures { λ r. ⌜ r ≡ answerOf (walkResult (sceneIn (now (table .entry)) (now (store .entry))) (length (now (answer .entry)))) ⌝ }
-    ensures { λ _. ⌜ now (answer .exit) ≡ answered (now (answer .entry)) (walkResult (sceneIn (now (table .entry)) (now (store .entry))) (length (now (answer .entry))) .made) ⌝ }
+    requires { ⌜ DigestInputs (now «account_id») (now witness) (now current) (sceneIn (now table) (now store)) ⌝ }
+    ensures { λ r. ⌜ Answered walkResult (now (table .entry)) (now (store .entry)) (now (answer .entry)) r ⌝ }
+    ensures { λ _. ⌜ Written walkResult (now (table .entry)) (now (store .entry)) (now (answer .entry)) (now (answer .exit)) ⌝ }
 {
-    let operation = u8_at(lock, 5);
-    let digest = digest_of(table, store, operation, account_id, current);
+    let digest = lock_digest(table, store, account_id, witness, current);
+    let lock = lock_of(witness);
+    let operation = operation_of(lock);
     let walked = walk_proofs(table, store, current, lock, operation, digest, answer);
     let found = walked.found;
     let count = walked.count;
@@ -71,18 +70,23 @@ fn walk_account(
     }
 }
 
-// The rows of the states, at the places that were found for them.
-fn check_states(table: &[u32], store: &[u8], lock: &[u8], state: ResolvedState) -> Check
-    requires { ⌜ (now lock ≡ witnessLock (sceneIn (now table) (now store))) × (state ≡ resolved (sceneIn (now table) (now store))) ⌝ }
+// The rows of the states, at the indices that were found for them.
+fn check_states(
+    table: &[u32],
+    store: &[u8],
+    lock: &[u8],
+    current: &[u8],
+    state: ResolvedState,
+) -> Check
+    requires { ⌜ StatesFound (now lock) (now current) state (sceneIn (now table) (now store)) ⌝ }
     ensures { λ r. ⌜ r ≡ decide Check.Passed (statesRows (sceneIn (now (table .entry)) (now (store .entry)))) ⌝ }
 {
-    let operation = u8_at(lock, 5);
-    let current = current_state(table, store, operation, state.current);
+    let operation = operation_of(lock);
     let successor = successor_state(table, store, operation, state.successor);
     let since = state_since(table, store, state.current);
     check_data(current, successor).and(validate_transition(
         operation,
-        u64_at(lock, 8),
+        witness_sequence_of(lock),
         since,
         current,
         successor,
@@ -94,23 +98,22 @@ pub(crate) fn lock_account(
     table: &[u32],
     store: &[u8],
     account_id: &[u8],
-    lock: &[u8],
+    witness: &[u8],
     answer: &mut [u8],
 ) -> LockAnswer
-    requires { ⌜ Named (now «account_id») (now lock) (sceneIn (now table) (now store)) ⌝ }
-    ensures { λ r. ⌜ r ≡ answerOf (lateResult (sceneIn (now (table .entry)) (now (store .entry))) (length (now (answer .entry)))) ⌝ }
-    ensures { λ _. ⌜ now (answer .exit) ≡ answered (now (answer .entry)) (lateResult (sceneIn (now (table .entry)) (now (store .entry))) (length (now (answer .entry))) .made) ⌝ }
+    requires { ⌜ ScriptAndGroupPass (now «account_id») (now witness) (sceneIn (now table) (now store)) ⌝ }
+    ensures { λ r. ⌜ Answered lateResult (now (table .entry)) (now (store .entry)) (now (answer .entry)) r ⌝ }
+    ensures { λ _. ⌜ Written lateResult (now (table .entry)) (now (store .entry)) (now (answer .entry)) (now (answer .exit)) ⌝ }
 {
-    let operation = u8_at(lock, 5);
+    let lock = lock_of(witness);
+    let operation = operation_of(lock);
     let state = resolve_state(table, store, operation, account_id);
+    let current = current_state(table, store, operation, state.current);
     let found = state.found;
     match found
-        .and(check_states(table, store, lock, state))
+        .and(check_states(table, store, lock, current, state))
         .and(check_others(table, store)) {
         Check::Failed(error) => refused(error),
-        Check::Passed => {
-            let current = current_state(table, store, operation, state.current);
-            walk_account(table, store, account_id, lock, current, answer)
-        }
+        Check::Passed => walk_account(table, store, account_id, witness, current, answer),
     }
 }

@@ -4,39 +4,36 @@ mod script; // script.rt
 mod account; // account.rt
 
 use self::account::lock_account;
-use self::script::account_in;
 use self::script::check_script;
-use group_sighash::check_group;
+use group_sighash::check_first_witness;
 use group_sighash::first_witness;
-use group_sighash::lock_in;
-use octets::part;
+use molecule::args_of;
+use octets::part_at;
 use protocol::Check;
 use protocol::ProtocolError;
+use protocol::account_of;
 use scene_table::script;
 use scene_table::table_valid;
 ghost use mathlib.Core.Path.{_≡_};
 ghost use mathlib.Core.Logic.{_↔_};
 ghost use lib.ListN.{length};
-ghost use Rattle.scene_table.specs.Lent.{sceneIn};
 ghost use Rattle.decision.specs.Walk.{answered};
 ghost use Rattle.account_lock.specs.Lock.{lockOf, lockScene, answerOf};
 ghost use Rattle.account_lock.specs.Decides.{EarlierPass, LockQuorum};
+ghost use Rattle.account_lock.specs.Calls.{Answered, Written};
 pub use self::answer::LockAnswer;
 pub use self::answer::refused;
 
 // The lock over a transaction whose table is one that a scene, its length aside, leaves.
 fn lock_scene(table: &[u32], store: &[u8], answer: &mut [u8]) -> LockAnswer
-    ensures { λ r. ⌜ r ≡ answerOf (lockScene (sceneIn (now (table .entry)) (now (store .entry))) (length (now (answer .entry)))) ⌝ }
-    ensures { λ _. ⌜ now (answer .exit) ≡ answered (now (answer .entry)) (lockScene (sceneIn (now (table .entry)) (now (store .entry))) (length (now (answer .entry))) .made) ⌝ }
+    ensures { λ r. ⌜ Answered lockScene (now (table .entry)) (now (store .entry)) (now (answer .entry)) r ⌝ }
+    ensures { λ _. ⌜ Written lockScene (now (table .entry)) (now (store .entry)) (now (answer .entry)) (now (answer .exit)) ⌝ }
 {
-    let place = script(table);
-    let script = part(store, place.start, place.len);
-    match check_script(script).and(check_group(table, store)) {
+    let script = part_at(store, script(table));
+    let witness = first_witness(table, store);
+    match check_script(script).and(check_first_witness(witness)) {
         Check::Failed(error) => refused(error),
-        Check::Passed => {
-            let lock = lock_in(first_witness(table, store));
-            lock_account(table, store, account_in(script), lock, answer)
-        }
+        Check::Passed => lock_account(table, store, account_of(args_of(script)), witness, answer),
     }
 }
 

@@ -27,7 +27,7 @@ pub enum WitnessHeaderAnswer {
     Refused(ProtocolError),
 }
 
-pub(crate) fn check_header(witness: &[u8]) -> Check
+pub fn check_witness_header(witness: &[u8]) -> Check
     ensures { λ r. ⌜ r ≡ decide Check.Passed (witnessHeaderRows (now (witness .entry))) ⌝ }
 {
     let invalid = ProtocolError::InvalidWitness;
@@ -58,7 +58,7 @@ pub(crate) fn header_at(witness: &[u8]) -> AccountWitnessHeader
 pub fn parse_witness_header(witness: &[u8]) -> WitnessHeaderAnswer
     ensures { λ r. ⌜ r ≡ readWitnessHeader (now (witness .entry)) ⌝ }
 {
-    match check_header(witness) {
+    match check_witness_header(witness) {
         Check::Failed(error) => WitnessHeaderAnswer::Refused(error),
         Check::Passed => WitnessHeaderAnswer::Header(header_at(witness)),
     }

@@ -10,6 +10,7 @@ pub use self::fields::proof_count_of;
 pub use self::fields::witness_sequence_of;
 pub use self::header::AccountWitnessHeader;
 pub use self::header::WitnessHeaderAnswer;
+pub use self::header::check_witness_header;
 pub use self::header::parse_witness_header;
 pub use self::offsets::PROOF_COUNT_OFFSET;
 pub use self::offsets::PROOF_HEADER_LEN;

@@ -1,7 +1,7 @@
 // The whole witness lock, of at most 16 proofs.
 use crate::fields::proof_count_of;
 use crate::header::AccountWitnessHeader;
-use crate::header::check_header;
+use crate::header::check_witness_header;
 use crate::header::header_at;
 use crate::walk::check_proofs;
 use protocol::AUTHENTICATOR_MAX_COUNT;
@@ -19,7 +19,7 @@ fn check_witness(witness: &[u8]) -> Check
     ensures { λ r. ⌜ r ≡ witnessFault (now (witness .entry)) ⌝ }
 {
     let count = proof_count_of(witness);
-    check_header(witness)
+    check_witness_header(witness)
         .require(
             count as usize <= AUTHENTICATOR_MAX_COUNT,
             ProtocolError::InvalidWitness,

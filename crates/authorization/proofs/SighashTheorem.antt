@@ -1,9 +1,11 @@
 -- The sighash is CKB's hash of document 01's input, and the parts of the input fed one after another.
 -- Assumes nothing.
-use mathlib.Core.Path.{_≡_}
+use mathlib.Core.Path.{_≡_, ap, _∙_}
 use mathlib.Core.List.{List, _++_}
-use Prim.Native.Nat.{ℕ, _^_, _<_}
-use lib.ListN.{length, take}
+use Prim.Native.Nat.{ℕ, _+_, _^_, _<_}
+use lib.ListN.{length, take, length-append}
+use Rattle.octets.specs.Le.{toLe}
+use Rattle.octets.proofs.LeLaws.{length-to}
 use Rattle.blake2b.specs.Rfc7693.{bytesOf}
 use Rattle.blake2b.specs.State.{begun, fedAll, finished, ckbParameters}
 use Rattle.blake2b.specs.declared.Blake2b.{Blake2b}
@@ -13,6 +15,11 @@ use Rattle.molecule.specs.Canonical.{canonicalOf}
 use Rattle.authorization.specs.Digest.{ckbHash}
 use Rattle.authorization.specs.Hashed.{hashedWitness}
 use Rattle.authorization.specs.Sighash.{hashedWitnesses, sighashInput, sighashOf}
+
+-- a witness adds its length's 8 bytes and its own
+pub hashed-length : (w : List ℕ) → length (hashedWitness w) ≡ 8 + length w
+unfolding hashedWitness
+hashed-length w = length-append (toLe 8 (length w)) w ∙ ap (λ (n : ℕ). n + length w) (length-to 8 (length w))
 
 -- the input fed in its three parts
 input-fed : (hash : Blake2b) (transaction canonical : List ℕ) (others : List (List ℕ))

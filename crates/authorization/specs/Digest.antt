@@ -5,9 +5,8 @@ use lib.ListN.{replicate}
 use Rattle.octets.specs.Le.{toLe}
 use Rattle.blake2b.specs.Rfc7693.{hashOf}
 use Rattle.blake2b.specs.State.{ckbParameters}
-use Rattle.protocol.specs.Policy.{isOperation}
-use Rattle.protocol.specs.Rows.{Row, row, decide}
-use Rattle.protocol.specs.declared.error.ProtocolError.the-variants.{InvalidOperation}
+use Rattle.protocol.specs.Policy.{operationRows}
+use Rattle.protocol.specs.Rows.{decide}
 use Rattle.protocol.specs.declared.check.Check.{Check}
 use Rattle.protocol.specs.declared.check.Check.the-variants.{Passed, Failed}
 use Rattle.authorization.specs.declared.digest.AuthorizationDigest.{AuthorizationDigest}
@@ -30,10 +29,6 @@ digestInput operation account sequence state sighash = digestHead operation acco
 
 unfoldable pub digestOf : ℕ → List ℕ → ℕ → List ℕ → List ℕ → List ℕ
 digestOf operation account sequence state sighash = ckbHash (digestInput operation account sequence state sighash)
-
--- 01: "Operation outside 1 to 3 is 37 in them."
-unfoldable pub operationRows : ℕ → List Row
-operationRows operation = row (isOperation operation) InvalidOperation ∷ []
 
 -- a digest, or a refusal beside 32 zeros
 unfoldable pub digestAnswer : Check → List ℕ → AuthorizationDigest

@@ -29,7 +29,8 @@ fn feed_head(operation: u8, account: [u8; 32], sequence: u64) -> Blake2b
         .update(&number)
 }
 
-fn digest_of(
+// The digest of document 01's input, whatever the operation.
+pub fn digest_of(
     operation: u8,
     account: [u8; 32],
     sequence: u64,

@@ -5,6 +5,6 @@ mod witness; // witness.rt
 
 pub use self::digest::AuthorizationDigest;
 pub use self::digest::authorization_digest;
-pub use self::witness::CanonicalFed;
+pub use self::digest::digest_of;
 pub use self::witness::feed_canonical_witness;
 pub use self::witness::feed_witness;

@@ -45,9 +45,9 @@ lock-decides c lock = (there, back)
         (record { layout = l; each = rw e at (z .1) }, rw e at (z .2))
 
 -- its number is 0 or 28 exactly where every row before the one for 28 passes
-pub lock-zero-or-28 : (c : Context) (lock : List ℕ) → ZeroOr28 (checkNumber (walkLock c lock .found)) ↔ ProofsPass c lock
+pub walk-zero-or-28 : (c : Context) (lock : List ℕ) → ZeroOr28 (checkNumber (walkLock c lock .found)) ↔ ProofsPass c lock
 unfolding walkLock walkList
-lock-zero-or-28 c lock = (there, back)
+walk-zero-or-28 c lock = (there, back)
   where
     number : ZeroOr28 (checkNumber (walkFrom c (proofListOf lock .clean) 0 0 [] (proofListOf lock .proofs) .found))
         ↔ ((proofListOf lock .clean ≡ true) × EachPasses c 0 0 (proofListOf lock .proofs))

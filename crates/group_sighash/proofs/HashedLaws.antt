@@ -13,11 +13,9 @@ use Rattle.octets.specs.Lists.{joined, every}
 use Rattle.blake2b.specs.declared.Blake2b.{Blake2b}
 use Rattle.blake2b.specs.State.{fedAll}
 use Rattle.blake2b.proofs.Feed.{fed-append}
-use Rattle.protocol.specs.Rows.{AllPass, decide, _▷_}
-use Rattle.protocol.proofs.AllPass.{all-pass-split}
+use Rattle.protocol.specs.Rows.{decide, _▷_}
 use Rattle.protocol.specs.declared.error.ProtocolError.the-variants.{InvalidWitness}
 use Rattle.protocol.specs.declared.check.Check.the-variants.{Passed, Failed}
-use Rattle.molecule.specs.Table3.{tableRows}
 use Rattle.authorization.specs.Hashed.{hashedWitness}
 use Rattle.authorization.specs.Sighash.{hashedWitnesses}
 use Rattle.scene_table.specs.Scene.{Input, Scene}
@@ -26,7 +24,6 @@ use Rattle.scene_table.specs.Places.{inputGroup}
 use Rattle.scene_table.proofs.PlaceLaws.{lent-group, lent-given}
 use Rattle.group_sighash.specs.Witnesses.{groupWitnesses, groupOf, headOf, firstWitness, otherWitnesses, witnessFits, otherRows}
 use Rattle.group_sighash.specs.Hashed.{hashedOf, hashedFrom, groupFrom, witnessAt, isHashed, isInput, Next, FirstOther}
-use Rattle.group_sighash.specs.GroupSighash.{sighashRows}
 
 -- the definition's two parts
 hashed-split : (is : List Input) (ws : List (List ℕ)) → hashedOf is ws ≡ groupWitnesses is ws ++ drop (length is) ws
@@ -149,13 +146,6 @@ module _ (table store : List ℕ) (r : ℕ) (first : Next table 0 r) where
   unfolding firstWitness headOf
   first-missing e = rw (group-missing e)
 
-  pub group-count : leb 1 (length (groupOf (sceneIn table store))) ≡ isInput table r
-  group-count = go (isInput table r) refl
-    where
-      go : (b : Bool) → isInput table r ≡ b → leb 1 (length (groupOf (sceneIn table store))) ≡ b
-      go true e = rw (group-first e) (le-leb 1 (length (witnessAt table store r ∷ groupFrom table store (r + 1))) (omega arith))
-      go false e = rw (group-missing e)
-
   pub other-there : isInput table r ≡ true → otherWitnesses (sceneIn table store) ≡ hashedFrom table store (r + 1)
   unfolding otherWitnesses hashedFrom groupFrom
   other-there e =
@@ -227,11 +217,6 @@ module _ (s : Scene) where
   pub others-fail : every witnessFits (otherWitnesses s) ≡ false → decide Passed (otherRows s) ≡ Failed InvalidWitness
   unfolding otherRows decide _▷_
   others-fail e = rw e
-
--- where the sighash's rows pass, the first witness is a table
-pub first-table : (s : Scene) → AllPass (sighashRows s) → AllPass (tableRows InvalidWitness (firstWitness s))
-unfolding sighashRows
-first-table s h = all-pass-split (tableRows InvalidWitness (firstWitness s)) (otherRows s) (h .1 .1) .0
 
 -- a hashed witness is fed
 pub fed-next : (h : Blake2b) (w : List ℕ) (ws : List (List ℕ))

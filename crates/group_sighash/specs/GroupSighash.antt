@@ -14,8 +14,12 @@ use Rattle.scene_table.specs.Scene.{Scene}
 use Rattle.group_sighash.specs.Witnesses.{groupOf, firstWitness, otherWitnesses, witnessFits, otherRows}
 use Rattle.group_sighash.specs.declared.transaction.Sighash.{Sighash}
 
+-- over a first witness that is handed in, and over the group's
+abbrev pub sighashWith : List ℕ → Scene → List ℕ
+sighashWith first s = sighashOf (s .transaction) first (otherWitnesses s)
+
 unfoldable pub groupSighash : Scene → List ℕ
-groupSighash s = sighashOf (s .transaction) (firstWitness s) (otherWitnesses s)
+groupSighash s = sighashWith (firstWitness s) s
 
 -- the original's `canonical_group_sighash`: `load_witness` of the group's first (missing, above 132,096), `canonical_witness`
 -- of it (its table), `load_witness` of each other that is hashed (above 132,096)

@@ -1,5 +1,5 @@
 // Which witnesses are hashed: those of the group's inputs, and those behind the inputs.
-use octets::part;
+use octets::part_at;
 use scene_table::input_count;
 use scene_table::input_group;
 use scene_table::witness;
@@ -60,6 +60,5 @@ pub(crate) fn first_other(table: &[u32]) -> u32
 pub(crate) fn witness_at<'a>(table: &[u32], store: &'a [u8], i: u32) -> &'a [u8]
     ensures { λ r. ⌜ now r ≡ witnessAt (now (table .entry)) (now (store .entry)) i ⌝ }
 {
-    let place = witness(table, i);
-    part(store, place.start, place.len)
+    part_at(store, witness(table, i))
 }

@@ -5,7 +5,7 @@ mod transaction; // transaction.rt
 
 pub use self::transaction::Sighash;
 pub use self::transaction::canonical_group_sighash;
-pub use self::witnesses::check_group;
+pub use self::transaction::sighash_with;
+pub use self::witnesses::check_first_witness;
 pub use self::witnesses::check_others;
 pub use self::witnesses::first_witness;
-pub use self::witnesses::lock_in;

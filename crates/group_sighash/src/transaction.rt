@@ -7,17 +7,16 @@ use crate::witnesses::first_witness;
 use authorization::feed_canonical_witness;
 use authorization::feed_witness;
 use blake2b::Blake2b;
-use octets::part;
+use octets::part_at;
 use protocol::Check;
 use scene_table::transaction_hash;
 use scene_table::witness_count;
 ghost use mathlib.Core.Path.{_≡_};
 ghost use Rattle.blake2b.specs.State.{fedAll};
-ghost use Rattle.protocol.specs.Rows.{AllPass};
 ghost use Rattle.authorization.specs.Sighash.{hashedWitnesses};
 ghost use Rattle.scene_table.specs.Lent.{sceneIn};
 ghost use Rattle.group_sighash.specs.Witnesses.{otherWitnesses};
-ghost use Rattle.group_sighash.specs.GroupSighash.{sighashRows, groupSighash, groupAnswer};
+ghost use Rattle.group_sighash.specs.GroupSighash.{sighashWith, groupAnswer};
 
 // What was found, and the hash: zeros where a witness is refused.
 pub struct Sighash {
@@ -39,15 +38,13 @@ fn feed_others(hash: Blake2b, table: &[u32], store: &[u8]) -> Blake2b
     fed
 }
 
-// The sighash of witnesses that pass.
-fn hash_group(table: &[u32], store: &[u8]) -> [u8; 32]
-    requires { ⌜ AllPass (sighashRows (sceneIn (now table) (now store))) ⌝ }
-    ensures { λ r. ⌜ r ≡ groupSighash (sceneIn (now (table .entry)) (now (store .entry))) ⌝ }
+// The sighash over a first witness that is handed in: that of the transaction, where it is the group's.
+pub fn sighash_with(table: &[u32], store: &[u8], first: &[u8]) -> [u8; 32]
+    ensures { λ r. ⌜ r ≡ sighashWith (now (first .entry)) (sceneIn (now (table .entry)) (now (store .entry))) ⌝ }
 {
-    let place = transaction_hash(table);
-    let transaction = part(store, place.start, place.len);
+    let transaction = part_at(store, transaction_hash(table));
     let begun = Blake2b::new().update(transaction);
-    let fed = feed_canonical_witness(begun, first_witness(table, store)).hash;
+    let fed = feed_canonical_witness(begun, first);
     feed_others(fed, table, store).finish().digest()
 }
 
@@ -56,7 +53,8 @@ fn hash_group(table: &[u32], store: &[u8]) -> [u8; 32]
 pub fn canonical_group_sighash(table: &[u32], store: &[u8]) -> Sighash
     ensures { λ r. ⌜ r ≡ groupAnswer (sceneIn (now (table .entry)) (now (store .entry))) ⌝ }
 {
-    match check_hashed(table, store) {
+    let first = first_witness(table, store);
+    match check_hashed(table, store, first) {
         Check::Failed(error) => {
             let none = [0u8; 32];
             Sighash {
@@ -65,7 +63,7 @@ pub fn canonical_group_sighash(table: &[u32], store: &[u8]) -> Sighash
             }
         }
         Check::Passed => {
-            let hash = hash_group(table, store);
+            let hash = sighash_with(table, store, first);
             Sighash {
                 found: Check::Passed,
                 hash: hash,

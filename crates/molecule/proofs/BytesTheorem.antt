@@ -19,13 +19,13 @@ use Rattle.protocol.specs.declared.error.ProtocolError.{ProtocolError}
 use Rattle.protocol.specs.declared.error.ProtocolError.the-variants.{InvalidArgs, InvalidWitness}
 use Rattle.protocol.specs.declared.check.Check.{Check}
 use Rattle.protocol.specs.declared.check.Check.the-variants.{Passed, Failed}
-use Rattle.protocol.proofs.AllPass.{passed-all-pass, all-pass-split}
+use Rattle.protocol.proofs.AllPass.{passed-all-pass, all-pass-passed, all-pass-split}
 use Rattle.protocol.proofs.Answers.{answer-given, answer-accepts, answer-refuses}
 use Rattle.molecule.specs.declared.bytes.PlaceAnswer.{PlaceAnswer}
 use Rattle.molecule.specs.declared.bytes.PlaceAnswer.the-variants.{At, Refused}
 use Rattle.molecule.specs.Molecule.{bytesVector, tableBytes}
 use Rattle.molecule.specs.Table3.{tableRows, between, field1, field2, field3, secondOffsetOf, tableTotalOf, thirdOffsetOf}
-use Rattle.molecule.specs.Bytes.{bytesRows, bytesPlaceFrom, placeAnswer, readBytes, witnessLockRows, readWitnessLock, scriptArgsRows, readScriptArgs}
+use Rattle.molecule.specs.Bytes.{bytesRows, bytesPlaceFrom, placeAnswer, readBytes, witnessLockRows, witnessLockPlace, readWitnessLock, scriptArgsRows, scriptArgsPlace, readScriptArgs, bytesIn}
 use Rattle.molecule.proofs.Form.{Passes, passes, length-field1}
 use Rattle.molecule.proofs.Inverse.{table-written, vector-length, vector-written, vector-read}
 
@@ -57,14 +57,14 @@ module _ (rows : List Row) (g : Place) where
       let e : At g ≡ At p = z .1 in
       (passed-all-pass rows (z .0), cc)
 
--- what the lock's reader and the args' say of their checks
-pub lock-found : (s : List ℕ) → placeFound (readWitnessLock s) ≡ decide Passed (witnessLockRows s)
-unfolding readWitnessLock
-lock-found s = place-back _ (decide Passed (witnessLockRows s))
+-- the bytes of a lock and of args that pass
+pub lock-read : (s : List ℕ) → AllPass (witnessLockRows s) → bytesAt s (witnessLockPlace s) ≡ bytesIn s (readWitnessLock s)
+unfolding readWitnessLock placeAnswer bytesIn
+lock-read s h = rw (all-pass-passed (witnessLockRows s) h)
 
-pub script-found : (s : List ℕ) → placeFound (readScriptArgs s) ≡ decide Passed (scriptArgsRows s)
-unfolding readScriptArgs
-script-found s = place-back _ (decide Passed (scriptArgsRows s))
+pub args-read : (s : List ℕ) → AllPass (scriptArgsRows s) → bytesAt s (scriptArgsPlace s) ≡ bytesIn s (readScriptArgs s)
+unfolding readScriptArgs placeAnswer bytesIn
+args-read s h = rw (all-pass-passed (scriptArgsRows s) h)
 
 -- accepted exactly where every check passes, refused exactly with the first that fails
 pub bytes-accepts : (field : List ℕ) → (readBytes field ≡ At (bytesPlaceFrom 0 field)) ↔ AllPass (bytesRows InvalidWitness field)

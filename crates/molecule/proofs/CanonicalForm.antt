@@ -1,11 +1,11 @@
--- The canonical witness of a witness whose table passes: 20 bytes, and then the witness from field 2 on.
+-- The canonical witness: 20 bytes, and then fields 2 and 3, where the table passes the witness from field 2 on.
 -- Assumes nothing.
 use mathlib.Core.Path.{_≡_, refl, sym, ap, _∙_}
 use mathlib.Core.List.{List, [], _∷_, _++_, append-assoc, append-nil}
-use Prim.Native.Nat.{ℕ, _+_, _-_}
+use Prim.Native.Nat.{ℕ, _+_, _-_, _≤_}
 use native.Mathlib.Omega.{arith}
 use lib.Dec.{leb}
-use lib.ListN.{length, take, drop, replicate, length-append, take-append-drop}
+use lib.ListN.{length, take, drop, length-append, length-take, length-drop, take-append-drop}
 use lib.Seq.{sets, take-at, drop-drop}
 use Rattle.octets.specs.Layout.{Field, layoutBytes}
 use Rattle.octets.proofs.LeLaws.{length-to}
@@ -13,16 +13,14 @@ use Rattle.octets.proofs.Stores.{sets-append}
 use Rattle.octets.proofs.LayoutLaws.{length-numbers}
 use Rattle.protocol.specs.Rows.{row, _▷_, decide, AllPass}
 use Rattle.protocol.specs.Write.{writeFault}
-use Rattle.protocol.specs.declared.error.ProtocolError.{ProtocolError}
 use Rattle.protocol.specs.declared.error.ProtocolError.the-variants.{BufferTooShort, InvalidWitness}
 use Rattle.protocol.specs.declared.check.Check.{Check}
 use Rattle.protocol.specs.declared.check.Check.the-variants.{Passed, Failed}
-use Rattle.protocol.proofs.AllPass.{passed-all-pass, all-pass-passed, decide-append}
-use Rattle.molecule.specs.declared.table.TableFields.{TableFields}
+use Rattle.protocol.proofs.AllPass.{passed-all-pass, decide-append}
 use Rattle.molecule.specs.Molecule.{bytesVector, tableBytes}
-use Rattle.molecule.specs.Table3.{tableRows, tableFieldsOf, tableAnswer, readTable, between, field2, field3, secondOffsetOf, thirdOffsetOf}
-use Rattle.molecule.specs.Canonical.{canonicalOf, canonicalRoom, canonicalHead, partsOf, canonicalParts}
-use Rattle.molecule.proofs.Form.{three-layout, Passes, passes, length-field2, length-field3}
+use Rattle.molecule.specs.Table3.{tableRows, between, field2, field3, secondOffsetOf, thirdOffsetOf}
+use Rattle.molecule.specs.Canonical.{canonicalOf, canonicalRoom, canonicalHead}
+use Rattle.molecule.proofs.Form.{three-layout, Passes, passes}
 
 -- a table whose first field is an empty vector
 pub canonical-layout : (b c : List ℕ) → tableBytes (bytesVector [] ∷ b ∷ c ∷ []) ≡ layoutBytes (canonicalHead (20 + length b + length c) (20 + length b)) ++ (b ++ c)
@@ -34,8 +32,46 @@ canonical-layout b c =
     let e₃ : 16 + length (bytesVector []) ≡ 20 = omega arith in
     three-layout (bytesVector []) b c ∙ rw (e₁, e₂, e₃) (simp (append-assoc, append-nil))
 
+module _ (s : List ℕ) where
+  -- the 20 bytes, as numbers
+  abbrev Front : List Field
+  Front = canonicalHead (20 + length (field2 s) + length (field3 s)) (20 + length (field2 s))
+
+  length-front : length (layoutBytes Front) ≡ 20
+  unfolding canonicalHead
+  length-front = length-numbers Front
+
+  canonical-form : canonicalOf s ≡ layoutBytes Front ++ (field2 s ++ field3 s)
+  unfolding canonicalOf
+  canonical-form = canonical-layout (field2 s) (field3 s)
+
+  pub canonical-first : take 20 (canonicalOf s) ≡ layoutBytes Front
+  canonical-first = rw canonical-form (take-at (layoutBytes Front) (field2 s ++ field3 s) 20 length-front)
+
+  -- the first 20 bytes, and fields 2 and 3, are the canonical witness
+  pub canonical-whole : take 20 (canonicalOf s) ++ (field2 s ++ field3 s) ≡ canonicalOf s
+  canonical-whole = ap (λ (l : List ℕ). l ++ (field2 s ++ field3 s)) canonical-first ∙ sym canonical-form
+
+  pub length-canonical : length (canonicalOf s) ≡ 20 + length (field2 s) + length (field3 s)
+  length-canonical =
+      let n = length-append (layoutBytes Front) (field2 s ++ field3 s) in
+      let m = length-append (field2 s) (field3 s) in
+      let f = length-front in
+      ap length canonical-form ∙ (omega arith)
+
+-- fields 2 and 3 overlap nowhere
+pub fields-within : (s : List ℕ) → length (field2 s) + length (field3 s) ≤ length s
+unfolding field2 field3 between
+fields-within s =
+    let x = secondOffsetOf s in
+    let y = thirdOffsetOf s in
+    let a = length-take (y - x) (drop x s) in
+    let b = length-drop x s in
+    let d = length-drop y s in
+    omega arith
+
 module _ (s : List ℕ) (z : Passes s) where
-  -- fields 2 and 3 stand end to end
+  -- fields 2 and 3 of a table that passes stand end to end
   pub fields-end : field2 s ++ field3 s ≡ drop (secondOffsetOf s) s
   unfolding field2 field3 between
   fields-end =
@@ -45,73 +81,33 @@ module _ (s : List ℕ) (z : Passes s) where
       let d : drop (y - x) (drop x s) ≡ drop y s = drop-drop (y - x) x s ∙ ap (λ (k : ℕ). drop k s) e in
       rw (← d) (take-append-drop (y - x) (drop x s))
 
-  -- the 20 bytes, as numbers
-  abbrev pub Front : List Field
-  Front = canonicalHead (20 + (length s - secondOffsetOf s)) (20 + (thirdOffsetOf s - secondOffsetOf s))
-
-  length-front : length (layoutBytes Front) ≡ 20
-  unfolding canonicalHead
-  length-front = length-numbers Front
-
-  canonical-form : canonicalOf s ≡ layoutBytes Front ++ drop (secondOffsetOf s) s
-  unfolding canonicalOf
-  canonical-form =
-      let l₂ : length (field2 s) ≡ thirdOffsetOf s - secondOffsetOf s = length-field2 s z in
-      let l₃ : length (field3 s) ≡ length s - thirdOffsetOf s = length-field3 s z in
-      let e₁ : 20 + length (field2 s) + length (field3 s) ≡ 20 + (length s - secondOffsetOf s) = omega arith in
-      let e₂ : 20 + length (field2 s) ≡ 20 + (thirdOffsetOf s - secondOffsetOf s) = omega arith in
-      canonical-layout (field2 s) (field3 s) ∙ rw (e₁, e₂, fields-end)
-
-  pub canonical-first : take 20 (canonicalOf s) ≡ layoutBytes Front
-  canonical-first = rw canonical-form (take-at (layoutBytes Front) (drop (secondOffsetOf s) s) 20 length-front)
-
-  -- the first 20 bytes, and the witness from field 2 on, are the canonical witness
-  pub canonical-whole : take 20 (canonicalOf s) ++ drop (secondOffsetOf s) s ≡ canonicalOf s
-  canonical-whole = ap (λ (l : List ℕ). l ++ drop (secondOffsetOf s) s) canonical-first ∙ sym canonical-form
-
-  pub length-canonical : length (canonicalOf s) ≡ 20 + length (drop (secondOffsetOf s) s)
-  length-canonical =
-      ap length canonical-form ∙ (length-append (layoutBytes Front) (drop (secondOffsetOf s) s) ∙ ap (λ (n : ℕ). n + length (drop (secondOffsetOf s) s)) length-front)
+  pub length-from-second : length (canonicalOf s) ≡ 20 + length (drop (secondOffsetOf s) s)
+  length-from-second =
+      let n : length (field2 s ++ field3 s) ≡ length (field2 s) + length (field3 s) = length-append (field2 s) (field3 s) in
+      let m : length (field2 s ++ field3 s) ≡ length (drop (secondOffsetOf s) s) = ap length fields-end in
+      length-canonical s ∙ (omega arith)
 
   -- stored one behind the other
   pub parts-stored : (out : List ℕ) → sets (sets out 0 (take 20 (canonicalOf s))) 20 (drop (secondOffsetOf s) s) ≡ sets out 0 (canonicalOf s)
   parts-stored out =
-      let n : length (take 20 (canonicalOf s)) ≡ 20 = ap length canonical-first ∙ length-front in
-      sets-append out 0 (take 20 (canonicalOf s)) (drop (secondOffsetOf s) s) 20 (omega arith) ∙ ap (sets out 0) canonical-whole
-
--- the parts of a witness whose table passes
-pub parts-read : (s : List ℕ) → AllPass (tableRows InvalidWitness s) → canonicalParts s ≡ record { found = Passed; head = take 20 (canonicalOf s); rest = secondOffsetOf s }
-unfolding canonicalParts partsOf readTable tableAnswer tableFieldsOf
-parts-read s h = rw (all-pass-passed (tableRows InvalidWitness s) h)
-
--- and of one that is refused
-pub parts-refused : (s : List ℕ) (e : ProtocolError) → decide Passed (tableRows InvalidWitness s) ≡ Failed e
-    → canonicalParts s ≡ record { found = Failed e; head = replicate 20 0; rest = 0 }
-unfolding canonicalParts partsOf readTable tableAnswer
-parts-refused s e h = rw h
-
--- what is found is what the rows find
-found-by : (k : Check) (f : TableFields) (s : List ℕ) → partsOf (tableAnswer k f) s .found ≡ k
-unfolding partsOf tableAnswer
-found-by Passed f s = refl
-found-by (Failed e) f s = refl
-
-pub parts-found : (s : List ℕ) → canonicalParts s .found ≡ decide Passed (tableRows InvalidWitness s)
-unfolding canonicalParts readTable
-parts-found s = found-by (decide Passed (tableRows InvalidWitness s)) (tableFieldsOf s) s
+      let n : length (take 20 (canonicalOf s)) ≡ 20 = ap length (canonical-first s) ∙ length-front s in
+      sets-append out 0 (take 20 (canonicalOf s)) (drop (secondOffsetOf s) s) 20 (omega arith)
+      ∙ ap (sets out 0) whole
+    where
+      whole : take 20 (canonicalOf s) ++ drop (secondOffsetOf s) s ≡ canonicalOf s
+      whole = ap (λ (l : List ℕ). take 20 (canonicalOf s) ++ l) (sym fields-end) ∙ canonical-whole s
 
 -- the room for the parts is the room for the whole
 module _ (s : List ℕ) (room : ℕ) where
   room-by : (k : Check) → decide Passed (tableRows InvalidWitness s) ≡ k
-      → canonicalParts s .found ▷ row (leb (20 + length (drop (canonicalParts s .rest) s)) room) BufferTooShort ≡ canonicalRoom s room
+      → decide Passed (tableRows InvalidWitness s) ▷ row (leb (20 + length (drop (secondOffsetOf s) s)) room) BufferTooShort ≡ canonicalRoom s room
   unfolding canonicalRoom writeFault decide _▷_
   room-by Passed h =
       let p : AllPass (tableRows InvalidWitness s) = passed-all-pass (tableRows InvalidWitness s) h in
-      rw (parts-read s p, ← length-canonical s (passes InvalidWitness s p))
-      (sym (decide-append Passed (tableRows InvalidWitness s) (row (leb (length (canonicalOf s)) room) BufferTooShort ∷ []) ∙ rw h))
+      rw (← length-from-second s (passes InvalidWitness s p))
+      (sym (decide-append Passed (tableRows InvalidWitness s) (row (leb (length (canonicalOf s)) room) BufferTooShort ∷ [])))
   room-by (Failed e) h =
-      rw (parts-refused s e h)
-      (sym (decide-append Passed (tableRows InvalidWitness s) (row (leb (length (canonicalOf s)) room) BufferTooShort ∷ []) ∙ rw h))
+      rw h (sym (decide-append Passed (tableRows InvalidWitness s) (row (leb (length (canonicalOf s)) room) BufferTooShort ∷ []) ∙ rw h))
 
-  pub room-found : canonicalParts s .found ▷ row (leb (20 + length (drop (canonicalParts s .rest) s)) room) BufferTooShort ≡ canonicalRoom s room
+  pub room-found : decide Passed (tableRows InvalidWitness s) ▷ row (leb (20 + length (drop (secondOffsetOf s) s)) room) BufferTooShort ≡ canonicalRoom s room
   room-found = room-by (decide Passed (tableRows InvalidWitness s)) refl

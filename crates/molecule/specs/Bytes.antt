@@ -40,15 +40,21 @@ unfoldable pub witnessLockRows : List ℕ → List Row
 witnessLockRows s =
     tableRows InvalidWitness s ++ (row (leb 1 (length (field1 s))) InvalidWitness ∷ bytesRows InvalidWitness (field1 s))
 
+abbrev pub witnessLockPlace : List ℕ → Place
+witnessLockPlace s = bytesPlaceFrom 16 (field1 s)
+
 unfoldable pub readWitnessLock : List ℕ → PlaceAnswer
-readWitnessLock s = placeAnswer (decide Passed (witnessLockRows s)) (bytesPlaceFrom 16 (field1 s))
+readWitnessLock s = placeAnswer (decide Passed (witnessLockRows s)) (witnessLockPlace s)
 
 -- "a script's args are field 3"; 01, "Where each refusal is raised": "script .., its table, args" are 20
 unfoldable pub scriptArgsRows : List ℕ → List Row
 scriptArgsRows s = tableRows InvalidArgs s ++ bytesRows InvalidArgs (field3 s)
 
+abbrev pub scriptArgsPlace : List ℕ → Place
+scriptArgsPlace s = bytesPlaceFrom (thirdOffsetOf s) (field3 s)
+
 unfoldable pub readScriptArgs : List ℕ → PlaceAnswer
-readScriptArgs s = placeAnswer (decide Passed (scriptArgsRows s)) (bytesPlaceFrom (thirdOffsetOf s) (field3 s))
+readScriptArgs s = placeAnswer (decide Passed (scriptArgsRows s)) (scriptArgsPlace s)
 
 -- the bytes of s that an answer places, none where it is a refusal
 unfoldable pub bytesIn : List ℕ → PlaceAnswer → List ℕ

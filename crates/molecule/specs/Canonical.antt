@@ -1,21 +1,17 @@
 -- 01, main.rs: "Canonical witness: the lock field becomes an empty Bytes, fields 2 and 3 are copied."
-use Prim.Native.Nat.{ℕ, _+_, _-_}
+use Prim.Native.Nat.{ℕ, _+_}
 use mathlib.Core.Path.{_≡_}
 use mathlib.Core.List.{List, [], _∷_, _++_}
-use lib.ListN.{length, take, drop, replicate}
+use lib.ListN.{length, take}
 use Rattle.octets.specs.Layout.{Field}
 use Rattle.protocol.specs.Rows.{AllPass}
 use Rattle.protocol.specs.Write.{writeFault, writeAnswer, afterWrite}
 use Rattle.protocol.specs.declared.error.ProtocolError.{ProtocolError}
 use Rattle.protocol.specs.declared.error.ProtocolError.the-variants.{InvalidWitness}
 use Rattle.protocol.specs.declared.check.Check.{Check}
-use Rattle.protocol.specs.declared.check.Check.the-variants.{Passed, Failed}
 use Rattle.protocol.specs.declared.check.WriteAnswer.{WriteAnswer}
-use Rattle.molecule.specs.declared.table.TableAnswer.{TableAnswer}
-use Rattle.molecule.specs.declared.table.TableAnswer.the-variants.{Fields, Refused}
-use Rattle.molecule.specs.declared.canonical.CanonicalParts.{CanonicalParts}
 use Rattle.molecule.specs.Molecule.{bytesVector, tableBytes}
-use Rattle.molecule.specs.Table3.{tableRows, readTable, field1, field2, field3}
+use Rattle.molecule.specs.Table3.{tableRows, field1, field2, field3}
 
 unfoldable pub canonicalOf : List ℕ → List ℕ
 canonicalOf s = tableBytes (bytesVector [] ∷ field2 s ∷ field3 s ∷ [])
@@ -39,16 +35,7 @@ canonicalWritten s out = writeAnswer (canonicalRoom s (length out)) (length (can
 unfoldable pub canonicalStored : List ℕ → List ℕ → List ℕ
 canonicalStored s out = afterWrite (canonicalRoom s (length out)) (canonicalOf s) out
 
--- The canonical witness without a copy: its first 20 bytes, and where in the witness the others begin, fields 2 and 3. Zeros
--- where the table is refused.
-unfoldable pub partsOf : TableAnswer → List ℕ → CanonicalParts
-partsOf (Fields f) s = record { found = Passed; head = take 20 (canonicalOf s); rest = f .second }
-partsOf (Refused e) s = record { found = Failed e; head = replicate 20 0; rest = 0 }
-
-unfoldable pub canonicalParts : List ℕ → CanonicalParts
-canonicalParts s = partsOf (readTable s) s
-
--- those 20 bytes: the total, the three offsets, and the length of the empty lock
+-- Its first 20 bytes: the total, the three offsets, and the length of the empty lock
 unfoldable pub canonicalHead : ℕ → ℕ → List Field
 canonicalHead total third =
     record { width = 4; value = total }
@@ -58,7 +45,7 @@ canonicalHead total third =
     ∷ record { width = 4; value = 0 }
     ∷ []
 
--- the two parts, one behind the other, are the canonical witness, and so are their lengths its length
+-- The canonical witness without a copy: its first 20 bytes, and fields 2 and 3 of the witness; and its length from theirs
 pub record Whole (s : List ℕ) : Type 0 where
-  pub bytes : canonicalParts s .head ++ drop (canonicalParts s .rest) s ≡ canonicalOf s
-  pub size : 20 + (length s - canonicalParts s .rest) ≡ length (canonicalOf s)
+  pub bytes : take 20 (canonicalOf s) ++ (field2 s ++ field3 s) ≡ canonicalOf s
+  pub size : 20 + length (field2 s) + length (field3 s) ≡ length (canonicalOf s)

@@ -1,6 +1,8 @@
 // The canonical witness: the lock field empty, the other two as they are.
-use crate::table::TableAnswer;
-use crate::table::table3_fields;
+use crate::fields::second_field;
+use crate::fields::second_offset_of;
+use crate::fields::third_field;
+use crate::table::check_table;
 use octets::fits;
 use octets::rest;
 use octets::store_bytes;
@@ -9,19 +11,12 @@ use protocol::Check;
 use protocol::ProtocolError;
 use protocol::WriteAnswer;
 ghost use mathlib.Core.Path.{_≡_};
+ghost use lib.ListN.{take};
 ghost use Rattle.octets.specs.Layout.{layoutBytes};
-ghost use Rattle.molecule.specs.Canonical.{canonicalHead, canonicalParts, canonicalWritten, canonicalStored};
-
-// The canonical witness's first 20 bytes, and where in the witness the others begin: fields 2 and 3, which end with it.
-// Zeros where the table is refused.
-pub struct CanonicalParts {
-    pub found: Check,
-    pub head: [u8; 20],
-    pub rest: usize,
-}
+ghost use Rattle.molecule.specs.Canonical.{canonicalOf, canonicalHead, canonicalWritten, canonicalStored};
 
 // The total, the three offsets, and the length of the empty lock.
-fn canonical_head(total: u64, third: u64) -> [u8; 20]
+fn head_bytes(total: u64, third: u64) -> [u8; 20]
     ensures { λ r. ⌜ r ≡ layoutBytes (canonicalHead total third) ⌝ }
 {
     let mut head = [0u8; 20];
@@ -33,31 +28,12 @@ fn canonical_head(total: u64, third: u64) -> [u8; 20]
     head
 }
 
-// The canonical witness without a copy.
-pub fn canonical_parts(witness: &[u8]) -> CanonicalParts
-    ensures { λ r. ⌜ r ≡ canonicalParts (now (witness .entry)) ⌝ }
+// The canonical witness's first 20 bytes; fields 2 and 3 follow them.
+pub fn canonical_head(witness: &[u8]) -> [u8; 20]
+    ensures { λ r. ⌜ r ≡ take 20 (canonicalOf (now (witness .entry))) ⌝ }
 {
-    match table3_fields(witness) {
-        TableAnswer::Refused(error) => {
-            let none = [0u8; 20];
-            CanonicalParts {
-                found: Check::Failed(error),
-                head: none,
-                rest: 0,
-            }
-        }
-        TableAnswer::Fields(fields) => {
-            let second = fields.second;
-            let third = fields.third;
-            let total = 20 + (witness.len() - second);
-            let head = canonical_head(total as u64, (20 + (third - second)) as u64);
-            CanonicalParts {
-                found: Check::Passed,
-                head: head,
-                rest: second,
-            }
-        }
-    }
+    let third = 20 + second_field(witness).len() as u64;
+    head_bytes(third + third_field(witness).len() as u64, third)
 }
 
 // Writes the canonical witness to the front of `out` and answers its length. A refused writer writes nothing.
@@ -65,17 +41,14 @@ pub fn canonical_witness(witness: &[u8], out: &mut [u8]) -> WriteAnswer
     ensures { λ r. ⌜ r ≡ canonicalWritten (now (witness .entry)) (now (out .entry)) ⌝ }
     ensures { λ _. ⌜ now (out .exit) ≡ canonicalStored (now (witness .entry)) (now (out .entry)) ⌝ }
 {
-    let parts = canonical_parts(witness);
-    let found = parts.found;
-    let start = parts.rest;
-    let copied = rest(witness, start);
-    match found.require(
+    let copied = rest(witness, second_offset_of(witness) as usize);
+    match check_table(witness, ProtocolError::InvalidWitness).require(
         fits(out.len(), 20, copied.len()),
         ProtocolError::BufferTooShort,
     ) {
         Check::Failed(error) => WriteAnswer::Refused(error),
         Check::Passed => {
-            let head = parts.head;
+            let head = canonical_head(witness);
             store_bytes(out, 0, &head);
             store_bytes(out, 20, copied);
             WriteAnswer::Written(20 + copied.len())

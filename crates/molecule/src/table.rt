@@ -1,12 +1,14 @@
 // The loose reader of a table of three fields.
-use octets::part;
-use octets::u32_at;
+use crate::fields::first_offset_of;
+use crate::fields::second_offset_of;
+use crate::fields::table_total_of;
+use crate::fields::third_offset_of;
 use protocol::Check;
 use protocol::ProtocolError;
 ghost use mathlib.Core.Path.{_≡_};
 ghost use Rattle.protocol.specs.Rows.{decide};
 ghost use Rattle.protocol.specs.declared.check.Check.the-variants.{Passed};
-ghost use Rattle.molecule.specs.Table3.{tableRows, tableFieldsOf, readTable, between};
+ghost use Rattle.molecule.specs.Table3.{tableRows, tableFieldsOf, readTable};
 
 // Where each field begins. It ends where the next one begins, the last with the table.
 pub struct TableFields {
@@ -20,15 +22,15 @@ pub enum TableAnswer {
     Refused(ProtocolError),
 }
 
-pub(crate) fn check_table(table: &[u8], error: ProtocolError) -> Check
+pub fn check_table(table: &[u8], error: ProtocolError) -> Check
     ensures { λ r. ⌜ r ≡ decide Passed (tableRows error (now (table .entry))) ⌝ }
 {
-    let second = u32_at(table, 8);
-    let third = u32_at(table, 12);
+    let second = second_offset_of(table);
+    let third = third_offset_of(table);
     Check::Passed
         .require(16 <= table.len(), error)
-        .require(u32_at(table, 0) as usize == table.len(), error)
-        .require(u32_at(table, 4) == 16, error)
+        .require(table_total_of(table) as usize == table.len(), error)
+        .require(first_offset_of(table) == 16, error)
         .require(16 <= second, error)
         .require(second <= third, error)
         .require(third as usize <= table.len(), error)
@@ -39,8 +41,8 @@ fn fields_at(table: &[u8]) -> TableFields
 {
     TableFields {
         first: 16,
-        second: u32_at(table, 8) as usize,
-        third: u32_at(table, 12) as usize,
+        second: second_offset_of(table) as usize,
+        third: third_offset_of(table) as usize,
     }
 }
 
@@ -52,14 +54,4 @@ pub fn table3_fields(table: &[u8]) -> TableAnswer
         Check::Failed(error) => TableAnswer::Refused(error),
         Check::Passed => TableAnswer::Fields(fields_at(table)),
     }
-}
-
-// The bytes from `start` up to `end`, as far as they are there.
-pub(crate) fn bytes_between(s: &[u8], start: usize, end: usize) -> &[u8]
-    ensures { λ r. ⌜ now r ≡ between (now (s .entry)) start end ⌝ }
-{
-    if end <= start {
-        return part(s, start, 0);
-    }
-    part(s, start, end - start)
 }

@@ -13,7 +13,7 @@ use Rattle.protocol.specs.declared.error.ProtocolError.{ProtocolError}
 use Rattle.protocol.specs.declared.error.ProtocolError.the-variants.{InvalidWitness}
 use Rattle.protocol.specs.declared.check.Check.{Check}
 use Rattle.protocol.specs.declared.check.Check.the-variants.{Passed, Failed}
-use Rattle.protocol.proofs.AllPass.{failed-passed, failed-first}
+use Rattle.protocol.proofs.AllPass.{then-passed, failed-first}
 use Rattle.account_witness.specs.Reading.{proofGiven, proofOf}
 use Rattle.account_witness.specs.Walk as witness
 use Rattle.account_witness.specs.declared.walk.Proof.{Proof}
@@ -33,11 +33,6 @@ then-failed : (a b : Check) (e : ProtocolError) → a then b ≡ Failed e → (a
 unfolding _then_
 then-failed Passed b e h = inr (refl, h)
 then-failed (Failed x) b e h = inl h
-
-then-passed : (a b : Check) → a then b ≡ Passed → (a ≡ Passed) × (b ≡ Passed)
-unfolding _then_
-then-passed Passed b h = (refl, h)
-then-passed (Failed x) b h = failed-passed x h
 
 -- rows that have only one refusal find that one
 abbrev Only : ProtocolError → List Row → Type 0

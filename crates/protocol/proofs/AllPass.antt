@@ -33,6 +33,12 @@ unfolding _then_
 decide-then Passed rs = refl
 decide-then (Failed e) rs = decide-failed rs e
 
+-- where both found nothing, each did
+pub then-passed : (a b : Check) → a then b ≡ Passed → (a ≡ Passed) × (b ≡ Passed)
+unfolding _then_
+then-passed Passed b e = (refl, e)
+then-passed (Failed x) b e = failed-passed x e
+
 first-row : (r : Row) (rs : List Row) (b : Bool) → r .test ≡ b → decide Passed (r ∷ rs) ≡ Passed → (r .test ≡ true) × (decide Passed rs ≡ Passed)
 unfolding decide _▷_
 first-row r rs true e h = (e, rw e at h)
@@ -48,6 +54,15 @@ pub all-pass-passed : (rs : List Row) → AllPass rs → decide Passed rs ≡ Pa
 unfolding decide _▷_
 all-pass-passed [] h = refl
 all-pass-passed (r ∷ rs) h = rw (h .0) (all-pass-passed rs (h .1))
+
+-- later rows count only where the earlier ones pass
+pub decide-where : (c : Check) (ps qs rs : List Row) → (AllPass ps → rs ≡ qs) → decide (decide c ps) rs ≡ decide c (ps ++ qs)
+decide-where Passed ps qs rs same = go (decide Passed ps) refl
+  where
+    go : (k : Check) → decide Passed ps ≡ k → decide (decide Passed ps) rs ≡ decide Passed (ps ++ qs)
+    go Passed h = rw (decide-append Passed ps qs, same (passed-all-pass ps h))
+    go (Failed e) h = rw (decide-append Passed ps qs, h, decide-failed rs e, decide-failed qs e)
+decide-where (Failed e) ps qs rs same = rw (decide-append (Failed e) ps qs, decide-failed ps e, decide-failed rs e, decide-failed qs e)
 
 -- every row of two lists passes where every row of each does
 pub all-pass-append : (ps qs : List Row) → AllPass ps → AllPass qs → AllPass (ps ++ qs)

@@ -5,7 +5,8 @@ use mathlib.Core.List.{List}
 use Prim.Native.Nat.{ℕ}
 use native.Mathlib.Omega.{arith}
 use lib.ListN.{take, drop}
-use Rattle.protocol.specs.Args.{argsAnswer, argsFault, readArgs, accountOf}
+use Rattle.protocol.specs.Args.{argsRows, argsAnswer, readArgs, accountOf}
+use Rattle.protocol.specs.Rows.{decide}
 use Rattle.protocol.specs.declared.check.Check.{Check}
 use Rattle.protocol.specs.declared.check.Check.the-variants.{Passed, Failed}
 use Rattle.protocol.specs.declared.args.AccountLockArgs.{AccountLockArgs}
@@ -20,4 +21,4 @@ place-one (Failed x) a e = absurd (let z : _≡_ {A = ℕ} 0 1 = cc in omega ari
 -- the account at the place that the reader gives
 pub args-given : (s : List ℕ) (a : AccountLockArgs) → readArgs s ≡ Args a → take 32 (drop (a .«account_id») s) ≡ accountOf s
 unfolding readArgs accountOf
-args-given s a e = rw (place-one (argsFault s) a e)
+args-given s a e = rw (place-one (decide Passed (argsRows s)) a e)

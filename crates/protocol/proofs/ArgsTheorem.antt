@@ -13,7 +13,7 @@ use lib.Seq.{take-all}
 use Rattle.octets.specs.Le.{numberAt}
 use Rattle.octets.proofs.LeLaws.{number-one}
 use Rattle.protocol.specs.Rows.{decide, AllPass, FirstFailed}
-use Rattle.protocol.specs.Args.{argsRows, argsFault, argsAnswer, readArgs, argsBytes, accountOf}
+use Rattle.protocol.specs.Args.{argsRows, argsAnswer, readArgs, argsBytes, accountOf}
 use Rattle.protocol.specs.Reading.{OneReading}
 use Rattle.protocol.specs.declared.error.ProtocolError.{ProtocolError}
 use Rattle.protocol.specs.declared.check.Check.{Check}
@@ -35,17 +35,17 @@ args-back (Failed e) = refl
 
 -- so the reader's answer tells what the rows find
 pub args-found : (s : List ℕ) → argsFound (readArgs s) ≡ decide Passed (argsRows s)
-unfolding readArgs argsFault
+unfolding readArgs
 args-found s = args-back (decide Passed (argsRows s))
 
 -- accepted exactly where every check passes
 pub args-accepts : (s : List ℕ) → (readArgs s ≡ Args (record { version = 1; «account_id» = 1 })) ↔ AllPass (argsRows s)
-unfolding readArgs argsFault argsAnswer
+unfolding readArgs argsAnswer
 args-accepts s = answer-accepts argsAnswer argsFound args-back (argsRows s)
 
 -- refused exactly with the first check that fails
 pub args-refuses : (s : List ℕ) (e : ProtocolError) → (readArgs s ≡ Refused e) ↔ FirstFailed (argsRows s) e
-unfolding readArgs argsFault argsAnswer
+unfolding readArgs argsAnswer
 args-refuses s e = answer-refuses argsAnswer argsFound args-back (argsRows s) e
 
 -- the one account

@@ -19,16 +19,13 @@ argsVersionOf s = numberAt s 0 1
 unfoldable pub argsRows : List ℕ → List Row
 argsRows s = row (eqb (length s) 33) InvalidArgs ∷ row (eqb (argsVersionOf s) 1) UnsupportedVersion ∷ []
 
-unfoldable pub argsFault : List ℕ → Check
-argsFault s = decide Passed (argsRows s)
-
 -- the account id stands at place 1
 unfoldable pub argsAnswer : Check → ArgsAnswer
 argsAnswer Passed = Args (record { version = 1; «account_id» = 1 })
 argsAnswer (Failed e) = Refused e
 
 unfoldable pub readArgs : List ℕ → ArgsAnswer
-readArgs s = argsAnswer (argsFault s)
+readArgs s = argsAnswer (decide Passed (argsRows s))
 
 -- the reading: the account id. Its written form:
 unfoldable pub argsBytes : List ℕ → List ℕ

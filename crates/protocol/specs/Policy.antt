@@ -1,8 +1,10 @@
 -- Algorithms, operations and capabilities.
 use Prim.Native.Nat.{ℕ, _/_, _%_}
 use mathlib.Core.Bool.{Bool, _||_, cond}
+use mathlib.Core.List.{List, [], _∷_}
 use lib.Dec.{eqb}
 use Rattle.protocol.specs.Errors.{errorNumber}
+use Rattle.protocol.specs.Rows.{Row, row}
 use Rattle.protocol.specs.declared.error.ProtocolError.the-variants.{InvalidOperation}
 use Rattle.protocol.specs.declared.policy.OperationCapability.{OperationCapability}
 use Rattle.protocol.specs.declared.policy.OperationCapability.the-variants.{Capability, Refused}
@@ -15,6 +17,10 @@ isSupportedAlgorithm a =
 -- 01, witness lock: "operation 1 to 3"; writers: "Operation outside 1 to 3 is 37 in them."
 unfoldable pub isOperation : ℕ → Bool
 isOperation o = eqb o 1 || (eqb o 2 || eqb o 3)
+
+-- "Operation outside 1 to 3 is 37 in them."
+unfoldable pub operationRows : ℕ → List Row
+operationRows o = row (isOperation o) InvalidOperation ∷ []
 
 -- 01: "Capability bits 1, 2, 4, 8: spend, rotate, recovery, session issue."
 unfoldable pub capabilityFor : ℕ → OperationCapability

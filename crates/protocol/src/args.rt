@@ -3,10 +3,12 @@ use crate::check::Check;
 use crate::constants::ACCOUNT_LOCK_ARGS_LEN;
 use crate::constants::ACCOUNT_LOCK_VERSION;
 use crate::error::ProtocolError;
+use octets::part;
 use octets::store_bytes;
 use octets::u8_at;
 ghost use mathlib.Core.Path.{_≡_};
-ghost use Rattle.protocol.specs.Args.{argsFault, readArgs, argsBytes};
+ghost use Rattle.protocol.specs.Args.{argsVersionOf, accountOf, argsRows, readArgs, argsBytes};
+ghost use Rattle.protocol.specs.Rows.{decide};
 
 // The version, and the place where the 32 bytes of the account id begin.
 pub struct AccountLockArgs {
@@ -19,8 +21,22 @@ pub enum ArgsAnswer {
     Refused(ProtocolError),
 }
 
-fn check_args(data: &[u8]) -> Check
-    ensures { λ r. ⌜ r ≡ argsFault (now («data» .entry)) ⌝ }
+// The first byte, zero where there is none.
+fn args_version_of(args: &[u8]) -> u8
+    ensures { λ r. ⌜ r ≡ argsVersionOf (now (args .entry)) ⌝ }
+{
+    u8_at(args, 0)
+}
+
+// The account id, as far as the args have it.
+pub fn account_of(args: &[u8]) -> &[u8]
+    ensures { λ r. ⌜ now r ≡ accountOf (now (args .entry)) ⌝ }
+{
+    part(args, 1, 32)
+}
+
+pub fn check_args(data: &[u8]) -> Check
+    ensures { λ r. ⌜ r ≡ decide Check.Passed (argsRows (now («data» .entry))) ⌝ }
 {
     Check::Passed
         .require(
@@ -28,7 +44,7 @@ fn check_args(data: &[u8]) -> Check
             ProtocolError::InvalidArgs,
         )
         .require(
-            u8_at(data, 0) == ACCOUNT_LOCK_VERSION,
+            args_version_of(data) == ACCOUNT_LOCK_VERSION,
             ProtocolError::UnsupportedVersion,
         )
 }

@@ -10,6 +10,8 @@ mod args; // args.rt
 pub use self::args::AccountLockArgs;
 pub use self::args::ArgsAnswer;
 pub use self::args::account_lock_args;
+pub use self::args::account_of;
+pub use self::args::check_args;
 pub use self::check::Check;
 pub use self::check::WriteAnswer;
 pub use self::check::check_number;

@@ -5,10 +5,10 @@ use mathlib.Core.List.{List, [], _∷_, _++_}
 use lib.ListN.{length, getD}
 use lib.Dec.{eqb, leb}
 use Rattle.octets.specs.Lists.{same}
-use Rattle.protocol.specs.Policy.{isOperation}
+use Rattle.protocol.specs.Policy.{operationRows}
 use Rattle.protocol.specs.Rows.{Row, row, decide}
 use Rattle.protocol.specs.declared.check.Check.the-variants.{Passed}
-use Rattle.protocol.specs.declared.error.ProtocolError.the-variants.{InvalidState, StateNotFound, DuplicateState, StateConsumedOnSpend, InvalidTransition, InvalidOperation}
+use Rattle.protocol.specs.declared.error.ProtocolError.the-variants.{InvalidState, StateNotFound, DuplicateState, StateConsumedOnSpend, InvalidTransition}
 use Rattle.scene_table.specs.Scene.{Cell, Input, Scene}
 use Rattle.cell_search.specs.declared.cells.Source.{Source}
 use Rattle.cell_search.specs.declared.cells.Source.the-variants as source
@@ -16,11 +16,11 @@ use Rattle.cell_search.specs.declared.cells.CellField.the-variants as field
 use Rattle.cell_search.specs.Search.{cellsOf, matches, cellSearch, indexOf, cellAt, noCell}
 use Rattle.state_transition.specs.declared.resolve.ResolvedState.{ResolvedState}
 
--- the places of the cells that hold the account's state: those whose type hash is its id
+-- the indices of the cells that hold the account's state: those whose type hash is its id
 unfoldable pub stateIndices : Source → List ℕ → Scene → List ℕ
 stateIndices from id s = matches field.TypeHash id (cellsOf from s)
 
--- the place of the one that does
+-- the index of the one that does
 unfoldable pub stateIndex : Source → List ℕ → Scene → ℕ
 stateIndex from id s = indexOf (cellSearch field.TypeHash id (cellsOf from s))
 
@@ -58,31 +58,36 @@ resolveRows operation id s = cond (eqb operation 1) (spendRows id s) (changeRows
 unfoldable pub stateSource : ℕ → Source
 stateSource operation = cond (eqb operation 1) source.CellDep source.Input
 
+abbrev pub currentAt : ℕ → ℕ → Scene → List ℕ
+currentAt operation index s = cellAt (cellsOf (stateSource operation) s) index .content
+
 unfoldable pub currentState : ℕ → List ℕ → Scene → List ℕ
-currentState operation id s = stateCell (stateSource operation) id s .content
+currentState operation id s = currentAt operation (stateIndex (stateSource operation) id s) s
 
 -- none where the state does not change
+abbrev pub successorAt : ℕ → ℕ → Scene → List ℕ
+successorAt operation index s = cond (eqb operation 1) [] (cellAt (cellsOf source.Output s) index .content)
+
 unfoldable pub successorState : ℕ → List ℕ → Scene → List ℕ
-successorState operation id s = cond (eqb operation 1) [] (stateCell source.Output id s .content)
+successorState operation id s = successorAt operation (stateIndex source.Output id s) s
 
 -- the since of the input that holds the state; a spend has no such input, and no row that asks for it
 unfoldable pub noInput : Input
 noInput = record { group = 0; since = 0; cell = noCell }
 
-unfoldable pub stateSince : ℕ → List ℕ → Scene → ℕ
-stateSince operation id s = getD (s .inputs) (stateIndex (stateSource operation) id s) noInput .since
+abbrev pub sinceAt : ℕ → Scene → ℕ
+sinceAt index s = getD (s .inputs) index noInput .since
 
+unfoldable pub stateSince : ℕ → List ℕ → Scene → ℕ
+stateSince operation id s = sinceAt (stateIndex (stateSource operation) id s) s
+
+-- what the search for the account's state answers: what its rows find, and the indices of the two cells; a spend has no successor.
 -- main.rs, `resolve_state`: 37 for an operation other than spend, rotate and recovery. The lock's list has no such row: there the
 -- witness lock's header has refused it with 22
-unfoldable pub operationRow : ℕ → Row
-operationRow operation = row (isOperation operation) InvalidOperation
-
--- what the search for the account's state answers: what that row and the operation's own find, and the places of the two cells;
--- a spend has no successor
 unfoldable pub resolvedOf : ℕ → List ℕ → Scene → ResolvedState
 resolvedOf operation id s =
     record {
-      found = decide Passed (operationRow operation ∷ resolveRows operation id s);
+      found = decide Passed (operationRows operation ++ resolveRows operation id s);
       current = stateIndex (stateSource operation) id s;
       successor = cond (eqb operation 1) 0 (stateIndex source.Output id s);
     }

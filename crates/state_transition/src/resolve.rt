@@ -13,17 +13,12 @@ use protocol::is_operation;
 use scene_table::input_count;
 use scene_table::input_since;
 ghost use mathlib.Core.Path.{_≡_};
-ghost use mathlib.Core.Bool.{cond};
-ghost use mathlib.Core.List.{[]};
-ghost use lib.Dec.{eqb};
-ghost use lib.ListN.{getD};
 ghost use Rattle.protocol.specs.Rows.{decide};
 ghost use Rattle.scene_table.specs.Lent.{sceneIn};
-ghost use Rattle.cell_search.specs.Search.{cellsOf, cellAt};
 ghost use Rattle.state_transition.specs.Branches.{spendOf, changeOf};
-ghost use Rattle.state_transition.specs.Resolve.{typeRows, resolvedOf, stateSource, noInput};
+ghost use Rattle.state_transition.specs.Resolve.{typeRows, resolvedOf, currentAt, successorAt, sinceAt};
 
-// What the rows of the search found, and the places of the two cells: the current state's among the deps where it is spent
+// What the rows of the search found, and the indices of the two cells: the current state's among the deps where it is spent
 // from, else among the inputs, and its successor's among the outputs.
 pub struct ResolvedState {
     pub found: Check,
@@ -106,34 +101,34 @@ pub fn resolve_state(table: &[u32], store: &[u8], operation: u8, account_id: &[u
     }
 }
 
-// The data of the cell at a place that holds the current state.
-pub fn current_state<'a>(table: &[u32], store: &'a [u8], operation: u8, place: u32) -> &'a [u8]
-    ensures { λ r. ⌜ now r ≡ cellAt (cellsOf (stateSource operation) (sceneIn (now (table .entry)) (now (store .entry)))) place .content ⌝ }
+// The data of the cell at an index that holds the current state.
+pub fn current_state<'a>(table: &[u32], store: &'a [u8], operation: u8, index: u32) -> &'a [u8]
+    ensures { λ r. ⌜ now r ≡ currentAt operation index (sceneIn (now (table .entry)) (now (store .entry))) ⌝ }
 {
     if operation == OP_SPEND {
-        cell_content(table, store, Source::CellDep, place)
+        cell_content(table, store, Source::CellDep, index)
     } else {
-        cell_content(table, store, Source::Input, place)
+        cell_content(table, store, Source::Input, index)
     }
 }
 
-// The data of the output at a place, nothing where the state is spent from and has no successor.
-pub fn successor_state<'a>(table: &[u32], store: &'a [u8], operation: u8, place: u32) -> &'a [u8]
-    ensures { λ r. ⌜ now r ≡ cond (eqb operation 1) [] (cellAt (cellsOf Source.Output (sceneIn (now (table .entry)) (now (store .entry)))) place .content) ⌝ }
+// The data of the output at an index, nothing where the state is spent from and has no successor.
+pub fn successor_state<'a>(table: &[u32], store: &'a [u8], operation: u8, index: u32) -> &'a [u8]
+    ensures { λ r. ⌜ now r ≡ successorAt operation index (sceneIn (now (table .entry)) (now (store .entry))) ⌝ }
 {
     if operation == OP_SPEND {
         part(store, 0, 0)
     } else {
-        cell_content(table, store, Source::Output, place)
+        cell_content(table, store, Source::Output, index)
     }
 }
 
-// The since of the input at a place.
-pub fn state_since(table: &[u32], store: &[u8], place: u32) -> u64
-    ensures { λ r. ⌜ r ≡ getD (sceneIn (now (table .entry)) (now (store .entry)) .inputs) place noInput .since ⌝ }
+// The since of the input at an index.
+pub fn state_since(table: &[u32], store: &[u8], index: u32) -> u64
+    ensures { λ r. ⌜ r ≡ sinceAt index (sceneIn (now (table .entry)) (now (store .entry))) ⌝ }
 {
-    if place < input_count(table) {
-        input_since(table, place)
+    if index < input_count(table) {
+        input_since(table, index)
     } else {
         0
     }

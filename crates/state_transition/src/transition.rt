@@ -1,8 +1,8 @@
 // The current state against the witness, its successor and the recovery's lock.
-use account_state::StateAnswer;
-use account_state::validate_state;
-use octets::u8_at;
-use octets::u64_at;
+use account_state::check_state;
+use account_state::flags_of;
+use account_state::recovery_since_of;
+use account_state::sequence_of;
 use protocol::ACCOUNT_STATE_MAX_LEN;
 use protocol::Check;
 use protocol::OP_RECOVERY;
@@ -12,7 +12,6 @@ ghost use mathlib.Core.Path.{_≡_};
 ghost use lib.Dec.{eqb};
 ghost use Prim.Native.Nat.{_+_};
 ghost use Rattle.protocol.specs.Rows.{decide};
-ghost use Rattle.account_state.specs.State.{stateRows};
 ghost use Rattle.state_transition.specs.Transition.{dataRows, currentRows, successorRows, recoveryRows, successionRows, transitionRows};
 
 pub fn check_data(current: &[u8], successor: &[u8]) -> Check
@@ -27,15 +26,6 @@ pub fn check_data(current: &[u8], successor: &[u8]) -> Check
             successor.len() <= ACCOUNT_STATE_MAX_LEN,
             ProtocolError::InvalidState,
         )
-}
-
-fn check_state(state: &[u8]) -> Check
-    ensures { λ r. ⌜ r ≡ decide Check.Passed (stateRows (now (state .entry))) ⌝ }
-{
-    match validate_state(state) {
-        StateAnswer::Valid(_, _) => Check::Passed,
-        StateAnswer::Refused(error) => Check::Failed(error),
-    }
 }
 
 // Whether a sequence is one more; none is after the last.
@@ -53,7 +43,7 @@ fn check_current(sequence: u64, current: &[u8]) -> Check
     ensures { λ r. ⌜ r ≡ decide Check.Passed (currentRows sequence (now (current .entry))) ⌝ }
 {
     check_state(current).require(
-        sequence == u64_at(current, 8),
+        sequence == sequence_of(current),
         ProtocolError::InvalidSequence,
     )
 }
@@ -62,7 +52,7 @@ fn check_successor(current: &[u8], successor: &[u8]) -> Check
     ensures { λ r. ⌜ r ≡ decide Check.Passed (successorRows (now (current .entry)) (now (successor .entry))) ⌝ }
 {
     check_state(successor).require(
-        is_next(u64_at(successor, 8), u64_at(current, 8)),
+        is_next(sequence_of(successor), sequence_of(current)),
         ProtocolError::InvalidSequence,
     )
 }
@@ -71,8 +61,11 @@ fn check_recovery(since: u64, current: &[u8]) -> Check
     ensures { λ r. ⌜ r ≡ decide Check.Passed (recoveryRows since (now (current .entry))) ⌝ }
 {
     Check::Passed
-        .require(u8_at(current, 5) % 2 == 1, ProtocolError::InvalidCapability)
-        .require(u64_at(current, 24) <= since, ProtocolError::RecoveryLocked)
+        .require(flags_of(current) % 2 == 1, ProtocolError::InvalidCapability)
+        .require(
+            recovery_since_of(current) <= since,
+            ProtocolError::RecoveryLocked,
+        )
 }
 
 // The rows of an operation that changes the state.

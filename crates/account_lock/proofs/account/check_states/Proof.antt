@@ -1,37 +1,35 @@
 -- `account_lock::account::check_states` meets its contract. Assumes nothing.
-use mathlib.Core.Path.{_≡_, refl, sym, ap, _∙_}
+use mathlib.Core.Path.{sym, _∙_}
 use denote.Ref.{now}
-use Rattle.protocol.specs.Rows.{decide, _▷_, _then_}
+use Rattle.protocol.specs.Rows.{decide, _then_}
 use Rattle.protocol.proofs.AllPass.{decide-append, decide-then}
 use Rattle.protocol.specs.declared.check.Check.the-variants.{Passed}
 use Rattle.scene_table.specs.Lent.{sceneIn}
 use Rattle.state_transition.specs.Transition.{dataRows, transitionRows}
-use Rattle.account_lock.specs.Lock.{account, operation, witnessSequence, current, successor, statesRows}
-use Rattle.account_lock.specs.Settled.{resolved}
-use Rattle.account_lock.proofs.Resolved.{state-current, state-since, state-successor}
+use Rattle.account_lock.specs.Lock.{account, operation, witnessSequence, successor, statesRows}
+use Rattle.account_lock.proofs.Resolved.{state-since, state-successor}
 use borrow.Author.Needs.{needs}
 use Rattle.account_lock.proofs.account.check_states.Statement.{statement}
 use Rattle.account_lock.proofs.account.check_states.Tie as tie
 
 returns : tie.Need-returns
-unfolding statesRows operation witnessSequence current successor resolved
+unfolding statesRows operation witnessSequence successor
 returns c =
     let p = c .before .before .before .before .before .before .before .before .before .before .before in
     let s = sceneIn (now (p .args .table)) (now (p .args .store)) in
     rw (
       c .and .ensures,
       c .before .validate-transition .ensures,
-      c .before .before .u64-at .ensures,
+      c .before .before .witness-sequence-of .ensures,
       c .before .before .before .check-data .ensures,
       c .before .before .before .before .state-since .ensures,
       c .before .before .before .before .before .successor-state .ensures,
-      c .before .before .before .before .before .before .current-state .ensures,
-      c .before .before .before .before .before .before .before .u8-at .ensures,
-      p .pre .1,
-      p .pre .0,
+      c .before .before .before .before .before .before .operation-of .ensures,
+      p .pre .resolved,
+      p .pre .current,
+      p .pre .witness,
       state-since (operation s) (account s) s,
       state-successor (operation s) (account s) s,
-      state-current (operation s) (account s) s,
     )
     (sym (decide-append Passed (dataRows _ _) _ ∙ decide-then _ (transitionRows _ _ _ _ _)))
 
@@ -39,7 +37,6 @@ pub check-states-spec : {M : Type 1} → statement M
 check-states-spec =
     tie.close
     (tie.spec
-    (λ c κs. search needs)
     (λ c κs. search needs)
     (λ c κs. search needs)
     (λ c κs. search needs)

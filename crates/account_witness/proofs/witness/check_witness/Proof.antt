@@ -6,7 +6,7 @@ use Rattle.account_witness.proofs.witness.check_witness.Tie as tie
 
 returns : tie.Need-returns
 returns c =
-    rw (c .and .ensures, c .before .check-proofs .ensures, c .before .before .require .ensures, c .before .before .before .check-header .ensures, c .before .before .before .before .proof-count-of .ensures) (witness-parts _)
+    rw (c .and .ensures, c .before .check-proofs .ensures, c .before .before .require .ensures, c .before .before .before .check-witness-header .ensures, c .before .before .before .before .proof-count-of .ensures) (witness-parts _)
 
 pub check-witness-spec : {M : Type 1} → statement M
 check-witness-spec =

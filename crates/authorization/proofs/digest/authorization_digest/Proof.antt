@@ -2,10 +2,11 @@
 use mathlib.Core.Path.{_≡_, sym, _∙_}
 use mathlib.Core.List.{List}
 use Prim.Native.Nat.{ℕ}
+use Rattle.protocol.specs.Policy.{operationRows}
 use Rattle.protocol.specs.Rows.{decide}
 use Rattle.protocol.specs.declared.check.Check.the-variants.{Passed}
 use Rattle.authorization.specs.declared.digest.AuthorizationDigest.{AuthorizationDigest}
-use Rattle.authorization.specs.Digest.{operationRows, digestAnswer, authorizationOf}
+use Rattle.authorization.specs.Digest.{digestAnswer, authorizationOf}
 use borrow.Author.Needs.{needs}
 use Rattle.authorization.proofs.digest.authorization_digest.Statement.{statement}
 use Rattle.authorization.proofs.digest.authorization_digest.Tie as tie

@@ -1,70 +1,52 @@
--- `authorization::witness::feed_canonical_witness` meets its contract, by what is found of the table. Assumes nothing.
-use mathlib.Core.Path.{_≡_, sym, ap, _∙_}
-use lib.ListN.{take}
-use Rattle.protocol.specs.Rows.{decide, AllPass}
-use Rattle.protocol.specs.declared.error.ProtocolError.the-variants.{InvalidWitness}
-use Rattle.protocol.specs.declared.check.Check.the-variants.{Passed}
-use Rattle.protocol.proofs.AllPass.{passed-all-pass}
-use Rattle.molecule.specs.declared.canonical.CanonicalParts.{CanonicalParts}
-use Rattle.molecule.specs.Table3.{tableRows, secondOffsetOf}
-use Rattle.molecule.specs.Canonical.{canonicalOf}
-use Rattle.molecule.proofs.Form.{passes}
-use Rattle.molecule.proofs.CanonicalForm.{parts-read, parts-found}
-use Rattle.blake2b.specs.declared.Blake2b.{Blake2b}
-use Rattle.authorization.specs.declared.witness.CanonicalFed.{CanonicalFed}
-use Rattle.authorization.specs.Hashed.{fedAnswer, canonicalFed}
+-- `authorization::witness::feed_canonical_witness` meets its contract: its parts fed one after another. Assumes nothing.
+use mathlib.Core.Path.{_≡_, ap}
+use native.Mathlib.Omega.{arith}
+use lib.ListN.{length}
+use Rattle.molecule.specs.Table3.{field2, field3}
+use Rattle.molecule.proofs.CanonicalForm.{fields-within}
 use Rattle.authorization.proofs.Feeding.{parts-fed}
 use borrow.Author.Needs.{needs}
 use Rattle.authorization.proofs.witness.feed_canonical_witness.Statement.{statement}
 use Rattle.authorization.proofs.witness.feed_canonical_witness.Tie as tie
 
--- equal but for how the hash state is written
-same-hash : {a b : Blake2b} → a ≡ b → _≡_ {A = CanonicalFed} (record { found = Passed; hash = a }) (record { found = Passed; hash = b })
-same-hash e = rw e
+add-u64-bytes-2 : tie.Need-add-u64-bytes-2
+add-u64-bytes-2 c =
+    let s = c .before .before .before .before .args .witness .now in
+    let l₂ : length (c .before .before .second-field .result .now) ≡ length (field2 s) = ap length (c .before .before .second-field .ensures) in
+    let l₃ : length (c .before .third-field .result .now) ≡ length (field3 s) = ap length (c .before .third-field .ensures) in
+    let n = fields-within s in
+    omega arith
 
 returns : tie.Need-returns
-unfolding canonicalFed fedAnswer
 returns c =
-    let p = c .before .before .before in
-    let s = p .before .before .args .witness .now in
-    rw (sym (ap (λ (q : CanonicalParts). q .found) (p .canonical-parts .ensures) ∙ parts-found s) ∙ c .before .found .given .1)
-
-returns-2 : tie.Need-returns-2
-unfolding canonicalFed fedAnswer
-returns-2 c =
-    let r = c .before .before .before .before .before .before in
-    let t = r .before .before in
-    let p = t .before .before in
-    let a = p .before .before .args in
-    let s = a .witness .now in
-    let told : decide Passed (tableRows InvalidWitness s) ≡ Passed = sym (ap (λ (q : CanonicalParts). q .found) (p .canonical-parts .ensures) ∙ parts-found s) ∙ t .enum-told .given .1 in
-    let h : AllPass (tableRows InvalidWitness s) = passed-all-pass (tableRows InvalidWitness s) told in
-    let e : p .canonical-parts .result ≡ record { found = Passed; head = take 20 (canonicalOf s); rest = secondOffsetOf s } = p .canonical-parts .ensures ∙ parts-read s h in
+    let l = c .before .before .before .before .before .before in
+    let f = l .before .before in
+    let a = f .before .before .before .args in
     rw (
-      told,
-      c .update3 .ensures,
-      c .before .update2 .ensures,
-      c .before .before .before .update .ensures,
-      c .before .before .before .before .before .u64-bytes .ensures,
-      r .rest .ensures,
-      e,
+      c .update4 .ensures,
+      c .before .update3 .ensures,
+      c .before .before .update2 .ensures,
+      c .before .before .before .before .update .ensures,
+      l .u64-bytes .ensures,
+      l .before .canonical-head .ensures,
+      f .third-field .ensures,
+      f .before .second-field .ensures,
     )
-    (same-hash (parts-fed (a .hash) s (passes InvalidWitness s h)))
+    (parts-fed (a .hash) (a .witness .now))
 
 pub feed-canonical-witness-spec : {M : Type 1} → statement M
-feed-canonical-witness-spec =
-    tie.close
+feed-canonical-witness-spec = tie.close
     (tie.spec
     (λ c κs. search needs)
+    (λ c κs. search needs)
+    (λ c κs. search needs)
     (λ c. search needs)
-    (λ c. search needs)
+    add-u64-bytes-2
     (λ c κs. search needs)
     (λ c. search needs)
     (λ c κs. search needs)
     (λ c. search needs)
     (λ c κs. search needs)
-    (λ c. search needs)
     (λ c κs. search needs)
     (λ c κs. search needs)
-    returns
-    returns-2)
+    returns)

@@ -2,7 +2,8 @@
 use mathlib.Core.Path.{_≡_, sym, _∙_}
 use Rattle.protocol.specs.Rows.{_▷_, decide}
 use Rattle.export_answers.proofs.Sizes.{first-whole, second-whole}
-use Rattle.authorization.specs.Digest.{operationRows, digestAnswer, authorizationOf}
+use Rattle.protocol.specs.Policy.{operationRows}
+use Rattle.authorization.specs.Digest.{digestAnswer, authorizationOf}
 use Rattle.exports_transaction.specs.Answers.{lentDigest}
 use borrow.Author.Needs.{needs}
 use Rattle.exports_transaction.proofs.hashes.digest_lent.Statement.{statement}

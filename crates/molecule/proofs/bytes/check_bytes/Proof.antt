@@ -7,7 +7,7 @@ use Rattle.molecule.proofs.bytes.check_bytes.Tie as tie
 
 returns : tie.Need-returns
 unfolding bytesRows decide
-returns c = rw (c .require2 .ensures, c .before .u32-at .ensures, c .before .before .require .ensures)
+returns c = rw (c .require2 .ensures, c .before .bytes-length-of .ensures, c .before .before .require .ensures)
 
 pub check-bytes-spec : {M : Type 1} → statement M
 check-bytes-spec =

@@ -6,7 +6,7 @@ use Rattle.molecule.proofs.bytes.place_of.Tie as tie
 
 returns : tie.Need-returns
 unfolding bytesPlaceFrom
-returns c = rw (c .u32-at .ensures)
+returns c = rw (c .bytes-length-of .ensures)
 
 pub place-of-spec : {M : Type 1} → statement M
 place-of-spec = tie.close (tie.spec (λ c. search needs) (λ c κs. search needs) (λ c. search needs) returns)

@@ -15,12 +15,12 @@ returns c =
       c .before .require5 .ensures,
       c .before .before .require4 .ensures,
       c4 .require3 .ensures,
-      c4 .before .u32-at4 .ensures,
+      c4 .before .first-offset-of .ensures,
       c2 .require2 .ensures,
-      c2 .before .u32-at3 .ensures,
+      c2 .before .table-total-of .ensures,
       c2 .before .before .require .ensures,
-      c2 .before .before .before .u32-at2 .ensures,
-      c2 .before .before .before .before .u32-at .ensures,
+      c2 .before .before .before .third-offset-of .ensures,
+      c2 .before .before .before .before .second-offset-of .ensures,
     )
 
 pub check-table-spec : {M : Type 1} → statement M

@@ -6,7 +6,7 @@ use Rattle.molecule.proofs.table.fields_at.Tie as tie
 
 returns : tie.Need-returns
 unfolding tableFieldsOf
-returns c = rw (c .u32-at2 .ensures, c .before .u32-at .ensures)
+returns c = rw (c .third-offset-of .ensures, c .before .second-offset-of .ensures)
 
 pub fields-at-spec : {M : Type 1} → statement M
 fields-at-spec = tie.close (tie.spec (λ c κs. search needs) (λ c. search needs) (λ c κs. search needs) (λ c. search needs) returns)

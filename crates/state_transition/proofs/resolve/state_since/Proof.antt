@@ -15,7 +15,7 @@ unfolding lentInput
 returns c =
     let a = c .before .before .before .before .before .args in
     c .input-since .ensures
-    ∙ sym (ap (λ (i : Input). i .since) (lent-given (now (a .table)) (now (a .store)) .inputs .nth (a .place) noInput (rw (c .before .before .input-count .ensures) at (c .before .if1 .taken))))
+    ∙ sym (ap (λ (i : Input). i .since) (lent-given (now (a .table)) (now (a .store)) .inputs .nth (a .index) noInput (rw (c .before .before .input-count .ensures) at (c .before .if1 .taken))))
 
 returns-2 : tie.Need-returns-2
 unfolding noInput

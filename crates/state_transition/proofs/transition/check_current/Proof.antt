@@ -11,7 +11,7 @@ use Rattle.state_transition.proofs.transition.check_current.Tie as tie
 
 returns : tie.Need-returns
 unfolding currentRows decide
-returns c = rw (c .require .ensures, c .before .u64-at .ensures, c .before .before .check-state .ensures) (sym (decide-append Passed (stateRows _) _))
+returns c = rw (c .require .ensures, c .before .sequence-of .ensures, c .before .before .check-state .ensures) (sym (decide-append Passed (stateRows _) _))
 
 pub check-current-spec : {M : Type 1} → statement M
 check-current-spec =

@@ -8,7 +8,7 @@ use Rattle.state_transition.proofs.transition.check_recovery.Tie as tie
 
 returns : tie.Need-returns
 unfolding recoveryRows decide
-returns c = rw (c .require2 .ensures, c .before .u64-at .ensures, c .before .before .require .ensures, c .before .before .before .u8-at .ensures, div-one)
+returns c = rw (c .require2 .ensures, c .before .recovery-since-of .ensures, c .before .before .require .ensures, c .before .before .before .flags-of .ensures, div-one)
 
 pub check-recovery-spec : {M : Type 1} → statement M
 check-recovery-spec =

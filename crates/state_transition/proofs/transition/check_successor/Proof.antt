@@ -11,7 +11,7 @@ use Rattle.state_transition.proofs.transition.check_successor.Tie as ti
 
 returns : tie.Need-returns
 unfolding successorRows decide
-returns c = rw (c .require .ensures, c .before .is-next .ensures, c .before .before .u64-at2 .ensures, c .before .before .before .u64-at .ensures, c .before .before .before .before .check-state .ensures) (sym (decide-append Passed (stateRows _) _))
+returns c = rw (c .require .ensures, c .before .is-next .ensures, c .before .before .sequence-of2 .ensures, c .before .before .before .sequence-of .ensures, c .before .before .before .before .check-state .ensures) (sym (decide-append Passed (stateRows _) _))
 
 pub check-successor-spec : {M : Type 1} → statement M
 check-successor-spec =
