@@ -47,25 +47,7 @@ unfoldable pub lentDigest : ℕ → List ℕ → ℕ → List ℕ → List ℕ �
 lentDigest operation account sequence state sighash =
     digestAnswer (decide (sizesFault account sighash) (operationRows operation)) (digestOf operation account sequence state sighash)
 
--- what its function returns, and leaves in the buffer that it is lent
-abbrev pub digestReturned : ℕ → List ℕ → ℕ → List ℕ → List ℕ → List ℕ → ℕ
-digestReturned operation account sequence state sighash out =
-    storedNumber (checkNumber (lentDigest operation account sequence state sighash .found))
-    (digestBytes (lentDigest operation account sequence state sighash)) (length out)
-
-abbrev pub digestLeft : ℕ → List ℕ → ℕ → List ℕ → List ℕ → List ℕ → List ℕ
-digestLeft operation account sequence state sighash out =
-    storedAfter (digestBytes (lentDigest operation account sequence state sighash)) out
-
 -- 01, of the lock: "a table that the reader, scene length aside, leaves for no accepted scene with a store this long", 7
 unfoldable pub lentSighash : List ℕ → List ℕ → Sighash
 lentSighash table store =
     cond (validTable table (length store)) (groupAnswer (sceneIn table store)) (sighashFound (Failed SlicesDisagree) [])
-
--- what its function returns, and leaves in the buffer that it is lent
-abbrev pub sighashReturned : List ℕ → List ℕ → List ℕ → ℕ
-sighashReturned table store out =
-    storedNumber (checkNumber (lentSighash table store .found)) (sighashBytes (lentSighash table store)) (length out)
-
-abbrev pub sighashLeft : List ℕ → List ℕ → List ℕ → List ℕ
-sighashLeft table store out = storedAfter (sighashBytes (lentSighash table store)) out
