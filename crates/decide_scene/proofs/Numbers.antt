@@ -17,7 +17,7 @@ use Rattle.protocol.specs.declared.check.Check.{Check}
 use Rattle.protocol.specs.declared.check.Check.the-variants.{Passed, Failed}
 use Rattle.protocol.proofs.Each.{Each, Refuses, each-append, each-refuses}
 use Rattle.scene_text.specs.Text.{pieces, lineEnd}
-use Rattle.scene_reader.specs.Reader.{ReaderState, ReaderOutcome, refused, held, outcomeAfter, lineRows, rowsOfLine, linePut, sceneEndRows, linesRows, linesPut, readerStart, sceneLimitRows, sceneRows, readOf, readerCheck}
+use Rattle.scene_reader.specs.Reader.{ReaderState, ReaderOutcome, readerRefuses, readerHolds, outcomeAfter, lineRows, rowsOfLine, linePut, sceneEndRows, linesRows, linesPut, readerStart, sceneLimitRows, sceneRows, readOf, readerCheck}
 use Rattle.scene_table.specs.Valid.{validTable}
 use Rattle.scene_reading.proofs.Accessors.{left-store-length, reader-leaves-valid}
 use Rattle.account_lock.specs.Lock as lock
@@ -76,10 +76,10 @@ not-seven n (inr h) q = absurd (omega arith)
 
 -- a number that neither the reader gives nor the lock over what the reader holds is not decided
 decided-never : (k room : ℕ) (o : ReaderOutcome) → checkNumber (readerCheck o) ≢ k
-    → ((h : ReaderState) → o ≡ held h → checkNumber (lock.lockOf (h .table) (h .store) room .found) ≢ k) → checkNumber (decidedBy o room .found) ≢ k
+    → ((h : ReaderState) → o ≡ readerHolds h → checkNumber (lock.lockOf (h .table) (h .store) room .found) ≢ k) → checkNumber (decidedBy o room .found) ≢ k
 unfolding decidedBy lock.refused
-decided-never k room (refused e) reader locks = reader
-decided-never k room (held h) reader locks = locks h refl
+decided-never k room (readerRefuses e) reader locks = reader
+decided-never k room (readerHolds h) reader locks = locks h refl
 
 module _ (scene : List ℕ) (n m room : ℕ) where
   -- 5 is not given with an answer buffer of 148,992 bytes
@@ -96,7 +96,7 @@ module _ (scene : List ℕ) (n m room : ℕ) where
       decided-never 6 room (readOf scene n m) (reader-never-six scene n m hn hm) (λ h e. lock-never-six (h .table) (h .store) room)
 
   -- the table of an accepted scene passes the lock's row for 7
-  held-valid : (h : ReaderState) → readOf scene n m ≡ held h → validTable (h .table) (length (h .store)) ≡ true
+  held-valid : (h : ReaderState) → readOf scene n m ≡ readerHolds h → validTable (h .table) (length (h .store)) ≡ true
   held-valid h e =
       let p : readerCheck (readOf scene n m) ≡ Passed = ap readerCheck e in
       let long : length (h .store) ≡ n = rw e at (left-store-length scene n m p) in

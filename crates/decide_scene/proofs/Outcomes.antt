@@ -10,7 +10,7 @@ use Rattle.protocol.specs.declared.error.ProtocolError.the-variants.{SceneTooLo
 use Rattle.protocol.specs.declared.check.Check.the-variants.{Passed, Failed}
 use Rattle.protocol.specs.Rows.{checkNumber}
 use Rattle.protocol.proofs.AllPass.{failed-passed}
-use Rattle.scene_reader.specs.Reader.{ReaderOutcome, refused, held, readerCheck, readerStore, readerTable}
+use Rattle.scene_reader.specs.Reader.{ReaderOutcome, readerRefuses, readerHolds, readerCheck, readerStore, readerTable}
 use Rattle.account_lock.specs.declared.answer.LockAnswer.{LockAnswer}
 use Rattle.account_lock.specs.Lock as lock
 use Rattle.answer_line.specs.Line.{lineOf}
@@ -20,14 +20,14 @@ use Rattle.decide_scene.specs.Decided.{decidedBy, decided, programDecide
 -- the reader refuses
 pub refused-decides : (o : ReaderOutcome) (e : ProtocolError) (room : ℕ) → readerCheck o ≡ Failed e → decidedBy o room ≡ lock.refused (Failed e)
 unfolding decidedBy
-refused-decides (refused d) e room h = ap lock.refused h
-refused-decides (held x) e room h = failed-passed e (sym h)
+refused-decides (readerRefuses d) e room h = ap lock.refused h
+refused-decides (readerHolds x) e room h = failed-passed e (sym h)
 
 -- the reader accepts
 pub held-decides : (o : ReaderOutcome) (n m room : ℕ) → readerCheck o ≡ Passed → decidedBy o room ≡ lock.lockOf (readerTable m o) (readerStore n o) room
 unfolding decidedBy
-held-decides (refused d) n m room h = failed-passed d h
-held-decides (held x) n m room h = refl
+held-decides (readerRefuses d) n m room h = failed-passed d h
+held-decides (readerHolds x) n m room h = refl
 
 -- the line of an answer
 pub told-line : (a : LockAnswer) (r : lock.Result) → a ≡ lock.answerOf r → lineOf (checkNumber (a .found)) (a .count) (a .length) (a .reached) (a .digest) ≡ resultLine r

@@ -7,7 +7,7 @@ use lib.ListN.{length}
 use Rattle.protocol.specs.declared.error.ProtocolError.the-variants.{SceneTooLong}
 use Rattle.protocol.specs.declared.check.Check.the-variants.{Failed}
 use Rattle.protocol.specs.Rows.{checkNumber}
-use Rattle.scene_reader.specs.Reader.{ReaderOutcome, refused, held, readOf}
+use Rattle.scene_reader.specs.Reader.{ReaderOutcome, readerRefuses, readerHolds, readOf}
 use Rattle.account_lock.specs.declared.answer.LockAnswer.{LockAnswer}
 use Rattle.account_lock.specs.Lock as lock
 use Rattle.answer_line.specs.Line.{lineOf}
@@ -16,8 +16,8 @@ use Rattle.protocol.specs.Limits.{tableMinEntries, answerBufferLength}
 -- the lock over what the reader leaves, with an answer buffer of `room` bytes; 01: "COUNT and LENGTH being 0 where the reader
 -- refuses", and there is no digest
 unfoldable pub decidedBy : ReaderOutcome → ℕ → lock.Result
-decidedBy (refused e) room = lock.refused (Failed e)
-decidedBy (held h) room = lock.lockOf (h .table) (h .store) room
+decidedBy (readerRefuses e) room = lock.refused (Failed e)
+decidedBy (readerHolds h) room = lock.lockOf (h .table) (h .store) room
 
 -- what is decided of a scene, with a store of n bytes and a table of m entries
 unfoldable pub decided : List ℕ → ℕ → ℕ → ℕ → lock.Result

@@ -12,7 +12,7 @@ use Rattle.protocol.proofs.AllPass.{passed-all-pass}
 use Rattle.scene_line.specs.declared.kind.Kind.{Kind}
 use Rattle.scene_line.specs.Line.{formsOk, lineBytes}
 use Rattle.scene_line.specs.Kind.{rank, firstForm}
-use Rattle.scene_reader.specs.Reader.{ReaderState, held, seenWith, linePutAs, lineRows}
+use Rattle.scene_reader.specs.Reader.{ReaderState, readerHolds, seenWith, linePutAs, lineRows}
 use Rattle.scene_reader.specs.Room.{lineOutcomeAs}
 
 module _ (h : ReaderState) (k : Kind) (fs : List (List ℕ)) where
@@ -22,7 +22,7 @@ module _ (h : ReaderState) (k : Kind) (fs : List (List ℕ)) where
     pub few : seenWith (h .last) (h .seen) (rank k) ≤ 64
     pub forms : formsOk true (firstForm k) fs ≡ true
     pub room : h .used + length (lineBytes (firstForm k) fs) ≤ length (h .store)
-    pub put-down : lineOutcomeAs h k fs ≡ held (linePutAs h k fs)
+    pub put-down : lineOutcomeAs h k fs ≡ readerHolds (linePutAs h k fs)
 
   pub line-passes : decide Passed (lineRows h k fs) ≡ Passed → Passes
   unfolding lineRows

@@ -17,7 +17,7 @@ use Rattle.scene_reader.specs.declared.state.LineStep.the-variants.{Next
 use Rattle.scene_text.specs.Text.{pieces, before, Cut, lineEnd, comma}
 use Rattle.scene_line.specs.declared.kind.Kind.{Kind}
 use Rattle.scene_line.specs.Kind.{lineKind, lineFields}
-use Rattle.scene_reader.specs.Reader.{ReaderState, ReaderOutcome, held, refused, outcomeAfter, rowsOfLine, linePut, linesRows, linesPut, linesOutcome, readerStart, sceneLimitRows, sceneRows, readOf}
+use Rattle.scene_reader.specs.Reader.{ReaderState, ReaderOutcome, readerHolds, readerRefuses, outcomeAfter, rowsOfLine, linePut, linesRows, linesPut, linesOutcome, readerStart, sceneLimitRows, sceneRows, readOf}
 use Rattle.scene_reader.specs.Room.{lineOutcomeAs, lineOutcome, sceneEndOutcome, ReadyAfter}
 use Rattle.scene_text.proofs.Pieces.{before-none}
 
@@ -45,7 +45,7 @@ module _ (h : ReaderState) (l m : List ℕ) (ls : List (List ℕ)) where
   run-passed e = rw (rows-on (rowsOfLine h l) (linesRows (linePut h l) (m ∷ ls)) e)
 
   -- a line that its rows refuse decides
-  pub run-failed : (a : ProtocolError) → decide Passed (rowsOfLine h l) ≡ Failed a → linesOutcome h (l ∷ m ∷ ls) ≡ refused a
+  pub run-failed : (a : ProtocolError) → decide Passed (rowsOfLine h l) ≡ Failed a → linesOutcome h (l ∷ m ∷ ls) ≡ readerRefuses a
   unfolding linesOutcome linesRows
   run-failed a e = rw (rows-off (rowsOfLine h l) (linesRows (linePut h l) (m ∷ ls)) a e)
 
@@ -68,17 +68,17 @@ module _ (scene : List ℕ) (n m : ℕ) where
   limits-passed e = rw (rows-on (sceneLimitRows scene m) (linesRows (readerStart n m) (pieces lineEnd scene)) e)
 
   -- else the row that fails
-  pub limits-failed : (a : ProtocolError) → decide Passed (sceneLimitRows scene m) ≡ Failed a → readOf scene n m ≡ refused a
+  pub limits-failed : (a : ProtocolError) → decide Passed (sceneLimitRows scene m) ≡ Failed a → readOf scene n m ≡ readerRefuses a
   unfolding readOf sceneRows
   limits-failed a e = rw (rows-off (sceneLimitRows scene m) (linesRows (readerStart n m) (pieces lineEnd scene)) a e)
 
 -- something is held where the rows passed
-pub held-passed : (c : Check) (h g : ReaderState) → outcomeAfter c h ≡ held g → (c ≡ Passed) × (h ≡ g)
+pub held-passed : (c : Check) (h g : ReaderState) → outcomeAfter c h ≡ readerHolds g → (c ≡ Passed) × (h ≡ g)
 held-passed Passed h g e = (refl, cc)
 held-passed (Failed a) h g e = absurd (let z : _≡_ {A = ℕ} 0 1 = cc in omega arith)
 
 -- and a refusal is the one that they found
-pub refused-failed : (c : Check) (h : ReaderState) (a : ProtocolError) → outcomeAfter c h ≡ refused a → c ≡ Failed a
+pub refused-failed : (c : Check) (h : ReaderState) (a : ProtocolError) → outcomeAfter c h ≡ readerRefuses a → c ≡ Failed a
 refused-failed Passed h a e = absurd (let z : _≡_ {A = ℕ} 0 1 = cc in omega arith)
 refused-failed (Failed b) h a e = cc
 
@@ -93,14 +93,14 @@ pieces-some c s = some (pieces c s) (before-none c s)
 
 module _ (h : ReaderState) (l s : List ℕ) (P : List (List ℕ)) (cut : P ≡ l ∷ pieces lineEnd s) where
   -- a line that is held, and those behind it
-  pub run-on : (g : ReaderState) → lineOutcome h l ≡ held g → linesOutcome h P ≡ linesOutcome g (pieces lineEnd s)
+  pub run-on : (g : ReaderState) → lineOutcome h l ≡ readerHolds g → linesOutcome h P ≡ linesOutcome g (pieces lineEnd s)
   run-on g q =
       let k = held-passed _ _ g q in
       let z = pieces-some lineEnd s in
       rw (cut, z .2) (run-passed h l (z .0) (z .1) (k .0) ∙ rw (k .1))
 
   -- a line that is refused
-  pub run-off : (a : ProtocolError) → lineOutcome h l ≡ refused a → linesOutcome h P ≡ refused a
+  pub run-off : (a : ProtocolError) → lineOutcome h l ≡ readerRefuses a → linesOutcome h P ≡ readerRefuses a
   run-off a q =
       let z = pieces-some lineEnd s in
       rw (cut, z .2) (run-failed h l (z .0) (z .1) a (refused-failed _ _ a q))

@@ -15,7 +15,7 @@ use Rattle.scene_line.specs.Kind.{rank, fieldCount, firstForm, follows}
 use Rattle.scene_line.proofs.KindLaws.{rank-small}
 use Rattle.scene_reader.specs.declared.state.State.{State}
 use Rattle.scene_reader.specs.declared.state.LineStep.the-variants.{Next}
-use Rattle.scene_reader.specs.Reader.{ReaderState, held, seenWith, linePutAs}
+use Rattle.scene_reader.specs.Reader.{ReaderState, readerHolds, seenWith, linePutAs}
 use Rattle.scene_reader.specs.Room.{stateHolding, lineOutcomeAs, entriesLimit, ReaderReady, ReadyAfter}
 use Rattle.scene_reader.proofs.Bounds.{fits, entries-limit-small}
 use Rattle.scene_reader.proofs.LinePasses.{Passes}
@@ -56,7 +56,7 @@ module _ (s : State) (st tb : List ℕ) (k : Kind) (fs : List (List ℕ)) where
         (omega (arith, least, rank-small k), omega (arith, least, small, within))
 
     -- what the line's step gives
-    pub stepped : (r : State) (st′ tb′ : List ℕ) → stateHolding r st′ tb′ ≡ linePutAs (stateHolding s st tb) k fs → held (stateHolding r st′ tb′) ≡ lineOutcomeAs (stateHolding s st tb) k fs
+    pub stepped : (r : State) (st′ tb′ : List ℕ) → stateHolding r st′ tb′ ≡ linePutAs (stateHolding s st tb) k fs → readerHolds (stateHolding r st′ tb′) ≡ lineOutcomeAs (stateHolding s st tb) k fs
     stepped r st′ tb′ e = rw e (sym (z .put-down))
 
     -- the state after the line is ready

@@ -29,8 +29,8 @@ pub record ReaderState : Type 0 where
 
 -- a refusal, or what is held
 pub data ReaderOutcome : Type 0 where
-  refused : ProtocolError → ReaderOutcome
-  held : ReaderState → ReaderOutcome
+  readerRefuses : ProtocolError → ReaderOutcome
+  readerHolds : ReaderState → ReaderOutcome
 
 -- how many lines of kind k were read, with this one
 abbrev pub seenWith : ℕ → ℕ → ℕ → ℕ
@@ -89,8 +89,8 @@ linesPut h (l ∷ m ∷ ls) = linesPut (linePut h l) (m ∷ ls)
 
 -- the refusal that rows found, or else what is held after them
 abbrev pub outcomeAfter : Check → ReaderState → ReaderOutcome
-outcomeAfter (Failed e) h = refused e
-outcomeAfter Passed h = held h
+outcomeAfter (Failed e) h = readerRefuses e
+outcomeAfter Passed h = readerHolds h
 
 -- what the lines alone give, the reader's own two rows aside
 unfoldable pub linesOutcome : ReaderState → List (List ℕ) → ReaderOutcome
@@ -119,15 +119,15 @@ readInto scene store table = readOf scene (length store) (length table)
 
 -- what the reader answers
 abbrev pub readerCheck : ReaderOutcome → Check
-readerCheck (refused e) = Failed e
-readerCheck (held h) = Passed
+readerCheck (readerRefuses e) = Failed e
+readerCheck (readerHolds h) = Passed
 
 -- 01: "both are zeroed first, and are all zero after a refusal": the store of n bytes afterwards
 abbrev pub readerStore : ℕ → ReaderOutcome → List ℕ
-readerStore n (refused e) = replicate n 0
-readerStore n (held h) = h .store
+readerStore n (readerRefuses e) = replicate n 0
+readerStore n (readerHolds h) = h .store
 
 -- the table of m entries afterwards
 abbrev pub readerTable : ℕ → ReaderOutcome → List ℕ
-readerTable m (refused e) = replicate m 0
-readerTable m (held h) = h .table
+readerTable m (readerRefuses e) = replicate m 0
+readerTable m (readerHolds h) = h .table

@@ -16,7 +16,7 @@ use Rattle.scene_line.specs.Kind.{firstForm}
 use Rattle.scene_reader.specs.declared.state.State.{State}
 use Rattle.scene_reader.specs.declared.state.LineStep.{LineStep}
 use Rattle.scene_reader.specs.declared.state.LineStep.the-variants.{Next, Refused}
-use Rattle.scene_reader.specs.Reader.{ReaderState, ReaderOutcome, refused, held, outcomeAfter, lineRows, rowsOfLine, sceneEndRows, linePutAs, linePut}
+use Rattle.scene_reader.specs.Reader.{ReaderState, ReaderOutcome, readerRefuses, readerHolds, outcomeAfter, lineRows, rowsOfLine, sceneEndRows, linePutAs, linePut}
 
 -- the state in the code, with the store and the table
 abbrev pub stateHolding : State → List ℕ → List ℕ → ReaderState
@@ -24,8 +24,8 @@ stateHolding s store table = record { last = s .last; seen = s .seen; used = s .
 
 -- what a step of the code leaves
 abbrev pub stepOutcome : LineStep → List ℕ → List ℕ → ReaderOutcome
-stepOutcome (Next s) store table = held (stateHolding s store table)
-stepOutcome (Refused e) store table = refused e
+stepOutcome (Next s) store table = readerHolds (stateHolding s store table)
+stepOutcome (Refused e) store table = readerRefuses e
 
 -- a line of kind k with the fields fs: its rows, and then it is put down
 abbrev pub lineOutcomeAs : ReaderState → Kind → List (List ℕ) → ReaderOutcome

@@ -10,7 +10,7 @@ use lib.ListN.{length, replicate, length-append, length-replicate}
 use Rattle.octets.specs.Lists.{joined, every}
 use Rattle.scene_text.specs.Text.{pieces, lineEnd}
 use Rattle.scene_line.specs.Kind.{rank}
-use Rattle.scene_reader.specs.Reader.{ReaderState, held, seenWith, linesOutcome, readerStart}
+use Rattle.scene_reader.specs.Reader.{ReaderState, readerHolds, seenWith, linesOutcome, readerStart}
 use Rattle.scene_reading.specs.Lines.{LinesAccepted, kindOfLine, countOk, formOk, bytesOfLine}
 use Rattle.octets.proofs.Truth.{and-both, both-and}
 use Rattle.scene_reading.proofs.Order.{Order}
@@ -51,7 +51,7 @@ apart (l ∷ ls) last seen used size t =
 
 module _ (text : List ℕ) (n m : ℕ) where
   -- a text that the run accepts is refused by no row
-  pub accepted-passes : (g : ReaderState) → linesOutcome (readerStart n m) (pieces lineEnd text) ≡ held g → LinesAccepted text n
+  pub accepted-passes : (g : ReaderState) → linesOutcome (readerStart n m) (pieces lineEnd text) ≡ readerHolds g → LinesAccepted text n
   unfolding readerStart
   accepted-passes g e =
       let r : Ran (readerStart n m) g (pieces lineEnd text) = run-text text (readerStart n m) g e in
@@ -75,7 +75,7 @@ module _ (text : List ℕ) (n m : ℕ) where
       }
 
   -- a text that no row refuses is accepted, and its lines are put down
-  pub passes-run : (p : LinesAccepted text n) → linesOutcome (readerStart n m) (pieces lineEnd text) ≡ held (putLines (readerStart n m) (p .lines))
+  pub passes-run : (p : LinesAccepted text n) → linesOutcome (readerStart n m) (pieces lineEnd text) ≡ readerHolds (putLines (readerStart n m) (p .lines))
   unfolding readerStart
   passes-run p =
       let order : Order 0 0 (map kindOfLine (p .lines)) =
@@ -86,5 +86,5 @@ module _ (text : List ℕ) (n m : ℕ) where
       (apart (p .lines) 0 0 0 (length (replicate n 0))
       (record { order = order; counts = p .counted; forms = p .formed; room = rw (zero-add, length-replicate {A = ℕ} n 0) (p .room) })))
 
-  pub passes-accepted : LinesAccepted text n → (g : ReaderState) × (linesOutcome (readerStart n m) (pieces lineEnd text) ≡ held g)
+  pub passes-accepted : LinesAccepted text n → (g : ReaderState) × (linesOutcome (readerStart n m) (pieces lineEnd text) ≡ readerHolds g)
   passes-accepted p = (putLines (readerStart n m) (p .lines), passes-run p)

@@ -11,7 +11,7 @@ use lib.ListN.{length, replicate, length-append, length-replicate}
 use Rattle.protocol.specs.declared.check.Check.the-variants.{Passed}
 use Rattle.scene_reader.specs.Reader as reader
 use Rattle.scene_reader.specs.Reader.{readOf, readerCheck}
-use Rattle.scene_table.specs.Scene.{Scene, sceneBytes, sceneNumbers, zeroPadded, sceneStore, sceneTable}
+use Rattle.scene_table.specs.Scene.{Scene, sceneBytes, sceneNumbers, paddedTo, sceneStore, sceneTable}
 use Rattle.scene_table.specs.Lent.{sceneIn}
 use Rattle.scene_table.specs.Valid.{sceneOk, validTable}
 use Rattle.scene_table.proofs.Inverse.{lent-back}
@@ -64,8 +64,8 @@ table-test table n = (
 )
 
 -- as long as it is to be
-padded-length : (xs : List ℕ) (n : ℕ) → length xs ≤ n → length (zeroPadded n xs) ≡ n
-unfolding zeroPadded
+padded-length : (xs : List ℕ) (n : ℕ) → length xs ≤ n → length (paddedTo n xs) ≡ n
+unfolding paddedTo
 padded-length xs n h = omega (arith, length-append xs (replicate (n - length xs) 0), length-replicate {A = ℕ} (n - length xs) 0)
 
 module _ (text : List ℕ) (n m : ℕ) (e : readerCheck (readOf text n m) ≡ Passed) where

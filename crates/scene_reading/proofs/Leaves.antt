@@ -13,8 +13,8 @@ use Rattle.scene_text.specs.Text.{pieces, lineEnd}
 use Rattle.scene_line.specs.declared.kind.Kind.{Kind}
 use Rattle.scene_line.specs.Kind.{rank, firstForm}
 use Rattle.scene_line.specs.Line.{lineEntries}
-use Rattle.scene_reader.specs.Reader.{ReaderState, held, seenWith, linePutAs, linesOutcome, readerStart}
-use Rattle.scene_table.specs.Scene.{Scene, linesOf, countsOf, recordsFrom, sceneBytes, sceneNumbers, zeroPadded, sceneStore, sceneTable}
+use Rattle.scene_reader.specs.Reader.{ReaderState, readerHolds, seenWith, linePutAs, linesOutcome, readerStart}
+use Rattle.scene_table.specs.Scene.{Scene, linesOf, countsOf, recordsFrom, sceneBytes, sceneNumbers, paddedTo, sceneStore, sceneTable}
 use Rattle.scene_reading.specs.Lines.{LinesAccepted, kindsOf, kindOfLine, fieldsOfLine, bytesOfLine}
 use Rattle.scene_reading.specs.Reading.{sceneOf}
 use Rattle.scene_table.proofs.SceneBack.{sayable}
@@ -73,8 +73,8 @@ drop-zeros zero n = rw (sub-zero n)
 drop-zeros (suc k) zero = rw (zero-sub (suc k))
 drop-zeros (suc k) (suc n) = rw (suc-sub-suc n k) (drop-zeros k n)
 
-front-padded : (xs : List ℕ) (n : ℕ) → length xs ≤ n → sets (replicate n 0) 0 xs ≡ zeroPadded n xs
-unfolding zeroPadded
+front-padded : (xs : List ℕ) (n : ℕ) → length xs ≤ n → sets (replicate n 0) 0 xs ≡ paddedTo n xs
+unfolding paddedTo
 front-padded xs n h = sets-front (replicate n 0) xs (rw (length-replicate {A = ℕ} n 0) h) ∙ rw (drop-zeros (length xs) n)
 
 -- ---- a whole text
@@ -130,7 +130,7 @@ module _ (text : List ℕ) (n : ℕ) (p : LinesAccepted text n) where
         ∙ rw numbers-said (front-padded (sceneNumbers scene) m h)))
 
     -- what the run holds at the end
-    pub passes-leaves : (g : ReaderState) → linesOutcome (readerStart n m) (pieces lineEnd text) ≡ held g
+    pub passes-leaves : (g : ReaderState) → linesOutcome (readerStart n m) (pieces lineEnd text) ≡ readerHolds g
         → (g .store ≡ sceneStore (sceneOf (p .lines)) n)
         × (length (sceneNumbers (sceneOf (p .lines))) ≤ m → g .table ≡ sceneTable (sceneOf (p .lines)) m)
     unfolding scene

@@ -19,7 +19,7 @@ use Rattle.scene_line.specs.declared.kind.Kind.the-variants.{Unknown}
 use Rattle.scene_line.specs.Kind.{rank, fieldCount, firstForm, kindOf, follows, lineKind, lineFields}
 use Rattle.scene_line.specs.Line.{formsOk, lineBytes}
 use Rattle.octets.specs.Lists.{same}
-use Rattle.scene_reader.specs.Reader.{ReaderState, refused, held, seenWith, linePutAs, lineRows, rowsOfLine, linePut, sceneEndRows, linesOutcome}
+use Rattle.scene_reader.specs.Reader.{ReaderState, readerRefuses, readerHolds, seenWith, linePutAs, lineRows, rowsOfLine, linePut, sceneEndRows, linesOutcome}
 use Rattle.scene_reader.proofs.LinesOutcome.{run-passed, run-failed, run-last, held-passed, pieces-some}
 use Rattle.scene_reading.specs.Lines.{wordOf, kindOfLine, fieldsOfLine, countOk, formOk, bytesOfLine}
 use Rattle.octets.proofs.Truth.{and-both}
@@ -80,7 +80,7 @@ module _ (last : ℕ) where
 
 -- ---- one line
 
-pub held-same : (g h : ReaderState) → held g ≡ held h → g ≡ h
+pub held-same : (g h : ReaderState) → readerHolds g ≡ readerHolds h → g ≡ h
 held-same g h e = cc
 
 -- every row passes a line of a kind with a rank
@@ -148,7 +148,7 @@ ends h e = (refl, (eq-eqb (h .last) 7 e, tt))
 
 -- lines that pass are put down
 pub lines-run : (ls : List (List ℕ)) (h : ReaderState) → LinesPass (h .last) (h .seen) (h .used) (length (h .store)) ls
-    → linesOutcome h (ls ++ ([] ∷ [])) ≡ held (putLines h ls)
+    → linesOutcome h (ls ++ ([] ∷ [])) ≡ readerHolds (putLines h ls)
 unfolding LinesPass putLines
 lines-run [] h p = run-last h [] _ refl ∙ rw (all-pass-passed (sceneEndRows h []) (ends h p))
 lines-run (l ∷ ls) h p =
@@ -166,25 +166,25 @@ no-bytes : (l : List ℕ) → eqb (length l) 0 ≡ true → l ≡ []
 no-bytes [] e = refl
 no-bytes (x ∷ l) e = absurd (let z : suc (length l) ≡ 0 = eqb-true (suc (length l)) 0 e in omega arith)
 
-ran-last : (h g : ReaderState) (l : List ℕ) → linesOutcome h (l ∷ []) ≡ held g → Ran h g (l ∷ [])
+ran-last : (h g : ReaderState) (l : List ℕ) → linesOutcome h (l ∷ []) ≡ readerHolds g → Ran h g (l ∷ [])
 unfolding sceneEndRows LinesPass putLines
 ran-last h g l e =
     let p = held-passed _ _ g (sym (run-last h l _ refl) ∙ e) in
     let b = passed-all-pass (sceneEndRows h l) (p .0) in
     record { lines = []; ended = rw (no-bytes l (b .0)); pass = eqb-true (h .last) 7 (b .1 .0); result = sym (p .1) }
 
-run-lines : (l : List ℕ) (ls : List (List ℕ)) (h g : ReaderState) → linesOutcome h (l ∷ ls) ≡ held g → Ran h g (l ∷ ls)
+run-lines : (l : List ℕ) (ls : List (List ℕ)) (h g : ReaderState) → linesOutcome h (l ∷ ls) ≡ readerHolds g → Ran h g (l ∷ ls)
 unfolding LinesPass putLines
 run-lines l [] h g e = ran-last h g l e
 run-lines l (k ∷ ls) h g e = on (decide Passed (rowsOfLine h l)) refl (λ j q. run-lines k ls j g q)
   where
-    on : (c : Check) → decide Passed (rowsOfLine h l) ≡ c → ((j : ReaderState) → linesOutcome j (k ∷ ls) ≡ held g → Ran j g (k ∷ ls)) → Ran h g (l ∷ k ∷ ls)
-    on (Failed a) s rec = absurd (let r : refused a ≡ held g = sym (run-failed h l k ls a s) ∙ e in let z : _≡_ {A = ℕ} 0 1 = cc in omega arith)
+    on : (c : Check) → decide Passed (rowsOfLine h l) ≡ c → ((j : ReaderState) → linesOutcome j (k ∷ ls) ≡ readerHolds g → Ran j g (k ∷ ls)) → Ran h g (l ∷ k ∷ ls)
+    on (Failed a) s rec = absurd (let r : readerRefuses a ≡ readerHolds g = sym (run-failed h l k ls a s) ∙ e in let z : _≡_ {A = ℕ} 0 1 = cc in omega arith)
     on Passed s rec =
         let p = holds-line h l (passed-all-pass (rowsOfLine h l) s) in
         let r = rec (putLine h l) (rw (p .1) at (sym (run-passed h l k ls s) ∙ e)) in
         record { lines = l ∷ r .lines; ended = ap (λ (t : List (List ℕ)). l ∷ t) (r .ended); pass = (p .0, from h l (r .lines) (r .pass)); result = r .result }
 
 -- so do those of a text, which has at least one piece
-pub run-text : (text : List ℕ) (h g : ReaderState) → linesOutcome h (pieces lineEnd text) ≡ held g → Ran h g (pieces lineEnd text)
+pub run-text : (text : List ℕ) (h g : ReaderState) → linesOutcome h (pieces lineEnd text) ≡ readerHolds g → Ran h g (pieces lineEnd text)
 run-text text h g e = let q = pieces-some lineEnd text in rw (q .2) (run-lines (q .0) (q .1) h g (rw (q .2) at e))

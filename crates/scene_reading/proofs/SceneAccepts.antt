@@ -11,7 +11,7 @@ use borrow.Author.Tests.{le-leb}
 use Rattle.protocol.specs.declared.check.Check.the-variants.{Passed}
 use Rattle.protocol.proofs.AllPass.{all-pass-passed, all-pass-split}
 use Rattle.scene_text.specs.Text.{pieces, lineEnd}
-use Rattle.scene_reader.specs.Reader.{ReaderState, ReaderOutcome, refused, held, linesOutcome, readerStart, sceneLimitRows, sceneRows, readOf, readerCheck}
+use Rattle.scene_reader.specs.Reader.{ReaderState, ReaderOutcome, readerRefuses, readerHolds, linesOutcome, readerStart, sceneLimitRows, sceneRows, readOf, readerCheck}
 use Rattle.scene_reader.proofs.LinesOutcome.{limits-within, limits-passed}
 use Rattle.scene_reader.proofs.SceneRefuses as rows
 use Rattle.scene_table.specs.Scene.{sceneNumbers}
@@ -25,9 +25,9 @@ use Rattle.scene_reading.proofs.PrintBack.{reading-ok}
 use Rattle.scene_table.proofs.SceneBack.{numbers-few}
 
 -- an outcome that passes holds something
-passed-held : (o : ReaderOutcome) → readerCheck o ≡ Passed → (g : ReaderState) × (o ≡ held g)
-passed-held (refused e) h = absurd (let z : _≡_ {A = ℕ} 0 1 = cc in omega arith)
-passed-held (held g) h = (g, refl)
+passed-held : (o : ReaderOutcome) → readerCheck o ≡ Passed → (g : ReaderState) × (o ≡ readerHolds g)
+passed-held (readerRefuses e) h = absurd (let z : _≡_ {A = ℕ} 0 1 = cc in omega arith)
+passed-held (readerHolds g) h = (g, refl)
 
 module _ (text : List ℕ) (n m : ℕ) where
   accepted : readerCheck (readOf text n m) ≡ Passed → (length text ≤ sceneMaxLength) × ((tableMinEntries ≤ m) × LinesAccepted text n)

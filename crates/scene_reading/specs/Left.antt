@@ -6,7 +6,7 @@ use mathlib.Core.List.{List}
 use lib.ListN.{length}
 use Rattle.scene_text.specs.Text.{pieces, lineEnd}
 use Rattle.scene_reader.specs.Reader as reader
-use Rattle.scene_reader.specs.Reader.{ReaderState, held, linesOutcome, readerStart, readOf}
+use Rattle.scene_reader.specs.Reader.{ReaderState, readerHolds, linesOutcome, readerStart, readOf}
 use Rattle.scene_table.specs.Scene.{Scene, sceneBytes, sceneNumbers, sceneStore, sceneTable}
 use Rattle.scene_table.specs.Valid.{sceneOk}
 
@@ -24,5 +24,5 @@ pub record Encodes (text : List ℕ) (n m : ℕ) (s : Scene) : Type 0 where
 pub record Reachable (table : List ℕ) (n : ℕ) : Type 0 where
   pub text : List ℕ
   pub left : ReaderState
-  pub ran : linesOutcome (readerStart n (length table)) (pieces lineEnd text) ≡ held left
+  pub ran : linesOutcome (readerStart n (length table)) (pieces lineEnd text) ≡ readerHolds left
   pub same : left .table ≡ table

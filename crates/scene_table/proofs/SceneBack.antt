@@ -12,7 +12,7 @@ use lib.ListN.{length, replicate, length-append}
 use Rattle.octets.proofs.Parts.{part-back}
 use Rattle.octets.specs.Lists.{every}
 use Rattle.octets.specs.declared.place.Place.{Place}
-use Rattle.scene_table.specs.Scene.{Cell, Input, Scene, Line, cellLengths, bytesLine, hashLine, inputLine, cellLine, digitsLine, linesOf, sceneBytes, countsOf, recordsFrom, sceneNumbers, zeroPadded, sceneTable}
+use Rattle.scene_table.specs.Scene.{Cell, Input, Scene, Line, cellLengths, bytesLine, hashLine, inputLine, cellLine, digitsLine, linesOf, sceneBytes, countsOf, recordsFrom, sceneNumbers, paddedTo, sceneTable}
 use Rattle.scene_table.specs.Lent.{tableEntry, inputsAt, outputsAt, depsAt, witnessesAt, verdictsAt, recordsAt, inputFrom, cellRecordFrom, bytesFrom, sceneFrom, inputCount, outputCount, depCount, witnessCount, digitCount, bytesPlace, scriptPlace, transactionPlace}
 use Rattle.scene_table.specs.Valid.{bytesOk, hashBytesOk, cellOk, inputOk, fewOf, digitsOk, sceneOk}
 use Rattle.scene_table.proofs.Lines.{total, records-append, cut, cut-take, fromInputs, fromOutputs, fromDeps, fromWitnesses, lines-by-kind}
@@ -136,11 +136,11 @@ numbers-few s h = let ok = sayable s h in omega (arith, numbers-long s, ok)
 module _ (s : Scene) (m : ℕ) where
   -- the counts in the table
   counts : (inputCount (sceneTable s m) ≡ length (s .inputs)) × (outputCount (sceneTable s m) ≡ length (s .outputs)) × (depCount (sceneTable s m) ≡ length (s .deps)) × (witnessCount (sceneTable s m) ≡ length (s .witnesses))
-  unfolding tableEntry sceneTable zeroPadded sceneNumbers countsOf
+  unfolding tableEntry sceneTable paddedTo sceneNumbers countsOf
   counts = (refl, refl, refl, refl)
 
   all-stand : Stands (sceneTable s m) (sceneBytes s) 8 0 (bytesLine (s .script) ∷ hashLine (s .transaction) ∷ fromInputs s)
-  unfolding sceneTable zeroPadded sceneNumbers sceneBytes bytesOf
+  unfolding sceneTable paddedTo sceneNumbers sceneBytes bytesOf
   all-stand = record {
     before = countsOf s;
     after = replicate (m - length (sceneNumbers s)) 0;

@@ -12,7 +12,7 @@ use Rattle.octets.proofs.Same.{same-eq, eq-same}
 use Rattle.octets.specs.Lists.{every}
 use Rattle.protocol.specs.Limits.{tableMinEntries}
 use Rattle.octets.proofs.Every.{every-map}
-use Rattle.scene_table.specs.Scene.{Cell, Input, Scene, Line, cellBytes, cellLengths, bytesLine, hashLine, inputLine, cellLine, linesOf, sceneBytes, countsOf, recordsFrom, sceneNumbers, zeroPadded, sceneTable}
+use Rattle.scene_table.specs.Scene.{Cell, Input, Scene, Line, cellBytes, cellLengths, bytesLine, hashLine, inputLine, cellLine, linesOf, sceneBytes, countsOf, recordsFrom, sceneNumbers, paddedTo, sceneTable}
 use Rattle.scene_table.specs.Lent.{cellFrom, blankScene, cellFieldPlaces, zerosAt}
 use Rattle.scene_table.specs.Valid.{bytesOk, hashBytesOk, cellOk, inputOk, fewOf, digitsOk, sceneOk, validTable}
 use Rattle.scene_table.proofs.Lines.{total, total-joined, total-append, records-append}
@@ -105,7 +105,7 @@ zeroed-numbers s =
 
 zeroed-table : (s : Scene) (m : ℕ) → sceneTable (sceneWith zeroed s) m ≡ sceneTable s m
 unfolding sceneTable
-zeroed-table s m = ap (zeroPadded m) (zeroed-numbers s)
+zeroed-table s m = ap (paddedTo m) (zeroed-numbers s)
 
 zeroed-long : (s : Scene) → length (sceneBytes (sceneWith zeroed s)) ≡ length (sceneBytes s)
 unfolding sceneBytes

@@ -13,7 +13,7 @@ use Rattle.octets.proofs.Same.{same-eq, eq-same}
 use Rattle.octets.proofs.Parts.{part-back}
 use Rattle.octets.specs.Lists.{every}
 use Rattle.protocol.specs.Limits.{tableMinEntries}
-use Rattle.scene_table.specs.Scene.{linesOf, recordsFrom, countsOf, sceneBytes, sceneNumbers, zeroPadded, sceneTable}
+use Rattle.scene_table.specs.Scene.{linesOf, recordsFrom, countsOf, sceneBytes, sceneNumbers, paddedTo, sceneTable}
 use Rattle.scene_table.specs.Lent.{tableEntry, inputsAt, outputsAt, depsAt, witnessesAt, verdictsAt, recordsAt, inputFrom, cellRecordFrom, bytesFrom, sceneFrom, blankScene, inputCount, outputCount, depCount, witnessCount, digitCount, bytesPlace, scriptPlace, transactionPlace, zerosAt}
 use Rattle.scene_table.specs.Valid.{validTable}
 use Rattle.scene_table.specs.RecordsWalk.{recordsStart, walkLines, countsOk, zerosBehind, restOk}
@@ -77,7 +77,7 @@ module _ (table : List ℕ) where
     numbers-long = rw (length-append, said-counts, long)
 
     pub own-table : Own → table ≡ sceneTable (blankScene table) (length table)
-    unfolding sceneTable zeroPadded sceneNumbers zerosBehind
+    unfolding sceneTable paddedTo sceneNumbers zerosBehind
     own-table o =
         let k = 8 + span table in
         let front : take k table ≡ countsOf (blankScene table) ++ recordsFrom 0 (linesOf (blankScene table)) =
@@ -87,7 +87,7 @@ module _ (table : List ℕ) where
         sym (take-append-drop k table) ∙ (ap₂ (λ (x y : List ℕ). x ++ y) front back ∙ rw numbers-long)
 
     pub table-own : table ≡ sceneTable (blankScene table) (length table) → Own
-    unfolding sceneTable zeroPadded sceneNumbers zerosBehind
+    unfolding sceneTable paddedTo sceneNumbers zerosBehind
     table-own e =
         let c = countsOf (blankScene table) in
         let r = recordsFrom 0 (linesOf (blankScene table)) in

@@ -85,12 +85,12 @@ unfoldable pub sceneNumbers : Scene → List ℕ
 sceneNumbers s = countsOf s ++ recordsFrom 0 (linesOf s)
 
 -- "both are zeroed first": zeros behind, up to n
-unfoldable pub zeroPadded : ℕ → List ℕ → List ℕ
-zeroPadded n xs = xs ++ replicate (n - length xs) 0
+unfoldable pub paddedTo : ℕ → List ℕ → List ℕ
+paddedTo n xs = xs ++ replicate (n - length xs) 0
 
 -- the store of n bytes and the table of m entries that a scene leaves
 unfoldable pub sceneStore : Scene → ℕ → List ℕ
-sceneStore s n = zeroPadded n (sceneBytes s)
+sceneStore s n = paddedTo n (sceneBytes s)
 
 unfoldable pub sceneTable : Scene → ℕ → List ℕ
-sceneTable s m = zeroPadded m (sceneNumbers s)
+sceneTable s m = paddedTo m (sceneNumbers s)
