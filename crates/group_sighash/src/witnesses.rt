@@ -35,14 +35,14 @@ pub fn first_witness<'a>(table: &[u32], store: &'a [u8]) -> &'a [u8]
 
 // The rows of the group's first witness. A missing one is read as empty, and the table's first row refuses it with the same
 // number as the row for a missing one.
-pub fn check_first_witness(first: &[u8]) -> Check
-    ensures { λ r. ⌜ r ≡ decide Check.Passed (firstWitnessRows (now (first .entry))) ⌝ }
+pub fn check_first_witness(witness: &[u8]) -> Check
+    ensures { λ r. ⌜ r ≡ decide Check.Passed (firstWitnessRows (now (witness .entry))) ⌝ }
 {
     let invalid = ProtocolError::InvalidWitness;
-    let lock = lock_of(first);
+    let lock = lock_of(witness);
     Check::Passed
-        .require(first.len() <= MAX_WITNESS, invalid)
-        .and(check_witness_lock(first))
+        .require(witness.len() <= MAX_WITNESS, invalid)
+        .and(check_witness_lock(witness))
         .and(check_witness_header(lock))
         .require(
             proof_count_of(lock) as usize <= AUTHENTICATOR_MAX_COUNT,

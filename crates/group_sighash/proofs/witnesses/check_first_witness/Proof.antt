@@ -28,7 +28,7 @@ lock-rows w k =
 returns : tie.Need-returns
 unfolding firstWitnessRows countRows decide
 returns c =
-    let w = now (c .before .before .before .before .before .before .before .before .before .args .first) in
+    let w = now (c .before .before .before .before .before .before .before .before .before .args .witness) in
     rw (
       c .require2 .ensures,
       c .before .proof-count-of .ensures,
