@@ -18,7 +18,7 @@ use Rattle.scene_table.specs.Scene.{Scene}
 use Rattle.scene_table.specs.Lent.{sceneIn}
 use Rattle.scene_table.specs.Valid.{validTable}
 use Rattle.decision.specs.Proofs.{contextFor}
-use Rattle.decision.proofs.RoomEnough.{state-aux, lock-room}
+use Rattle.decision.proofs.RoomEnough.{state-aux, witness-room}
 use Rattle.protocol.specs.Limits.{answerBufferLength}
 use Rattle.account_lock.specs.Lock.{witnessLock, current, digest, earlyRows, contextOf, refused, walked, orWalked, walkResult, lockScene, lockOf}
 use Rattle.account_lock.proofs.LockLaws.{group-length, group-count}
@@ -31,7 +31,7 @@ early-room : (s : Scene) (room : ℕ) → answerBufferLength ≤ room → AllPas
 unfolding walkResult walked contextOf contextFor digest digestOf
 early-room s room r h =
     let group = late s h .0 in
-    lock-room (contextOf s room) (witnessLock s) (length-hash _) (state-aux (current s) (state-passes s h)) (group-length s group) (group-count s group) r
+    witness-room (contextOf s room) (witnessLock s) (length-hash _) (state-aux (current s) (state-passes s h)) (group-length s group) (group-count s group) r
 
 -- a scene with 148,992 bytes for the answer is never refused with 5
 scene-never-five : (s : Scene) (room : ℕ) → answerBufferLength ≤ room → checkNumber (lockScene s room .found) ≢ 5

@@ -22,8 +22,8 @@ use Rattle.state_transition.specs.Resolve.{stateCell, currentState}
 use Rattle.decision.specs.Proofs.{contextFor}
 use Rattle.decision.specs.Walk.{answered}
 use Rattle.decision.specs.Requests.{ContextFits}
-use Rattle.decision.proofs.DecisionTheorem.{lock-answers}
-use Rattle.decision.proofs.RequestsRead.{state-context-fits, lock-requests-read}
+use Rattle.decision.proofs.DecisionTheorem.{witness-answers}
+use Rattle.decision.proofs.RequestsRead.{state-context-fits, witness-requests-read}
 use Rattle.account_lock.specs.Lock.{witnessLock, current, digest, contextOf, Result, walked, walkResult, lockOf}
 use Rattle.account_lock.specs.Decides.{EarlierPass, Answers}
 use Rattle.account_lock.proofs.LockTheorem.{state-passes}
@@ -62,11 +62,11 @@ module _ (table store before : List ℕ) (b : Bytes store) (pass : EarlierPass t
   unfolding walkResult walked answered contextOf contextFor
   lock-answer =
       let s = sceneIn table store in
-      let made = lock-answers (contextOf s (length before)) (witnessLock s) (pass .proofs) in
+      let made = witness-answers (contextOf s (length before)) (witnessLock s) (pass .proofs) in
       record {
         count = ap (λ (r : Result). r .count) walk-given ∙ made .0;
         buffer = ap (λ (r : Result). answered before (r .made)) walk-given ∙ ap (answered before) (made .1);
-        read = lock-requests-read (contextOf s (length before)) (witnessLock s) setting-fits (pass .proofs);
+        read = witness-requests-read (contextOf s (length before)) (witnessLock s) setting-fits (pass .proofs);
         carried = sym (ap (λ (r : Result). r .digest) walk-given);
         reached = ap (λ (r : Result). r .reached) walk-given;
         digest = lock-digest table store (length before) (ap (λ (r : Result). r .reached) walk-given);

@@ -4,7 +4,7 @@
 -- Assumes nothing.
 use mathlib.Core.Path.{_≡_, refl, sym, ap, _∙_}
 use mathlib.Core.Bool.{Bool, true, false, cond, true≢false}
-use mathlib.Core.List.{List, [], _∷_, _++_}
+use mathlib.Core.List.{List}
 use Prim.Native.Nat.{ℕ, _≤_}
 use native.Mathlib.Omega.{arith}
 use lib.Dec.{leb}
@@ -79,10 +79,10 @@ others-pass s h =
     all-pass-split (statesRows s) (otherRows s) (all-pass-split (resolveRows (operation s) (account s) s) _ (late s h .1) .1) .1
 
 -- only a walk reaches the digest
-from-walk : (k : Check) (w : Result) → orWalked k w .reached ≡ true → k ≡ Passed
+reached-walk : (k : Check) (w : Result) → orWalked k w .reached ≡ true → k ≡ Passed
 unfolding orWalked refused
-from-walk Passed w e = refl
-from-walk (Failed x) w e = absurd (true≢false (sym e))
+reached-walk Passed w e = refl
+reached-walk (Failed x) w e = absurd (true≢false (sym e))
 
 module _ (table store : List ℕ) (room : ℕ) where
   -- where the table is valid and every row before the proofs' passes, the lock's result is the walk's
@@ -102,7 +102,7 @@ module _ (table store : List ℕ) (room : ℕ) where
           → (validTable table (length store) ≡ true) × AllPass (earlyRows (sceneIn table store))
       go true v e =
           let s = sceneIn table store in
-          (v, passed-all-pass (earlyRows s) (from-walk (decide Passed (earlyRows s)) (walkResult s room) e))
+          (v, passed-all-pass (earlyRows s) (reached-walk (decide Passed (earlyRows s)) (walkResult s room) e))
       go false v e = absurd (true≢false (sym e))
 
   -- where the lock reached its digest, whatever it answers, the digest is CKB's hash of document 01's input

@@ -1,17 +1,16 @@
 -- The lock's rows in the order in which the code goes through them, and what follows where they pass.
 -- Assumes nothing.
-use mathlib.Core.Path.{_≡_, refl, sym, ap, _∙_}
+use mathlib.Core.Path.{_≡_, sym, ap, _∙_}
 use mathlib.Core.Bool.{true}
-use mathlib.Core.List.{List, [], _∷_, _++_}
-use Prim.Native.Nat.{ℕ, _-_, _+_, _≤_, _<_}
+use mathlib.Core.List.{List, _++_}
+use Prim.Native.Nat.{ℕ, _-_, _+_, _≤_}
 use native.Mathlib.Omega.{arith}
-use lib.Dec.{leb}
-use lib.ListN.{length, take, drop, length-drop}
+use lib.ListN.{length, drop, length-drop}
 use lib.Seq.{length-take-le}
 use borrow.Author.Tests.{eqb-true, leb-true}
 use Rattle.protocol.specs.Args.{argsRows, accountOf}
 use Rattle.protocol.specs.Policy.{isOperation, operationRows}
-use Rattle.protocol.specs.Rows.{Row, AllPass, decide, _▷_, _then_}
+use Rattle.protocol.specs.Rows.{AllPass, decide, _▷_, _then_}
 use Rattle.protocol.proofs.AllPass.{decide-append, decide-then, all-pass-append, all-pass-split}
 use Rattle.protocol.specs.declared.error.ProtocolError.{ProtocolError}
 use Rattle.protocol.specs.declared.error.ProtocolError.the-variants.{InvalidWitness}
@@ -27,7 +26,7 @@ use Rattle.scene_table.specs.Scene.{Scene}
 use Rattle.group_sighash.specs.Witnesses.{firstWitness, lockIn, firstWitnessRows, countRows, groupRows, otherRows, witnessFits}
 use Rattle.group_sighash.specs.GroupSighash.{sighashRows}
 use Rattle.state_transition.specs.Resolve.{resolveRows, resolvedOf}
-use Rattle.account_lock.specs.Lock.{argsIn, accountIn, scriptRows, account, operation, statesRows, lateRows, earlyRows, witnessLock, Result, refused, orWalked, walkResult, lateResult, lockScene}
+use Rattle.account_lock.specs.Lock.{argsIn, accountIn, scriptRows, account, operation, statesRows, lateRows, earlyRows, witnessLock, refused, orWalked, walkResult, lateResult, lockScene}
 use Rattle.account_lock.specs.Calls.{ScriptAndGroupPass}
 
 -- for an operation from 1 to 3 the search for the state finds what the lock's rows find

@@ -3,14 +3,13 @@
 use mathlib.Core.Path.{_≡_, refl, sym, ap, _∙_}
 use mathlib.Core.Logic.{_↔_}
 use mathlib.Core.Bool.{Bool, true, false, cond, true≢false}
-use mathlib.Core.List.{List, [], _∷_, _++_}
-use Prim.Native.Nat.{ℕ, _+_, _≤_, _<_}
-use native.Mathlib.Omega.{arith}
-use lib.Dec.{eqb, leb}
+use mathlib.Core.List.{List}
+use Prim.Native.Nat.{ℕ, _≤_, _<_}
+use lib.Dec.{eqb}
 use lib.ListN.{length, drop}
 use borrow.Author.Tests.{leb-true}
 use Rattle.protocol.specs.Policy.{isOperation}
-use Rattle.protocol.specs.Rows.{Row, AllPass, decide}
+use Rattle.protocol.specs.Rows.{AllPass, decide}
 use Rattle.protocol.proofs.AllPass.{passed-all-pass, all-pass-passed, all-pass-split, failed-passed}
 use Rattle.protocol.specs.declared.error.ProtocolError.the-variants.{SlicesDisagree}
 use Rattle.protocol.specs.declared.check.Check.{Check}
@@ -24,11 +23,9 @@ use Rattle.group_sighash.specs.Witnesses.{groupRows, otherRows}
 use Rattle.state_transition.specs.Resolve.{resolveRows, stateSince}
 use Rattle.state_transition.specs.Transition.{dataRows, currentRows, successorRows, recoveryRows, successionRows, transitionRows}
 use Rattle.decision.specs.Proofs.{thresholdOf, contextFor}
-use Rattle.decision.specs.Walk.{walkLock, answered}
-use Rattle.account_witness.specs.Reading.{witnessProofs}
-use Rattle.decision.specs.Decision.{ProofsPass, Quorum}
-use Rattle.decision.proofs.DecisionTheorem.{lock-decides}
-use Rattle.account_lock.specs.Lock.{scriptRows, account, operation, witnessLock, witnessSequence, current, successor, statesRows, lateRows, earlyRows, contextOf, digest, Result, refused, walked, orWalked, walkResult, lockScene, lockOf, answerOf}
+use Rattle.decision.specs.Walk.{answered}
+use Rattle.decision.proofs.DecisionTheorem.{witness-decides}
+use Rattle.account_lock.specs.Lock.{scriptRows, account, operation, witnessLock, witnessSequence, current, successor, statesRows, lateRows, earlyRows, contextOf, Result, refused, walked, orWalked, walkResult, lockScene, lockOf, answerOf}
 use Rattle.account_lock.specs.declared.answer.LockAnswer.{LockAnswer}
 use Rattle.account_lock.specs.Decides.{EarlierPass, LockQuorum}
 use Rattle.account_lock.proofs.LockLaws.{group-operation}
@@ -95,19 +92,19 @@ module _ (s : Scene) (h : AllPass (earlyRows s)) where
 
 module _ (table store : List ℕ) (room : ℕ) where
   -- an accepting result comes from the walk
-  from-walk : (k : Check) (w : Result) → orWalked k w .found ≡ Passed → (k ≡ Passed) × (w .found ≡ Passed)
+  accepted-walk : (k : Check) (w : Result) → orWalked k w .found ≡ Passed → (k ≡ Passed) × (w .found ≡ Passed)
   unfolding orWalked refused
-  from-walk Passed w e = (refl, e)
-  from-walk (Failed x) w e = failed-passed x e
+  accepted-walk Passed w e = (refl, e)
+  accepted-walk (Failed x) w e = failed-passed x e
 
   accepted : lockScene (sceneIn table store) room .found ≡ Passed → validTable table (length store) ≡ true
       → EarlierPass table store room × LockQuorum table store room
   unfolding lockScene walkResult walked contextOf contextFor
   accepted e v =
       let s = sceneIn table store in
-      let z = from-walk (decide Passed (earlyRows s)) (walkResult s room) e in
+      let z = accepted-walk (decide Passed (earlyRows s)) (walkResult s room) e in
       let early = passed-all-pass (earlyRows s) (z .0) in
-      let d = lock-decides (contextOf s room) (witnessLock s) .0 (z .1) in
+      let d = witness-decides (contextOf s room) (witnessLock s) .0 (z .1) in
       (record { valid = v; early = early; proofs = d .0 }, d .1)
 
   pub lock-decision : (lockOf table store room .found ≡ Passed) ↔ (EarlierPass table store room × LockQuorum table store room)
@@ -124,7 +121,7 @@ module _ (table store : List ℕ) (room : ℕ) where
       back h =
           let s = sceneIn table store in
           rw (h .0 .valid, all-pass-passed (earlyRows s) (h .0 .early))
-          (lock-decides (contextOf s room) (witnessLock s) .1 (h .0 .proofs, h .1))
+          (witness-decides (contextOf s room) (witnessLock s) .1 (h .0 .proofs, h .1))
 
 -- ---- what the lock promises, from what it found of its table
 

@@ -46,7 +46,7 @@ module _ (table store : List ℕ) (room : ℕ) where
       there true v h =
           let s = sceneIn table store in
           let z = early-last (decide Passed (earlyRows s)) (walkResult s room) (each-refuses Early _ (early-each s)) h in
-          let proofs = walk.walk-zero-or-28 (contextOf s room) (witnessLock s) .0 (z .1) in
+          let proofs = walk.witness-zero-or-28 (contextOf s room) (witnessLock s) .0 (z .1) in
           record { valid = v; early = passed-all-pass (earlyRows s) (z .0); proofs = proofs }
       there false v (inl h) = absurd (omega arith)
       there false v (inr h) = absurd (omega arith)
@@ -54,7 +54,7 @@ module _ (table store : List ℕ) (room : ℕ) where
       back : EarlierPass table store room → ZeroOr28 (checkNumber (lockOf table store room .found))
       back h =
           let s = sceneIn table store in
-          rw (early-walked table store room (h .valid) (h .early)) (walk.walk-zero-or-28 (contextOf s room) (witnessLock s) .1 (h .proofs))
+          rw (early-walked table store room (h .valid) (h .early)) (walk.witness-zero-or-28 (contextOf s room) (witnessLock s) .1 (h .proofs))
 
   -- and 28 exactly where there is no quorum then
   pub lock-unsatisfied : (checkNumber (lockOf table store room .found) ≡ 28)

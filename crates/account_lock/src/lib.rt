@@ -20,14 +20,14 @@ ghost use lib.ListN.{length};
 ghost use Rattle.decision.specs.Walk.{answered};
 ghost use Rattle.account_lock.specs.Lock.{lockOf, lockScene, answerOf};
 ghost use Rattle.account_lock.specs.Decides.{EarlierPass, LockQuorum};
-ghost use Rattle.account_lock.specs.Calls.{Answered, Written};
+ghost use Rattle.account_lock.specs.Calls.{Returns, Leaves};
 pub use self::answer::LockAnswer;
 pub use self::answer::refused;
 
 // The lock over a transaction whose table is one that a scene, its length aside, leaves.
 fn lock_scene(table: &[u32], store: &[u8], answer: &mut [u8]) -> LockAnswer
-    ensures { λ r. ⌜ Answered lockScene (now (table .entry)) (now (store .entry)) (now (answer .entry)) r ⌝ }
-    ensures { λ _. ⌜ Written lockScene (now (table .entry)) (now (store .entry)) (now (answer .entry)) (now (answer .exit)) ⌝ }
+    ensures { λ r. ⌜ Returns lockScene (now (table .entry)) (now (store .entry)) (now (answer .entry)) r ⌝ }
+    ensures { λ _. ⌜ Leaves lockScene (now (table .entry)) (now (store .entry)) (now (answer .entry)) (now (answer .exit)) ⌝ }
 {
     let script = part_at(store, script(table));
     let witness = first_witness(table, store);

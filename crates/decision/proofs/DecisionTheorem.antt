@@ -22,10 +22,10 @@ use Rattle.decision.proofs.Listed.{listed-clean, listed-proofs, listed-
 pub listed-witness-proofs : (lock : List ℕ) → AllPass (witnessProofRows lock) → proofListOf lock .proofs ≡ witnessProofs lock
 listed-witness-proofs lock h = listed-proofs lock (proofCountOf lock) 16 0 h
 
-pub lock-decides : (c : Context) (lock : List ℕ)
+pub witness-decides : (c : Context) (lock : List ℕ)
     → (walkLock c lock .found ≡ Passed) ↔ (ProofsPass c lock × Quorum c (witnessProofs lock))
 unfolding walkLock walkList
-lock-decides c lock = (there, back)
+witness-decides c lock = (there, back)
   where
     decides : (walkFrom c (proofListOf lock .clean) 0 0 [] (proofListOf lock .proofs) .found ≡ Passed)
         ↔ ((proofListOf lock .clean ≡ true) × EachPasses c 0 0 (proofListOf lock .proofs) × Quorum c (proofListOf lock .proofs))
@@ -45,9 +45,9 @@ lock-decides c lock = (there, back)
         (record { layout = l; each = rw e at (z .1) }, rw e at (z .2))
 
 -- its number is 0 or 28 exactly where every row before the one for 28 passes
-pub walk-zero-or-28 : (c : Context) (lock : List ℕ) → ZeroOr28 (checkNumber (walkLock c lock .found)) ↔ ProofsPass c lock
+pub witness-zero-or-28 : (c : Context) (lock : List ℕ) → ZeroOr28 (checkNumber (walkLock c lock .found)) ↔ ProofsPass c lock
 unfolding walkLock walkList
-walk-zero-or-28 c lock = (there, back)
+witness-zero-or-28 c lock = (there, back)
   where
     number : ZeroOr28 (checkNumber (walkFrom c (proofListOf lock .clean) 0 0 [] (proofListOf lock .proofs) .found))
         ↔ ((proofListOf lock .clean ≡ true) × EachPasses c 0 0 (proofListOf lock .proofs))
@@ -63,15 +63,15 @@ walk-zero-or-28 c lock = (there, back)
     back h = number .1 (listed-clean lock (proofCountOf lock) 16 0 .1 (h .layout), rw (listed-witness-proofs lock (h .layout)) (h .each))
 
 -- where every row before the one for 28 passes: one request for each proof, in order
-pub lock-answers : (c : Context) (lock : List ℕ) → ProofsPass c lock
+pub witness-answers : (c : Context) (lock : List ℕ) → ProofsPass c lock
     → (walkLock c lock .count ≡ length (witnessProofs lock)) × (walkLock c lock .made ≡ requestsOf c (witnessProofs lock))
 unfolding walkLock walkList
-lock-answers c lock h =
+witness-answers c lock h =
     let e = listed-witness-proofs lock (h .layout) in
     rw (← e) (walk-answers c (proofListOf lock .clean) (proofListOf lock .proofs) (rw e (h .each)))
 
 -- and always: the requests of as many proofs as were counted, a failed verdict's too
-pub lock-answers-always : (c : Context) (lock : List ℕ)
+pub witness-answers-always : (c : Context) (lock : List ℕ)
     → walkLock c lock .made ≡ requestsOf c (take (walkLock c lock .count) (proofListOf lock .proofs))
 unfolding walkLock walkList
-lock-answers-always c lock = walk-answers-always c (proofListOf lock .clean) (proofListOf lock .proofs)
+witness-answers-always c lock = walk-answers-always c (proofListOf lock .clean) (proofListOf lock .proofs)

@@ -101,5 +101,5 @@ requests-read c i used [] f pass = tt
 requests-read c i used (p ∷ ps) f pass = (request-read c used p f (pass .0), requests-read c (i + 1) (used + length (requestOf c p)) ps f (pass .2))
 
 -- so all requests of a witness lock whose proofs pass
-pub lock-requests-read : (c : Context) (lock : List ℕ) → ContextFits c → ProofsPass c lock → RequestsRead c (witnessProofs lock)
-lock-requests-read c lock f h = requests-read c 0 0 (witnessProofs lock) f (h .each)
+pub witness-requests-read : (c : Context) (lock : List ℕ) → ContextFits c → ProofsPass c lock → RequestsRead c (witnessProofs lock)
+witness-requests-read c lock f h = requests-read c 0 0 (witnessProofs lock) f (h .each)

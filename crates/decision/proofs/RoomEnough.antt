@@ -228,10 +228,10 @@ state-aux s h =
     omega arith
 
 -- 96 · 16 + 16,384 + 131,072 = 148,992
-pub lock-room : (c : Context) (lock : List ℕ) → length (c .digest) ≡ 32 → auxFrom 0 (c .entries) ≤ 16384
+pub witness-room : (c : Context) (lock : List ℕ) → length (c .digest) ≡ 32 → auxFrom 0 (c .entries) ≤ 16384
     → length lock ≤ 131072 → proofCountOf lock ≤ 16 → answerBufferLength ≤ c .room → checkNumber (walkLock c lock .found) ≢ 5
 unfolding walkLock walkList
-lock-room c lock d a l n r =
+witness-room c lock d a l n r =
     let ps = proofsUntilFault lock (proofCountOf lock) 16 0 .proofs in
     let requests = requests-length c d ps 0 (listed-rising lock (proofCountOf lock) 16 0) in
     let few = listed-few lock (proofCountOf lock) 16 0 in

@@ -1,7 +1,7 @@
 -- `account_lock::account::check_states` meets its contract. Assumes nothing.
 use mathlib.Core.Path.{sym, _∙_}
 use denote.Ref.{now}
-use Rattle.protocol.specs.Rows.{decide, _then_}
+use Rattle.protocol.specs.Rows.{_then_}
 use Rattle.protocol.proofs.AllPass.{decide-append, decide-then}
 use Rattle.protocol.specs.declared.check.Check.the-variants.{Passed}
 use Rattle.scene_table.specs.Lent.{sceneIn}

@@ -2,7 +2,7 @@
 use mathlib.Core.Path.{_≡_, sym, ap, _∙_}
 use denote.Ref.{now}
 use lib.ListN.{length}
-use Rattle.protocol.specs.Rows.{decide, _then_}
+use Rattle.protocol.specs.Rows.{decide}
 use Rattle.protocol.specs.declared.check.Check.the-variants.{Passed}
 use Rattle.scene_table.specs.Lent.{sceneIn}
 use Rattle.state_transition.specs.declared.resolve.ResolvedState.{ResolvedState}

@@ -4,7 +4,6 @@ use mathlib.Core.Bool.{true}
 use denote.Ref.{now}
 use Rattle.protocol.specs.Policy.{isOperation}
 use Rattle.scene_table.specs.Lent.{sceneIn}
-use Rattle.decision.specs.Walk.{answered}
 use Rattle.account_lock.specs.Lock.{operation, contextOf, walked, walkResult, answerOf}
 use Rattle.proof_walk.specs.Answer.{sceneDeps, walkContext, proofWalkAnswer}
 use Rattle.proof_walk.proofs.WalkLaws.{walk-known}
