@@ -27,7 +27,7 @@ use Rattle.decision.specs.Walk.{answered}
 use Rattle.decision.proofs.DecisionTheorem.{witness-decides}
 use Rattle.account_lock.specs.Lock.{scriptRows, account, operation, witnessLock, witnessSequence, current, successor, statesRows, lateRows, earlyRows, contextOf, Result, refused, walked, orWalked, walkResult, lockScene, lockOf, answerOf}
 use Rattle.account_lock.specs.declared.answer.LockAnswer.{LockAnswer}
-use Rattle.account_lock.specs.Decides.{EarlierPass, LockQuorum}
+use Rattle.account_lock.specs.Decides.{EarlierPass, LockQuorum, LockOutcome, LockRequests, LockDecision}
 use Rattle.account_lock.proofs.LockLaws.{group-operation}
 
 -- ---- the threshold is above zero
@@ -128,14 +128,12 @@ module _ (table store : List ℕ) (room : ℕ) where
 -- the promises of an answer r and a buffer `after`, for a buffer `before`
 abbrev pub Promised : List ℕ → List ℕ → List ℕ → LockAnswer → List ℕ → Type 0
 Promised table store before r after =
-    (r ≡ answerOf (lockOf table store (length before)))
-    × ((after ≡ answered before (lockOf table store (length before) .made))
-    × ((r .found ≡ Passed) ↔ (EarlierPass table store (length before) × LockQuorum table store (length before))))
+    LockOutcome table store before r × (LockRequests table store before after × LockDecision table store before r)
 
-pub decided : (table store before : List ℕ) {r : LockAnswer} {after : List ℕ} → r ≡ answerOf (lockOf table store (length before))
-    → after ≡ answered before (lockOf table store (length before) .made) → Promised table store before r after
+pub lock-promised : (table store before : List ℕ) {r : LockAnswer} {after : List ℕ} → LockOutcome table store before r
+    → LockRequests table store before after → Promised table store before r after
 unfolding answerOf
-decided table store before e k =
+lock-promised table store before e k =
     let f = ap (λ (x : LockAnswer). x .found) e in
     let d = lock-decision table store (length before) in
     (e, (k, (λ h. d .0 (sym f ∙ h), λ q. f ∙ d .1 q)))

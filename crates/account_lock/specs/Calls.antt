@@ -33,8 +33,8 @@ pub record StatesFound (bytes state : List ℕ) (found : ResolvedState) (s : Sce
   pub resolved : found ≡ resolvedOf (lock.operation s) (lock.account s) s
 
 -- the answer is a result's, and the result's requests stand at the front of the buffer
-abbrev pub Returns : (Scene → ℕ → lock.Result) → List ℕ → List ℕ → List ℕ → LockAnswer → Type 0
-Returns result table store before r = r ≡ lock.answerOf (result (sceneIn table store) (length before))
+abbrev pub ReturnsResult : (Scene → ℕ → lock.Result) → List ℕ → List ℕ → List ℕ → LockAnswer → Type 0
+ReturnsResult result table store before r = r ≡ lock.answerOf (result (sceneIn table store) (length before))
 
-abbrev pub Leaves : (Scene → ℕ → lock.Result) → List ℕ → List ℕ → List ℕ → List ℕ → Type 0
-Leaves result table store before after = after ≡ answered before (result (sceneIn table store) (length before) .made)
+abbrev pub StoresRequests : (Scene → ℕ → lock.Result) → List ℕ → List ℕ → List ℕ → List ℕ → Type 0
+StoresRequests result table store before after = after ≡ answered before (result (sceneIn table store) (length before) .made)

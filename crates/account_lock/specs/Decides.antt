@@ -1,11 +1,12 @@
 -- Demand 3 for the lock: what an acceptance follows from, and what its answer then holds; and the numbers that it gives.
 use Prim.Native.Nat.{ℕ, _≤_}
 use mathlib.Core.Path.{_≡_}
-use mathlib.Core.Logic.{_⊎_}
+use mathlib.Core.Logic.{_⊎_, _↔_}
 use mathlib.Core.Bool.{true}
 use mathlib.Core.List.{List, _++_}
 use lib.ListN.{length, drop}
 use Rattle.protocol.specs.Rows.{AllPass}
+use Rattle.protocol.specs.declared.check.Check.the-variants.{Passed}
 use Rattle.molecule.specs.Canonical.{canonicalOf}
 use Rattle.authorization.specs.Digest.{ckbHash, digestInput}
 use Rattle.authorization.specs.Sighash.{sighashInput}
@@ -18,7 +19,8 @@ use Rattle.decision.specs.Walk.{answered}
 use Rattle.decision.specs.Requests.{RequestsRead}
 use Rattle.account_witness.specs.Reading.{witnessProofs}
 use Rattle.decision.specs.Decision.{ProofsPass, Quorum}
-use Rattle.account_lock.specs.Lock.{account, operation, witnessLock, current, earlyRows, contextOf, lockOf}
+use Rattle.account_lock.specs.declared.answer.LockAnswer.{LockAnswer}
+use Rattle.account_lock.specs.Lock.{account, operation, witnessLock, current, earlyRows, contextOf, lockOf, answerOf}
 
 -- 01: "Earlier checks are its rows before the one for 28."
 pub record EarlierPass (table store : List ℕ) (room : ℕ) : Type 0 where
@@ -30,6 +32,19 @@ pub record EarlierPass (table store : List ℕ) (room : ℕ) : Type 0 where
 abbrev pub LockQuorum : List ℕ → List ℕ → ℕ → Type 0
 LockQuorum table store room =
     Quorum (contextOf (sceneIn table store) room) (witnessProofs (witnessLock (sceneIn table store)))
+
+-- what the lock promises, for an answer buffer that holds `before`: the answer r is the lock's, row by row
+abbrev pub LockOutcome : List ℕ → List ℕ → List ℕ → LockAnswer → Type 0
+LockOutcome table store before r = r ≡ answerOf (lockOf table store (length before))
+
+-- the whole buffer afterwards
+abbrev pub LockRequests : List ℕ → List ℕ → List ℕ → List ℕ → Type 0
+LockRequests table store before after = after ≡ answered before (lockOf table store (length before) .made)
+
+-- demand 3
+abbrev pub LockDecision : List ℕ → List ℕ → List ℕ → LockAnswer → Type 0
+LockDecision table store before r =
+    (r .found ≡ Passed) ↔ (EarlierPass table store (length before) × LockQuorum table store (length before))
 
 -- what stands in the answer where every earlier row passes; 01: "Each request is written into the rest of the answer buffer, behind
 -- the last one. Bytes after that total are unchanged."

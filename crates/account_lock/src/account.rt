@@ -22,7 +22,7 @@ ghost use mathlib.Core.Path.{_≡_};
 ghost use Rattle.protocol.specs.Rows.{decide};
 ghost use Rattle.scene_table.specs.Lent.{sceneIn};
 ghost use Rattle.account_lock.specs.Lock.{statesRows, lateResult, walkResult, digest};
-ghost use Rattle.account_lock.specs.Calls.{ScriptAndGroupPass, DigestInputs, StatesFound, Returns, Leaves};
+ghost use Rattle.account_lock.specs.Calls.{ScriptAndGroupPass, DigestInputs, StatesFound, ReturnsResult, StoresRequests};
 
 // The digest that every request carries.
 fn lock_digest(
@@ -51,8 +51,8 @@ fn walk_account(
     answer: &mut [u8],
 ) -> LockAnswer
     requires { ⌜ DigestInputs (now «account_id») (now witness) (now current) (sceneIn (now table) (now store)) ⌝ }
-    ensures { λ r. ⌜ Returns walkResult (now (table .entry)) (now (store .entry)) (now (answer .entry)) r ⌝ }
-    ensures { λ _. ⌜ Leaves walkResult (now (table .entry)) (now (store .entry)) (now (answer .entry)) (now (answer .exit)) ⌝ }
+    ensures { λ r. ⌜ ReturnsResult walkResult (now (table .entry)) (now (store .entry)) (now (answer .entry)) r ⌝ }
+    ensures { λ _. ⌜ StoresRequests walkResult (now (table .entry)) (now (store .entry)) (now (answer .entry)) (now (answer .exit)) ⌝ }
 {
     let digest = lock_digest(table, store, account_id, witness, current);
     let lock = lock_of(witness);
@@ -102,8 +102,8 @@ pub(crate) fn lock_account(
     answer: &mut [u8],
 ) -> LockAnswer
     requires { ⌜ ScriptAndGroupPass (now «account_id») (now witness) (sceneIn (now table) (now store)) ⌝ }
-    ensures { λ r. ⌜ Returns lateResult (now (table .entry)) (now (store .entry)) (now (answer .entry)) r ⌝ }
-    ensures { λ _. ⌜ Leaves lateResult (now (table .entry)) (now (store .entry)) (now (answer .entry)) (now (answer .exit)) ⌝ }
+    ensures { λ r. ⌜ ReturnsResult lateResult (now (table .entry)) (now (store .entry)) (now (answer .entry)) r ⌝ }
+    ensures { λ _. ⌜ StoresRequests lateResult (now (table .entry)) (now (store .entry)) (now (answer .entry)) (now (answer .exit)) ⌝ }
 {
     let lock = lock_of(witness);
     let operation = operation_of(lock);

@@ -14,20 +14,16 @@ use protocol::ProtocolError;
 use protocol::account_of;
 use scene_table::script;
 use scene_table::table_valid;
-ghost use mathlib.Core.Path.{_≡_};
-ghost use mathlib.Core.Logic.{_↔_};
-ghost use lib.ListN.{length};
-ghost use Rattle.decision.specs.Walk.{answered};
-ghost use Rattle.account_lock.specs.Lock.{lockOf, lockScene, answerOf};
-ghost use Rattle.account_lock.specs.Decides.{EarlierPass, LockQuorum};
-ghost use Rattle.account_lock.specs.Calls.{Returns, Leaves};
+ghost use Rattle.account_lock.specs.Lock.{lockScene};
+ghost use Rattle.account_lock.specs.Decides.{LockOutcome, LockRequests, LockDecision};
+ghost use Rattle.account_lock.specs.Calls.{ReturnsResult, StoresRequests};
 pub use self::answer::LockAnswer;
 pub use self::answer::refused;
 
 // The lock over a transaction whose table is one that a scene, its length aside, leaves.
 fn lock_scene(table: &[u32], store: &[u8], answer: &mut [u8]) -> LockAnswer
-    ensures { λ r. ⌜ Returns lockScene (now (table .entry)) (now (store .entry)) (now (answer .entry)) r ⌝ }
-    ensures { λ _. ⌜ Leaves lockScene (now (table .entry)) (now (store .entry)) (now (answer .entry)) (now (answer .exit)) ⌝ }
+    ensures { λ r. ⌜ ReturnsResult lockScene (now (table .entry)) (now (store .entry)) (now (answer .entry)) r ⌝ }
+    ensures { λ _. ⌜ StoresRequests lockScene (now (table .entry)) (now (store .entry)) (now (answer .entry)) (now (answer .exit)) ⌝ }
 {
     let script = part_at(store, script(table));
     let witness = first_witness(table, store);
@@ -39,9 +35,9 @@ fn lock_scene(table: &[u32], store: &[u8], answer: &mut [u8]) -> LockAnswer
 
 // Decides the transaction, and writes the requests of its proofs to the front of `answer`.
 pub fn lock(table: &[u32], store: &[u8], answer: &mut [u8]) -> LockAnswer
-    ensures outcome { λ r. ⌜ r ≡ answerOf (lockOf (now (table .entry)) (now (store .entry)) (length (now (answer .entry)))) ⌝ }
-    ensures requests { λ _. ⌜ now (answer .exit) ≡ answered (now (answer .entry)) (lockOf (now (table .entry)) (now (store .entry)) (length (now (answer .entry))) .made) ⌝ }
-    ensures decision { λ r. ⌜ (r .found ≡ Check.Passed) ↔ (EarlierPass (now (table .entry)) (now (store .entry)) (length (now (answer .entry))) × LockQuorum (now (table .entry)) (now (store .entry)) (length (now (answer .entry)))) ⌝ }
+    ensures outcome { λ r. ⌜ LockOutcome (now (table .entry)) (now (store .entry)) (now (answer .entry)) r ⌝ }
+    ensures requests { λ _. ⌜ LockRequests (now (table .entry)) (now (store .entry)) (now (answer .entry)) (now (answer .exit)) ⌝ }
+    ensures decision { λ r. ⌜ LockDecision (now (table .entry)) (now (store .entry)) (now (answer .entry)) r ⌝ }
 {
     if table_valid(table, store.len()) {
         lock_scene(table, store, answer)

@@ -8,7 +8,7 @@ use lib.ListN.{length, take, drop, take-append-drop}
 use Rattle.octets.specs.Le.{Bytes}
 use Rattle.octets.specs.Layout.{layoutAt}
 use Rattle.octets.proofs.LeLaws.{number-lt, bytes-drop}
-use Rattle.octets.proofs.LayoutLaws.{table-back}
+use Rattle.octets.proofs.LayoutLaws.{layout-back}
 use Rattle.octets.proofs.Parts.{join, part-length}
 use Rattle.protocol.specs.Rows.{AllPass}
 use Rattle.protocol.proofs.AllPass.{all-pass-split}
@@ -30,8 +30,8 @@ module _ (e : List ℕ) (least : ℕ) (b : Bytes e) (z : EntryPassed e least) wh
   entry-back =
       let s = z .sum in
       let i = z .inside in
-      let head = table-back (2 ∷ 2 ∷ 2 ∷ 2 ∷ 2 ∷ 1 ∷ 1 ∷ []) e 0 b (omega arith) in
-      let tail = table-back (2 ∷ 2 ∷ []) e 44 b (omega arith) in
+      let head = layout-back (2 ∷ 2 ∷ 2 ∷ 2 ∷ 2 ∷ 1 ∷ 1 ∷ []) e 0 b (omega arith) in
+      let tail = layout-back (2 ∷ 2 ∷ []) e 44 b (omega arith) in
       rw (
         part-length e 48 k (omega arith),
         part-length e (48 + k) a (omega arith),
@@ -111,7 +111,7 @@ module _ (s : List ℕ) (b : Bytes s) (h : AllPass (stateRows s)) where
       let z = p .header in
       let l = z .present in
       let r = entries-back n (entryBytesOf s) 0 (bytes-drop 32 s b) (p .entries) in
-      let t = rw (z .magic, z .version, z .size, z .reserved) at (table-back (4 ∷ 1 ∷ 1 ∷ 2 ∷ 8 ∷ 2 ∷ 2 ∷ 2 ∷ 1 ∷ 1 ∷ 8 ∷ []) s 0 b (omega arith)) in
+      let t = rw (z .magic, z .version, z .size, z .reserved) at (layout-back (4 ∷ 1 ∷ 1 ∷ 2 ∷ 8 ∷ 2 ∷ 2 ∷ 2 ∷ 1 ∷ 1 ∷ 8 ∷ []) s 0 b (omega arith)) in
       let e : entriesBytes (entriesOf n (entryBytesOf s)) ≡ drop 32 s = sym (append-nil _) ∙ (rw (p .ended) at (r .0)) in
       rw (length-entries n (entryBytesOf s), t, e) (take-append-drop 32 s)
 

@@ -103,9 +103,9 @@ pub record HeaderRead (r : StateReading) : Type 0 where
   pub reserved : stateReservedOf (stateBytes r) ≡ 0
   pub since : recoverySinceOf (stateBytes r) ≡ r .since
 
-pub header-read : (r : StateReading) → StateTyped r → HeaderRead r
+pub state-header-read : (r : StateReading) → StateTyped r → HeaderRead r
 unfolding stateHead stateHeaderFields layoutAt
-header-read r y =
+state-header-read r y =
     let h = head-numbers r y in
     record {
       magic = ap (fieldValue 0) h;
@@ -129,5 +129,5 @@ behind-head r = drop-at (layoutBytes (stateHead r)) (entriesBytes (r .entries)) 
 pub state-read : (r : StateReading) → StateTyped r → stateReading (stateBytes r) ≡ r
 unfolding stateReading
 state-read r y =
-    let h = header-read r y in
+    let h = state-header-read r y in
     rw (h .flags, h .sequence, h .spend, h .rotate, h .recovery, h .since, h .count, behind-head r, entries-read (r .entries) (y .entries))

@@ -21,7 +21,7 @@ use Rattle.account_state.specs.Fields.{auxLengthOf, entryLengthOf, entrySlotOf,
 use Rattle.account_state.specs.Reading.{EntryReading, StateReading, EntryTyped, EntriesTyped, StateTyped, stateMagic, entryLengthFields, entryBytes, entriesBytes, stateHeaderFields, stateHead, stateBytes, entryOf}
 use Rattle.account_state.specs.State.{stateHeaderRows, entryLayoutRows, entryFieldRows, entryRows, entriesRows, behindEntries, thresholdRows, summaryOf, stateEndRows, stateTailRows, stateRows, stateFault}
 use Rattle.account_state.proofs.Inverse.{Keys}
-use Rattle.account_state.proofs.Unique.{HeaderRead, length-entry-bytes, lengths-read, size-read, entry-read, entries-read, header-read, behind-head}
+use Rattle.account_state.proofs.Unique.{HeaderRead, length-entry-bytes, lengths-read, size-read, entry-read, entries-read, state-header-read, behind-head}
 use Rattle.account_state_writer.specs.Checks.{headChecks, entryChecks, entriesChecks, stateChecks, lentSummary}
 use Rattle.account_state_writer.specs.Writer.{entriesFrom}
 use Rattle.account_state_writer.proofs.Lent.{length-entries-from, summary-lent}
@@ -92,7 +92,7 @@ module _ (r : StateReading) (y : StateTyped r) (k : Keys (r .entries)) (h : leng
   n = length (r .entries)
 
   abbrev m : HeaderRead r
-  m = header-read r y
+  m = state-header-read r y
 
   present : 32 ≤ length b
   unfolding stateBytes stateHead stateHeaderFields

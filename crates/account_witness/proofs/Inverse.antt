@@ -13,7 +13,7 @@ use Rattle.octets.specs.Le.{Bytes}
 use Rattle.octets.specs.Lists.{joined}
 use Rattle.octets.specs.Layout.{layoutBytes, layoutAt}
 use Rattle.octets.proofs.LeLaws.{number-lt}
-use Rattle.octets.proofs.LayoutLaws.{table-back}
+use Rattle.octets.proofs.LayoutLaws.{layout-back}
 use Rattle.octets.proofs.Parts.{part-length, join}
 use Rattle.protocol.specs.Policy.{isOperation}
 use Rattle.protocol.specs.Rows.{AllPass}
@@ -73,7 +73,7 @@ module _ (s : List ℕ) (b : Bytes s) where
   proof-back off least z =
       let n = proofLengthAt s off in
       let i = z .inside in
-      let head = rw (z .zeros) at (simp add-assoc at (table-back (2 ∷ 2 ∷ 4 ∷ []) s off b (omega arith))) in
+      let head = rw (z .zeros) at (simp add-assoc at (layout-back (2 ∷ 2 ∷ 4 ∷ []) s off b (omega arith))) in
       rw (part-length s (off + 8) n i, head, join s off 8 n (off + 8) refl)
 
   proof-typed : (off least : ℕ) → ProofHolds s off least → ProofTyped (proofGiven s (proofAt s off))
@@ -100,7 +100,7 @@ module _ (s : List ℕ) (b : Bytes s) where
 
   witness-header-back : WitnessHolds s → layoutBytes (witnessHeaderFields (operationOf s) (proofCountOf s) (witnessSequenceOf s)) ≡ take 16 s
   unfolding witnessHeaderFields layoutAt
-  witness-header-back z = rw (z .magic, z .version, z .zeros) at (table-back (4 ∷ 1 ∷ 1 ∷ 1 ∷ 1 ∷ 8 ∷ []) s 0 b (z .present))
+  witness-header-back z = rw (z .magic, z .version, z .zeros) at (layout-back (4 ∷ 1 ∷ 1 ∷ 1 ∷ 1 ∷ 8 ∷ []) s 0 b (z .present))
 
   -- the whole is
   pub witness-back : AllPass (witnessRows s) → witnessBytes (witnessReading s) ≡ s

@@ -56,10 +56,10 @@ proofs-read (q ∷ qs) s p t off y e l =
     rw (proof-read s p (proofsBytes qs ++ t) off q (y .0) e₁ l, proofs-read qs s (p ++ proofBytes q) t (off + 8 + proofLengthAt s off) (y .1) e₂ l₂)
 
 -- the header
-pub header-read : (r : WitnessReading) → WitnessTyped r
+pub witness-header-read : (r : WitnessReading) → WitnessTyped r
     → layoutAt (4 ∷ 1 ∷ 1 ∷ 1 ∷ 1 ∷ 8 ∷ []) (witnessBytes r) 0 ≡ witnessHead r
 unfolding witnessBytes witnessHeaderFields
-header-read r y =
+witness-header-read r y =
     numbers-back (witnessHead r) (witnessBytes r) [] (proofsBytes (r .proofs)) 0 (omega arith) refl refl
 
 -- the whole
@@ -68,7 +68,7 @@ unfolding witnessReading witnessBytes witnessHeaderFields layoutAt
 witness-read r y =
     let t = witnessHead r in
     let s = witnessBytes r in
-    let h = header-read r y in
+    let h = witness-header-read r y in
     let e₁ : operationOf s ≡ r .operation = ap (fieldValue 2) h in
     let e₂ : proofCountOf s ≡ length (r .proofs) = ap (fieldValue 3) h in
     let e₃ : witnessSequenceOf s ≡ r .sequence = ap (fieldValue 5) h in

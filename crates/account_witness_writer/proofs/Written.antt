@@ -22,7 +22,7 @@ use Rattle.account_witness.specs.Witness.{witnessRows}
 use Rattle.account_witness.specs.Reading.{ProofReading, WitnessReading, proofFields, proofBytes, proofsBytes, witnessHead, witnessBytes, proofSlots, ProofTyped, ProofsTyped, WitnessTyped}
 use Rattle.account_witness_writer.specs.Writer.{isRising, witnessTotal, lentProofRows, witnessWriterRows, proofLengths, proofsPayload}
 use Rattle.account_witness_writer.proofs.Lent.{length-slots, lent-total}
-use Rattle.account_witness.proofs.Unique.{length-proof, table-read, len-read, header-read}
+use Rattle.account_witness.proofs.Unique.{length-proof, table-read, len-read, witness-header-read}
 
 -- a proof that is not empty, with a slot of at least `least`, wherever it stands
 proof-rows : (s p t : List ℕ) (off least : ℕ) (q : ProofReading) → ProofTyped q → s ≡ p ++ (proofBytes q ++ t) → length p ≡ off
@@ -67,7 +67,7 @@ written-accepted r y h =
     let ps = r .proofs in
     let x = witnessHead r in
     let s = witnessBytes r in
-    let t = header-read r y in
+    let t = witness-header-read r y in
     let total : witnessTotal (proofSlots ps) (proofsPayload ps) ≡ length s = lent-total r in
     let count : proofCountOf s ≡ length ps = ap (fieldValue 3) t in
     let few : length (proofSlots ps) ≤ 16 = leb-true _ _ (h .1 .1 .1 .0) in

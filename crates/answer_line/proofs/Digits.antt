@@ -42,6 +42,6 @@ unfolding hexText
 hex-turn s i h = rw (add-one, drop-cons s i 0 h)
 
 -- nothing is left
-pub hex-end : (s : List ℕ) (i : ℕ) → length s ≤ i → hexText (drop i s) ≡ []
+pub hex-text-end : (s : List ℕ) (i : ℕ) → length s ≤ i → hexText (drop i s) ≡ []
 unfolding hexText
-hex-end s i h = rw (drop-of-length-le s h)
+hex-text-end s i h = rw (drop-of-length-le s h)

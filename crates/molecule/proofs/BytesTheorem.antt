@@ -1,4 +1,4 @@
--- The bytes in a field, the lock of a witness and the args of a script: accepted exactly where every check passes, and then
+-- The bytes in a field, the lock of a witness and the args of a script: accepted exactly where every check table-passes, and then
 -- the field is the vector of the bytes at the place that the reader gives.
 -- Assumes nothing.
 use mathlib.Core.Path.{_≡_, refl, sym, ap, _∙_}
@@ -26,7 +26,7 @@ use Rattle.molecule.specs.declared.bytes.PlaceAnswer.the-variants.{At, R
 use Rattle.molecule.specs.Molecule.{bytesVector, tableBytes}
 use Rattle.molecule.specs.Table3.{tableRows, between, field1, field2, field3, secondOffsetOf, tableTotalOf, thirdOffsetOf}
 use Rattle.molecule.specs.Bytes.{bytesRows, bytesPlaceFrom, placeAnswer, readBytes, witnessLockRows, witnessLockPlace, readWitnessLock, scriptArgsRows, scriptArgsPlace, readScriptArgs, bytesIn}
-use Rattle.molecule.proofs.Form.{Passes, passes, length-field1}
+use Rattle.molecule.proofs.Form.{TablePasses, table-passes, length-field1}
 use Rattle.molecule.proofs.Inverse.{table-written, vector-length, vector-written, vector-read}
 
 -- what the checks found, by the answer
@@ -66,7 +66,7 @@ pub args-read : (s : List ℕ) → AllPass (scriptArgsRows s) → bytesAt s (scr
 unfolding readScriptArgs placeAnswer bytesIn
 args-read s h = rw (all-pass-passed (scriptArgsRows s) h)
 
--- accepted exactly where every check passes, refused exactly with the first that fails
+-- accepted exactly where every check table-passes, refused exactly with the first that fails
 pub bytes-accepts : (field : List ℕ) → (readBytes field ≡ At (bytesPlaceFrom 0 field)) ↔ AllPass (bytesRows InvalidWitness field)
 unfolding readBytes
 bytes-accepts field = place-accepts (bytesRows InvalidWitness field) (bytesPlaceFrom 0 field)
@@ -95,7 +95,7 @@ length-vector : (q : List ℕ) → length (bytesVector q) ≡ 4 + length q
 unfolding bytesVector
 length-vector q = simp (length-append, length-to)
 
--- the one reading of a field that passes
+-- the one reading of a field that table-passes
 vector-one : (e : ProtocolError) (v : List ℕ) → Bytes v → AllPass (bytesRows e v) → OneReading (λ (items : List ℕ). Unit {0}) bytesVector v (take (tableTotalOf v) (drop 4 v))
 vector-one e v b h =
     record {
@@ -132,7 +132,7 @@ unfolding field3
 field3-bytes s b = bytes-drop (thirdOffsetOf s) s b
 
 -- the bytes of field 1, in the witness
-lock-bytes : (s : List ℕ) → Passes s → AllPass (bytesRows InvalidWitness (field1 s))
+lock-bytes : (s : List ℕ) → TablePasses s → AllPass (bytesRows InvalidWitness (field1 s))
     → take (tableTotalOf (field1 s)) (drop 4 (field1 s)) ≡ take (tableTotalOf (field1 s)) (drop 20 s)
 lock-bytes s z h =
     let n : ℕ = tableTotalOf (field1 s) in
@@ -157,7 +157,7 @@ unfolding readWitnessLock witnessLockRows bytesPlaceFrom bytesAt
 witness-lock-theorem s p b h =
     let g = place-given (witnessLockRows s) (bytesPlaceFrom 16 (field1 s)) p h in
     let q = all-pass-split (tableRows InvalidWitness s) _ (g .0) in
-    let z : Passes s = passes InvalidWitness s (q .0) in
+    let z : TablePasses s = table-passes InvalidWitness s (q .0) in
     let v : AllPass (bytesRows InvalidWitness (field1 s)) = q .1 .1 in
     let o : OneReading (λ (items : List ℕ). Unit {0}) bytesVector (field1 s) (take (tableTotalOf (field1 s)) (drop 20 s)) =
     rw (lock-bytes s z v) at (vector-one InvalidWitness (field1 s) (field1-bytes s b) v) in
@@ -170,7 +170,7 @@ unfolding readScriptArgs scriptArgsRows bytesPlaceFrom bytesAt
 script-args-theorem s p b h =
     let g = place-given (scriptArgsRows s) (bytesPlaceFrom (thirdOffsetOf s) (field3 s)) p h in
     let q = all-pass-split (tableRows InvalidArgs s) (bytesRows InvalidArgs (field3 s)) (g .0) in
-    let z : Passes s = passes InvalidArgs s (q .0) in
+    let z : TablePasses s = table-passes InvalidArgs s (q .0) in
     let o : OneReading (λ (items : List ℕ). Unit {0}) bytesVector (field3 s) (take (tableTotalOf (field3 s)) (drop (thirdOffsetOf s + 4) s)) =
     rw (args-bytes s) at (vector-one InvalidArgs (field3 s) (field3-bytes s b) (q .1)) in
     rw (g .1) (o, rw (o .written) (table-written s b z))

@@ -1,4 +1,4 @@
--- The canonical witness: 20 bytes, and then fields 2 and 3, where the table passes the witness from field 2 on.
+-- The canonical witness: 20 bytes, and then fields 2 and 3, where the table table-passes the witness from field 2 on.
 -- Assumes nothing.
 use mathlib.Core.Path.{_≡_, refl, sym, ap, _∙_}
 use mathlib.Core.List.{List, [], _∷_, _++_, append-assoc, append-nil}
@@ -20,7 +20,7 @@ use Rattle.protocol.proofs.AllPass.{passed-all-pass, decide-append}
 use Rattle.molecule.specs.Molecule.{bytesVector, tableBytes}
 use Rattle.molecule.specs.Table3.{tableRows, between, field2, field3, secondOffsetOf, thirdOffsetOf}
 use Rattle.molecule.specs.Canonical.{canonicalOf, canonicalRoom, canonicalHead}
-use Rattle.molecule.proofs.Form.{three-layout, Passes, passes}
+use Rattle.molecule.proofs.Form.{three-layout, TablePasses, table-passes}
 
 -- a table whose first field is an empty vector
 pub canonical-layout : (b c : List ℕ) → tableBytes (bytesVector [] ∷ b ∷ c ∷ []) ≡ layoutBytes (canonicalHead (20 + length b + length c) (20 + length b)) ++ (b ++ c)
@@ -70,8 +70,8 @@ fields-within s =
     let d = length-drop y s in
     omega arith
 
-module _ (s : List ℕ) (z : Passes s) where
-  -- fields 2 and 3 of a table that passes stand end to end
+module _ (s : List ℕ) (z : TablePasses s) where
+  -- fields 2 and 3 of a table that table-passes stand end to end
   pub fields-end : field2 s ++ field3 s ≡ drop (secondOffsetOf s) s
   unfolding field2 field3 between
   fields-end =
@@ -104,7 +104,7 @@ module _ (s : List ℕ) (room : ℕ) where
   unfolding canonicalRoom writeFault decide _▷_
   room-by Passed h =
       let p : AllPass (tableRows InvalidWitness s) = passed-all-pass (tableRows InvalidWitness s) h in
-      rw (← length-from-second s (passes InvalidWitness s p))
+      rw (← length-from-second s (table-passes InvalidWitness s p))
       (sym (decide-append Passed (tableRows InvalidWitness s) (row (leb (length (canonicalOf s)) room) BufferTooShort ∷ [])))
   room-by (Failed e) h =
       rw h (sym (decide-append Passed (tableRows InvalidWitness s) (row (leb (length (canonicalOf s)) room) BufferTooShort ∷ []) ∙ rw h))

@@ -14,7 +14,7 @@ use Rattle.molecule.specs.Molecule.{bytesVector, tableBytes}
 use Rattle.molecule.specs.Table3.{field2, field3}
 use Rattle.molecule.specs.Bytes.{readWitnessLock}
 use Rattle.molecule.specs.Canonical.{canonicalOf, ReadBack, Whole}
-use Rattle.molecule.proofs.Form.{length-three, passes-hold}
+use Rattle.molecule.proofs.Form.{length-three, table-passes-hold}
 use Rattle.molecule.proofs.CanonicalForm.{canonical-whole, length-canonical}
 use Rattle.molecule.proofs.Inverse.{written-passes, field1-read, field2-read, field3-read}
 use Rattle.molecule.proofs.BytesTheorem.{witness-lock-theorem}
@@ -33,7 +33,7 @@ canonical-read s h =
     length-three (bytesVector []) (field2 s) (field3 s) in
     let small : 16 + length (bytesVector []) + length (field2 s) + length (field3 s) < 2 ^ 32 = omega arith in
     record {
-      accepted = λ e. passes-hold e _ (written-passes (bytesVector []) (field2 s) (field3 s) small);
+      accepted = λ e. table-passes-hold e _ (written-passes (bytesVector []) (field2 s) (field3 s) small);
       lock = field1-read (bytesVector []) (field2 s) (field3 s) small;
       second = field2-read (bytesVector []) (field2 s) (field3 s) small;
       third = field3-read (bytesVector []) (field2 s) (field3 s) small;

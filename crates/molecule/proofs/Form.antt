@@ -1,4 +1,4 @@
--- Tables of three fields: their written form, what the loose reader's rows and its answer say, and the fields of one that passes them.
+-- Tables of three fields: their written form, what the loose reader's rows and its answer say, and the fields of one that table-passes them.
 -- Assumes nothing.
 use mathlib.Core.Path.{_≡_, refl}
 use mathlib.Core.List.{List, [], _∷_, _++_, append-nil}
@@ -46,8 +46,8 @@ module _ (a b c : List ℕ) where
       let n : length (layoutBytes h) ≡ 16 = length-numbers h in
       rw (three-layout) (simp (length-append, n) (omega arith))
 
--- what the rows say of a table that passes them
-pub record Passes (s : List ℕ) : Type 0 where
+-- what the rows say of a table that table-passes them
+pub record TablePasses (s : List ℕ) : Type 0 where
   pub header : 16 ≤ length s
   pub total : tableTotalOf s ≡ length s
   pub first : firstOffsetOf s ≡ 16
@@ -55,9 +55,9 @@ pub record Passes (s : List ℕ) : Type 0 where
   pub third : secondOffsetOf s ≤ thirdOffsetOf s
   pub end : thirdOffsetOf s ≤ length s
 
-pub passes : (e : ProtocolError) (s : List ℕ) → AllPass (tableRows e s) → Passes s
+pub table-passes : (e : ProtocolError) (s : List ℕ) → AllPass (tableRows e s) → TablePasses s
 unfolding tableRows
-passes e s h =
+table-passes e s h =
     record {
       header = leb-true _ _ (h .0);
       total = eqb-true _ _ (h .1 .0);
@@ -67,13 +67,13 @@ passes e s h =
       end = leb-true _ _ (h .1 .1 .1 .1 .1 .0);
     }
 
-pub passes-hold : (e : ProtocolError) (s : List ℕ) → Passes s → AllPass (tableRows e s)
+pub table-passes-hold : (e : ProtocolError) (s : List ℕ) → TablePasses s → AllPass (tableRows e s)
 unfolding tableRows
-passes-hold e s z =
+table-passes-hold e s z =
     (le-leb _ _ (z .header), (eq-eqb _ _ (z .total), (eq-eqb _ _ (z .first), (le-leb _ _ (z .second), (le-leb _ _ (z .third), (le-leb _ _ (z .end), tt))))))
 
--- the fields of a table that passes
-module _ (s : List ℕ) (z : Passes s) where
+-- the fields of a table that table-passes
+module _ (s : List ℕ) (z : TablePasses s) where
   pub length-field1 : length (field1 s) ≡ secondOffsetOf s - 16
   unfolding field1 between
   length-field1 = part-length s 16 (secondOffsetOf s - 16) (omega arith)
@@ -92,16 +92,16 @@ tableFound (Fields f) = Passed
 tableFound (Refused e) = Failed e
 
 -- which is what it was made from
-pub table-back : (g : TableFields) (k : Check) → tableFound (tableAnswer k g) ≡ k
+pub table-found-back : (g : TableFields) (k : Check) → tableFound (tableAnswer k g) ≡ k
 unfolding tableAnswer
-table-back g Passed = refl
-table-back g (Failed e) = refl
+table-found-back g Passed = refl
+table-found-back g (Failed e) = refl
 
 -- the fields of an answer that accepts
 pub table-given : (s : List ℕ) (f : TableFields) → readTable s ≡ Fields f → AllPass (tableRows InvalidWitness s) × (f ≡ tableFieldsOf s)
 unfolding readTable tableAnswer
 table-given s f h =
-    let z = answer-given (λ k. tableAnswer k (tableFieldsOf s)) tableFound (table-back (tableFieldsOf s)) (decide Passed (tableRows InvalidWitness s)) (Fields f) h refl in
+    let z = answer-given (λ k. tableAnswer k (tableFieldsOf s)) tableFound (table-found-back (tableFieldsOf s)) (decide Passed (tableRows InvalidWitness s)) (Fields f) h refl in
     let e : Fields (tableFieldsOf s) ≡ Fields f = z .1 in
     (passed-all-pass (tableRows InvalidWitness s) (z .0), cc)
 
@@ -110,5 +110,5 @@ pub given-order : (s : List ℕ) (f : TableFields) → readTable s ≡ Fields f 
 unfolding tableFieldsOf
 given-order s f h =
     let g = table-given s f h in
-    let z = passes InvalidWitness s (g .0) in
+    let z = table-passes InvalidWitness s (g .0) in
     rw (g .1) (z .third, z .end)

@@ -11,21 +11,21 @@ use lib.Seq.{take-all, drop-at, drop-drop}
 use Rattle.octets.specs.Le.{toLe, fromLe, numberAt, Bytes}
 use Rattle.octets.specs.Layout.{Field, layoutBytes, layoutAt, fieldValue}
 use Rattle.octets.proofs.LeLaws.{length-to, from-to-fit}
-use Rattle.octets.proofs.LayoutLaws.{length-numbers, number-back, table-back, numbers-back}
+use Rattle.octets.proofs.LayoutLaws.{length-numbers, number-back, layout-back, numbers-back}
 use Rattle.octets.proofs.Parts.{part-back, part-length}
 use Rattle.protocol.specs.Rows.{AllPass}
 use Rattle.protocol.specs.declared.error.ProtocolError.{ProtocolError}
 use Rattle.molecule.specs.Molecule.{bytesVector, tableBytes}
 use Rattle.molecule.specs.Table3.{between, field1, field2, field3, secondOffsetOf, tableTotalOf, thirdOffsetOf}
 use Rattle.molecule.specs.Bytes.{bytesRows}
-use Rattle.molecule.proofs.Form.{head3, three-layout, length-three, Passes, length-field1, length-field2, length-field3}
+use Rattle.molecule.proofs.Form.{head3, three-layout, length-three, TablePasses, length-field1, length-field2, length-field3}
 use Rattle.molecule.proofs.CanonicalForm.{fields-end}
 
 -- a table that passes is the written form of its fields
-module _ (s : List ℕ) (b : Bytes s) (z : Passes s) where
+module _ (s : List ℕ) (b : Bytes s) (z : TablePasses s) where
   head-back : layoutBytes (head3 (tableTotalOf s) (secondOffsetOf s) (thirdOffsetOf s)) ≡ take 16 s
   unfolding layoutAt
-  head-back = rw (z .first) at (table-back (4 ∷ 4 ∷ 4 ∷ 4 ∷ []) s 0 b (omega arith))
+  head-back = rw (z .first) at (layout-back (4 ∷ 4 ∷ 4 ∷ 4 ∷ []) s 0 b (omega arith))
 
   fields-behind : field1 s ++ (field2 s ++ field3 s) ≡ drop 16 s
   unfolding field1 between
@@ -67,7 +67,7 @@ module _ (a b c : List ℕ) (small : 16 + length a + length b + length c < 2 ^ 3
   unfolding layoutAt
   third-read = ap (fieldValue 3) head-read
 
-  pub written-passes : Passes Whole
+  pub written-passes : TablePasses Whole
   unfolding layoutAt
   written-passes =
       let n : length Whole ≡ 16 + length a + length b + length c = length-three a b c in

@@ -1,4 +1,4 @@
--- Tables of three fields: accepted exactly where every check passes, and then exactly one reading has them as its written
+-- Tables of three fields: accepted exactly where every check table-passes, and then exactly one reading has them as its written
 -- form, which is the one that the reader gives; and what is written so is accepted. Strict Molecule differs only inside
 -- the fields, which the reader does not open.
 -- Assumes nothing.
@@ -19,18 +19,18 @@ use Rattle.molecule.specs.declared.table.TableFields.{TableFields}
 use Rattle.molecule.specs.declared.table.TableAnswer.the-variants.{Fields, Refused}
 use Rattle.molecule.specs.Molecule.{tableBytes}
 use Rattle.molecule.specs.Table3.{tableRows, tableFieldsOf, tableAnswer, readTable, field1, field2, field3, Table3, table3Bytes, tableGiven}
-use Rattle.molecule.proofs.Form.{length-three, Passes, passes, passes-hold, tableFound, table-back, table-given}
+use Rattle.molecule.proofs.Form.{length-three, TablePasses, table-passes, table-passes-hold, tableFound, table-found-back, table-given}
 use Rattle.molecule.proofs.Inverse.{table-written, written-passes, field1-read, field2-read, field3-read}
 
--- accepted exactly where every check passes
+-- accepted exactly where every check table-passes
 pub table-accepts : (s : List ℕ) → (readTable s ≡ Fields (tableFieldsOf s)) ↔ AllPass (tableRows InvalidWitness s)
 unfolding readTable tableAnswer
-table-accepts s = answer-accepts (λ k. tableAnswer k (tableFieldsOf s)) tableFound (table-back (tableFieldsOf s)) (tableRows InvalidWitness s)
+table-accepts s = answer-accepts (λ k. tableAnswer k (tableFieldsOf s)) tableFound (table-found-back (tableFieldsOf s)) (tableRows InvalidWitness s)
 
 -- refused exactly with the first check that fails
 pub table-refuses : (s : List ℕ) (e : ProtocolError) → (readTable s ≡ Refused e) ↔ FirstFailed (tableRows InvalidWitness s) e
 unfolding readTable tableAnswer
-table-refuses s e = answer-refuses (λ k. tableAnswer k (tableFieldsOf s)) tableFound (table-back (tableFieldsOf s)) (tableRows InvalidWitness s) e
+table-refuses s e = answer-refuses (λ k. tableAnswer k (tableFieldsOf s)) tableFound (table-found-back (tableFieldsOf s)) (tableRows InvalidWitness s) e
 
 -- a written table whose size fits its field is accepted, and read as what was written
 pub table-accepted : (e : ProtocolError) (r : Table3) → length (table3Bytes r) < 2 ^ 32
@@ -42,10 +42,10 @@ table-accepted e r h =
     let c = r .third in
     let n : length (tableBytes (a ∷ b ∷ c ∷ [])) ≡ 16 + length a + length b + length c = length-three a b c in
     let small : 16 + length a + length b + length c < 2 ^ 32 = omega arith in
-    (passes-hold e (tableBytes (a ∷ b ∷ c ∷ [])) (written-passes a b c small), rw (field1-read a b c small, field2-read a b c small, field3-read a b c small))
+    (table-passes-hold e (tableBytes (a ∷ b ∷ c ∷ [])) (written-passes a b c small), rw (field1-read a b c small, field2-read a b c small, field3-read a b c small))
 
--- a table that passes has a size that fits
-fits-field : (s : List ℕ) → Bytes s → Passes s → length s < 2 ^ 32
+-- a table that table-passes has a size that fits
+fits-field : (s : List ℕ) → Bytes s → TablePasses s → length s < 2 ^ 32
 fits-field s b z = rw (z .total) at (number-lt s 0 4 b)
 
 -- The theorem: an accepted table has exactly one reading, that of the answer.
@@ -53,7 +53,7 @@ pub table-theorem : (s : List ℕ) (f : TableFields) → Bytes s → readTable s
 unfolding table3Bytes tableGiven tableFieldsOf field1 field2 field3
 table-theorem s f b h =
     let g = table-given s f h in
-    let z : Passes s = passes InvalidWitness s (g .0) in
+    let z : TablePasses s = table-passes InvalidWitness s (g .0) in
     let l : length s < 2 ^ 32 = fits-field s b z in
     rw (g .1)
     (record {

@@ -28,12 +28,12 @@ number-back s at w h l =
     rw e at (to-from (take w (drop at s)) (bytes-take w (drop at s) (bytes-drop at s h)))
 
 -- the bytes of a table are written back
-pub table-back : (ws s : List ℕ) (at : ℕ) → Bytes s → at + layoutWidth ws ≤ length s → layoutBytes (layoutAt ws s at) ≡ take (layoutWidth ws) (drop at s)
+pub layout-back : (ws s : List ℕ) (at : ℕ) → Bytes s → at + layoutWidth ws ≤ length s → layoutBytes (layoutAt ws s at) ≡ take (layoutWidth ws) (drop at s)
 unfolding layoutBytes layoutAt
-table-back [] s at h l = refl
-table-back (w ∷ ws) s at h l =
+layout-back [] s at h l = refl
+layout-back (w ∷ ws) s at h l =
     rw
-    (number-back s at w h (omega arith), table-back ws s (at + w) h (omega arith), take-add w (layoutWidth ws) (drop at s), drop-drop w at s)
+    (number-back s at w h (omega arith), layout-back ws s (at + w) h (omega arith), take-add w (layoutWidth ws) (drop at s), drop-drop w at s)
 
 -- a table's numbers are read back
 pub numbers-back : (fs : List Field) (s p t : List ℕ) (at : ℕ) → LayoutFits fs → s ≡ p ++ (layoutBytes fs ++ t) → length p ≡ at → layoutAt (fieldWidths fs) s at ≡ fs

@@ -11,7 +11,7 @@ use lib.Seq.{take-add, take-all}
 use Rattle.octets.specs.Le.{Bytes, toLe, fromLe, numberAt}
 use Rattle.octets.specs.Layout.{layoutBytes, layoutAt, fieldValue}
 use Rattle.octets.proofs.LeLaws.{length-to, from-to, number-lt}
-use Rattle.octets.proofs.LayoutLaws.{table-back, numbers-back}
+use Rattle.octets.proofs.LayoutLaws.{layout-back, numbers-back}
 use Rattle.octets.proofs.Parts.{part-back, part-length}
 use Rattle.protocol.specs.Rows.{AllPass}
 use Rattle.public_key_proof.specs.Reader.{publicKeyProofRows, publicKeyProofPlaces, publicKeyLengthOf, publicKeyProofVersionOf, signatureLengthOf}
@@ -53,7 +53,7 @@ module _ (s : List ℕ) (b : Bytes s) (z : PublicKeyProofPasses s) where
 
   head-back : layoutBytes (publicKeyProofHead (publicKeyProofReading s)) ≡ take 5 s
   unfolding publicKeyProofHead publicKeyProofReading publicKeyProofGiven publicKeyProofPlaces layoutAt
-  head-back = rw (length-key, length-signature) (rw (z .version) at (table-back (1 ∷ 2 ∷ 2 ∷ []) s 0 b (omega arith)))
+  head-back = rw (length-key, length-signature) (rw (z .version) at (layout-back (1 ∷ 2 ∷ 2 ∷ []) s 0 b (omega arith)))
 
   -- the proof is the written form of its reading,
   pub public-key-proof-back : publicKeyProofBytes (publicKeyProofReading s) ≡ s

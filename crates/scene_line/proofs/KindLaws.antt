@@ -23,15 +23,15 @@ rank-small Verdicts = omega arith
 rank-small Unknown = omega arith
 
 -- a line has a field at least
-pub counted : (k : Kind) → eqb 0 (fieldCount k) ≡ false
-counted Script = refl
-counted Tx = refl
-counted Input = refl
-counted Output = refl
-counted Dep = refl
-counted Witness = refl
-counted Verdicts = refl
-counted Unknown = refl
+pub field-counted : (k : Kind) → eqb 0 (fieldCount k) ≡ false
+field-counted Script = refl
+field-counted Tx = refl
+field-counted Input = refl
+field-counted Output = refl
+field-counted Dep = refl
+field-counted Witness = refl
+field-counted Verdicts = refl
+field-counted Unknown = refl
 
 -- a line's kind is one whose row 2 holds
 pub shape : (last : ℕ) (w : List ℕ) (fs : List (List ℕ)) → (rank (lineKind last (w ∷ fs)) ≡ 0 → ⊥)

@@ -22,7 +22,7 @@ use Rattle.scene_reading.specs.Reading.{sceneOf}
 use Rattle.scene_reading.specs.Print.{textOf}
 use Rattle.scene_reading.specs.Left.{Reachable}
 use Rattle.scene_reading.proofs.Accepts.{accepted-passes, passes-accepted}
-use Rattle.scene_reading.proofs.Leaves.{bytes-fit, passes-leaves}
+use Rattle.scene_reading.proofs.Leaves.{scene-bytes-fit, passes-leaves}
 use Rattle.scene_reading.proofs.PrintBack.{reading-ok}
 use Rattle.scene_table.proofs.SceneBack.{numbers-few}
 use Rattle.scene_reading.proofs.SceneAccepts.{scene-accepts, scene-encodes}
@@ -54,7 +54,7 @@ module _ (table : List ℕ) (n : ℕ) (long : tableMinEntries ≤ length table) 
       let ok = reading-ok (l .text) n p in
       let w : length (sceneNumbers (sceneOf (p .lines))) ≤ 925 = numbers-few (sceneOf (p .lines)) ok in
       let f : length (sceneNumbers (sceneOf (p .lines))) ≤ length table = omega arith in
-      (s, ok, bytes-fit (l .text) n p, sym (l .same) ∙ passes-leaves (l .text) n p (length table) (l .left) (l .ran) .1 f)
+      (s, ok, scene-bytes-fit (l .text) n p, sym (l .same) ∙ passes-leaves (l .text) n p (length table) (l .left) (l .ran) .1 f)
 
 -- the lock's row for 7
 pub table-test : (table : List ℕ) (n : ℕ) → (validTable table n ≡ true) ↔ ((tableMinEntries ≤ length table) × Reachable table n)

@@ -24,7 +24,7 @@ use Rattle.scene_reading.proofs.LinesPut.{lineIn, lineRead}
 use Rattle.scene_reading.proofs.PrintLines.{LinesPrinted, each-printed}
 use Rattle.scene_reading.proofs.Printed.{line-bytes, scene-prints}
 use Rattle.scene_reading.proofs.PrintBack.{reading-ok, lines-back}
-use Rattle.scene_reading.proofs.CountLaws.{counted, counted-behind, counts-set}
+use Rattle.scene_reading.proofs.CountLaws.{countsAfter, counted-behind, counts-set}
 
 -- ---- what the lines put down, one behind another
 
@@ -34,16 +34,16 @@ module _ (h : ReaderState) (l : List ℕ) where
   store-line bs = sets-append (h .store) (h .used) (bytesOfLine l) bs _ refl
 
   table-line : (ks : List Kind) (rs : List ℕ) → 8 ≤ h .filled
-      → sets (counted (putLine h l .table) (putLine h l .last) (putLine h l .seen) ks) (putLine h l .filled) rs
-      ≡ sets (counted (h .table) (h .last) (h .seen) (kindOfLine l ∷ ks)) (h .filled) ((h .used ∷ lineRead l .numbers) ++ rs)
-  unfolding putLine linePutAs counted lineRead lineIn
+      → sets (countsAfter (putLine h l .table) (putLine h l .last) (putLine h l .seen) ks) (putLine h l .filled) rs
+      ≡ sets (countsAfter (h .table) (h .last) (h .seen) (kindOfLine l ∷ ks)) (h .filled) ((h .used ∷ lineRead l .numbers) ++ rs)
+  unfolding putLine linePutAs countsAfter lineRead lineIn
   table-line ks rs e =
       let k = kindOfLine l in
       let s = seenWith (h .last) (h .seen) (rank k) in
       let t = set (h .table) (rank k) s in
       let v = h .used ∷ lineEntries (firstForm k) (fieldsOfLine l) in
       ap (λ (x : List ℕ). sets x (h .filled + 1 + length (lineEntries (firstForm k) (fieldsOfLine l))) rs) (counted-behind ks t (rank k) s (h .filled) v e)
-      ∙ sets-append (counted t (rank k) s ks) (h .filled) v rs _ (omega arith)
+      ∙ sets-append (countsAfter t (rank k) s ks) (h .filled) v rs _ (omega arith)
 
   behind-counts : 8 ≤ h .filled → 8 ≤ putLine h l .filled
   unfolding putLine linePutAs
@@ -59,8 +59,8 @@ unfolding putLine linePutAs lineRead lineIn
 used-line h l = refl
 
 table-lines : (ls : List (List ℕ)) (h : ReaderState) → 8 ≤ h .filled
-    → putLines h ls .table ≡ sets (counted (h .table) (h .last) (h .seen) (map kindOfLine ls)) (h .filled) (recordsFrom (h .used) (map lineRead ls))
-unfolding putLines counted recordsFrom
+    → putLines h ls .table ≡ sets (countsAfter (h .table) (h .last) (h .seen) (map kindOfLine ls)) (h .filled) (recordsFrom (h .used) (map lineRead ls))
+unfolding putLines countsAfter recordsFrom
 table-lines [] h e = refl
 table-lines (l ∷ ls) h e =
     table-lines ls (putLine h l) (behind-counts h l e)
@@ -100,18 +100,18 @@ module _ (text : List ℕ) (n : ℕ) (p : LinesAccepted text n) where
   numbers-said = rw (said .read)
 
   -- the store holds the scene's bytes
-  pub bytes-fit : length (sceneBytes (sceneOf (p .lines))) ≤ n
+  pub scene-bytes-fit : length (sceneBytes (sceneOf (p .lines))) ≤ n
   unfolding scene
-  bytes-fit = rw bytes-said at (p .room)
+  scene-bytes-fit = rw bytes-said at (p .room)
 
   module _ (m : ℕ) where
     -- the store that they leave
     store-left : putLines (readerStart n m) (p .lines) .store ≡ sceneStore (sceneOf (p .lines)) n
     unfolding readerStart sceneStore scene
-    store-left = store-lines (p .lines) (readerStart n m) ∙ rw bytes-said (front-padded (sceneBytes scene) n bytes-fit)
+    store-left = store-lines (p .lines) (readerStart n m) ∙ rw bytes-said (front-padded (sceneBytes scene) n scene-bytes-fit)
 
     -- the counts that they leave in the table
-    counts-left : 8 ≤ m → counted (replicate m 0) 0 0 (map kindOfLine (p .lines)) ≡ sets (replicate m 0) 0 (countsOf scene)
+    counts-left : 8 ≤ m → countsAfter (replicate m 0) 0 0 (map kindOfLine (p .lines)) ≡ sets (replicate m 0) 0 (countsOf scene)
     unfolding countsOf
     counts-left h = rw (said .ordered) (counts-set m (length (scene .inputs)) (length (scene .outputs)) (length (scene .deps)) (length (scene .witnesses)) h)
 

@@ -147,9 +147,9 @@ module _ (i : Input) (h : InputHolds i) where
   input-form =
       rw (digits-form 2 (omega arith) (i .group ∷ []) (h .group), decimal-back (i .since) (h .since)) (cell-form (i .cell) (h .cell))
 
-  pub input-back : inputOf (inputFields i) ≡ i
+  pub input-fields-back : inputOf (inputFields i) ≡ i
   unfolding inputFields inputOf cellOf numberIn digitsText
-  input-back =
+  input-fields-back =
       let g : hexVal (48 + i .group) ≡ i .group = ap (λ (ds : List ℕ). getD ds 0 0) (digits-back 2 (omega arith) (i .group ∷ []) (h .group)) in
       let e : cellOf 0 (cellFields (i .cell)) ≡ i .cell = cell-back (i .cell) (h .cell) in
       rw (g, decimal-back (i .since) (h .since), e)

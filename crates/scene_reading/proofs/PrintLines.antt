@@ -25,7 +25,7 @@ use Rattle.scene_reading.specs.Print.{cellFields, inputFields, inputText
 use Rattle.scene_reading.proofs.LinesPut.{lineIn, lineRead, hex-put, hash-put, digits-put, cell-put, input-put}
 use Rattle.scene_reading.proofs.PrintPieces.{without, line-pieces}
 use Rattle.scene_reading.proofs.PrintDigits.{hex-back, hex-ok, hex-high, digits-form, digits-high, digits-length, digits-back}
-use Rattle.scene_reading.proofs.PrintFields.{HashHolds, hash-form, CellHolds, cell-high, cell-form, cell-back, InputHolds, input-high, input-form, input-back}
+use Rattle.scene_reading.proofs.PrintFields.{HashHolds, hash-form, CellHolds, cell-high, cell-form, cell-back, InputHolds, input-high, input-form, input-fields-back}
 
 -- A text all of whose bytes are 48 or more holds no separator
 module _ (c : ℕ) (low : c < 48) where
@@ -147,7 +147,7 @@ input-prints i h =
       says = input-says i h;
       counted = refl;
       formed = input-form i h;
-      read = input-put _ _ _ _ _ _ ∙ ap inputLine (input-back i h);
+      read = input-put _ _ _ _ _ _ ∙ ap inputLine (input-fields-back i h);
     }
 
 pub record DigitsHold (ds : List ℕ) : Type 0 where
@@ -175,10 +175,10 @@ pub data EachPrints : List (List ℕ) → List Kind → List Line → Type 0 whe
   more : {l : List ℕ} {k : Kind} {line : Line} {ls : List (List ℕ)} {ks : List Kind} {lines : List Line}
       → Prints l k line → EachPrints ls ks lines → EachPrints (l ∷ ls) (k ∷ ks) (line ∷ lines)
 
-pub each-append : {ls ls′ : List (List ℕ)} {ks ks′ : List Kind} {xs xs′ : List Line}
+pub each-prints-append : {ls ls′ : List (List ℕ)} {ks ks′ : List Kind} {xs xs′ : List Line}
     → EachPrints ls ks xs → EachPrints ls′ ks′ xs′ → EachPrints (ls ++ ls′) (ks ++ ks′) (xs ++ xs′)
-each-append none q = q
-each-append (more p r) q = more p (each-append r q)
+each-prints-append none q = q
+each-prints-append (more p r) q = more p (each-prints-append r q)
 
 -- n lines of one kind
 pub each-map : {A : Type 0} (ok : A → Bool) (text : A → List ℕ) (k : Kind) (line : A → Line) → ((x : A) → ok x ≡ true → Prints (text x) k (line x))

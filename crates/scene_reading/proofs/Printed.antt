@@ -24,8 +24,8 @@ use Rattle.scene_table.proofs.Lines.{right-nested}
 use Rattle.scene_table.proofs.SceneBack.{Sayable, sayable}
 use Rattle.scene_reading.proofs.PrintPieces.{lines-pieces}
 use Rattle.scene_reading.proofs.PrintDigits.{hex-back, digits-back}
-use Rattle.scene_reading.proofs.PrintFields.{hash-holds, cell-holds, cell-back, input-holds, input-back}
-use Rattle.scene_reading.proofs.PrintLines.{Says, bytes-says, cell-says, input-says, digits-says, bytes-prints, hash-prints, input-prints, cell-prints, digits-prints, EachPrints, none, more, each-append, each-map, each-printed}
+use Rattle.scene_reading.proofs.PrintFields.{hash-holds, cell-holds, cell-back, input-holds, input-fields-back}
+use Rattle.scene_reading.proofs.PrintLines.{Says, bytes-says, cell-says, input-says, digits-says, bytes-prints, hash-prints, input-prints, cell-prints, digits-prints, EachPrints, none, more, each-prints-append, each-map, each-printed}
 
 -- each line of the printed text, with its kind and with what it holds
 pub scene-prints : (s : Scene) → Sayable s
@@ -38,7 +38,7 @@ scene-prints s h =
     let deps = each-map cellOk (cellText dep) kind.Dep cellLine (λ c e. cell-prints kind.Dep refl refl c (cell-holds c e)) (s .deps) (h .deps) in
     let witnesses = each-map bytesOk (bytesText witness) kind.Witness bytesLine (bytes-prints kind.Witness refl refl) (s .witnesses) (h .witnesses) in
     let head = more (bytes-prints kind.Script refl refl (s .script) (h .script)) (more (hash-prints (s .transaction) (hash-holds (s .transaction) (h .transaction))) inputs) in
-    each-append (each-append (each-append (each-append head outputs) deps) witnesses) verdict
+    each-prints-append (each-prints-append (each-prints-append (each-prints-append head outputs) deps) witnesses) verdict
 
 -- the bytes of lines are those that the reader puts down
 pub line-bytes : (ls : List (List ℕ)) → map bytesOfLine ls ≡ map (λ (l : Line). l .bytes) (map lineRead ls)
@@ -156,7 +156,7 @@ printed-reading s ok =
     let fields = printed-fields s h in
     let script = ap (λ (f : List (List (List ℕ))). hexBytes (onlyField f)) (fields kind.Script) ∙ hex-back (s .script) (h .script) in
     let transaction = ap (λ (f : List (List (List ℕ))). hexBytes (onlyField f)) (fields kind.Tx) ∙ hex-back (s .transaction) (hash-holds (s .transaction) (h .transaction) .bytes) in
-    let inputs = ap (map inputOf) (fields kind.Input) ∙ values-back inputOk inputFields inputOf (λ i e. input-back i (input-holds i e)) (s .inputs) (h .inputs) in
+    let inputs = ap (map inputOf) (fields kind.Input) ∙ values-back inputOk inputFields inputOf (λ i e. input-fields-back i (input-holds i e)) (s .inputs) (h .inputs) in
     let outputs = ap (map (cellOf 0)) (fields kind.Output) ∙ cells-back (s .outputs) (h .outputs) in
     let deps = ap (map (cellOf 0)) (fields kind.Dep) ∙ cells-back (s .deps) (h .deps) in
     let witnesses = ap (map bytesField) (fields kind.Witness) ∙ values-back bytesOk bytesFields bytesField hex-back (s .witnesses) (h .witnesses) in

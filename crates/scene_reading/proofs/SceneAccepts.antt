@@ -20,7 +20,7 @@ use Rattle.scene_reading.specs.Lines.{LinesAccepted}
 use Rattle.scene_reading.specs.Reading.{sceneOf}
 use Rattle.scene_reading.specs.Left.{Encodes}
 use Rattle.scene_reading.proofs.Accepts.{accepted-passes, passes-accepted}
-use Rattle.scene_reading.proofs.Leaves.{bytes-fit, passes-leaves}
+use Rattle.scene_reading.proofs.Leaves.{scene-bytes-fit, passes-leaves}
 use Rattle.scene_reading.proofs.PrintBack.{reading-ok}
 use Rattle.scene_table.proofs.SceneBack.{numbers-few}
 
@@ -63,7 +63,7 @@ module _ (text : List ℕ) (n m : ℕ) where
         store = rw (within-limits (h .0) (h .1 .0), r .1) (l .0);
         table = rw (within-limits (h .0) (h .1 .0), r .1) (l .1 f);
         ok = k;
-        fits = bytes-fit text n p;
+        fits = scene-bytes-fit text n p;
         few = f;
       }
 

@@ -17,7 +17,7 @@ use Rattle.scene_table.specs.Lent.{tableEntry, inputsAt, outputsAt, deps
 use Rattle.scene_table.specs.Valid.{bytesOk, hashBytesOk, cellOk, inputOk, fewOf, digitsOk, sceneOk}
 use Rattle.scene_table.proofs.Lines.{total, records-append, cut, cut-take, fromInputs, fromOutputs, fromDeps, fromWitnesses, lines-by-kind}
 use Rattle.octets.proofs.Truth.{and-both}
-use Rattle.scene_table.proofs.Stands.{Stands, bytesOf, stands-left, stands-right, record-entry, records-long, records-back}
+use Rattle.scene_table.proofs.Stands.{Stands, linesBytes, stands-left, stands-right, record-entry, records-long, records-back}
 use Rattle.scene_table.proofs.ReadBack.{cellWith, inputWith, sceneWith, Gives, bytes-back, hash-back, record-back, input-back}
 
 -- what a scene that a text can say has
@@ -140,7 +140,7 @@ module _ (s : Scene) (m : ℕ) where
   counts = (refl, refl, refl, refl)
 
   all-stand : Stands (sceneTable s m) (sceneBytes s) 8 0 (bytesLine (s .script) ∷ hashLine (s .transaction) ∷ fromInputs s)
-  unfolding sceneTable paddedTo sceneNumbers sceneBytes bytesOf
+  unfolding sceneTable paddedTo sceneNumbers sceneBytes linesBytes
   all-stand = record {
     before = countsOf s;
     after = replicate (m - length (sceneNumbers s)) 0;
@@ -148,7 +148,7 @@ module _ (s : Scene) (m : ℕ) where
     back = [];
     records = ap (λ (ls : List Line). (countsOf s ++ recordsFrom 0 ls) ++ replicate (m - length (sceneNumbers s)) 0) (lines-by-kind s) ∙ append-assoc (countsOf s) _ _;
     place = counts-long s;
-    bytes = ap bytesOf (lines-by-kind s) ∙ sym (append-nil _);
+    bytes = ap linesBytes (lines-by-kind s) ∙ sym (append-nil _);
     start = refl;
   }
 

@@ -15,13 +15,13 @@ use Rattle.scene_table.proofs.Lines.{total, total-joined, records-appen
 use Rattle.octets.proofs.Truth.{and-both}
 
 -- the bytes of lines
-unfoldable pub bytesOf : List Line → List ℕ
-bytesOf ls = joined (map (λ (l : Line). l .bytes) ls)
+unfoldable pub linesBytes : List Line → List ℕ
+linesBytes ls = joined (map (λ (l : Line). l .bytes) ls)
 
-pub bytes-append : (ls ms : List Line) → bytesOf (ls ++ ms) ≡ bytesOf ls ++ bytesOf ms
-unfolding bytesOf joined
-bytes-append [] ms = refl
-bytes-append (l ∷ ls) ms = rw (bytes-append ls ms) (sym (append-assoc (l .bytes) (joined (map (λ (l : Line). l .bytes) ls)) (joined (map (λ (l : Line). l .bytes) ms))))
+pub lines-bytes-append : (ls ms : List Line) → linesBytes (ls ++ ms) ≡ linesBytes ls ++ linesBytes ms
+unfolding linesBytes joined
+lines-bytes-append [] ms = refl
+lines-bytes-append (l ∷ ls) ms = rw (lines-bytes-append ls ms) (sym (append-assoc (l .bytes) (joined (map (λ (l : Line). l .bytes) ls)) (joined (map (λ (l : Line). l .bytes) ms))))
 
 -- lines whose records begin at entry `at` and whose bytes begin at offset `used`
 pub record Stands (table store : List ℕ) (at used : ℕ) (ls : List Line) : Type 0 where
@@ -31,7 +31,7 @@ pub record Stands (table store : List ℕ) (at used : ℕ) (ls : List Line) : Ty
   pub back : List ℕ
   pub records : table ≡ before ++ (recordsFrom used ls ++ after)
   pub place : length before ≡ at
-  pub bytes : store ≡ front ++ (bytesOf ls ++ back)
+  pub bytes : store ≡ front ++ (linesBytes ls ++ back)
   pub start : length front ≡ used
 
 module _ (table store : List ℕ) where
@@ -41,25 +41,25 @@ module _ (table store : List ℕ) where
     before = s .before;
     after = recordsFrom (used + total ls) ms ++ s .after;
     front = s .front;
-    back = bytesOf ms ++ s .back;
+    back = linesBytes ms ++ s .back;
     records = s .records ∙ ap (λ (r : List ℕ). s .before ++ r) (ap (λ (r : List ℕ). r ++ s .after) (records-append used ls ms) ∙ append-assoc (recordsFrom used ls) (recordsFrom (used + total ls) ms) (s .after));
     place = s .place;
-    bytes = s .bytes ∙ ap (λ (r : List ℕ). s .front ++ r) (ap (λ (r : List ℕ). r ++ s .back) (bytes-append ls ms) ∙ append-assoc (bytesOf ls) (bytesOf ms) (s .back));
+    bytes = s .bytes ∙ ap (λ (r : List ℕ). s .front ++ r) (ap (λ (r : List ℕ). r ++ s .back) (lines-bytes-append ls ms) ∙ append-assoc (linesBytes ls) (linesBytes ms) (s .back));
     start = s .start;
   }
 
   pub stands-right : {at used : ℕ} (ls ms : List Line) (n : ℕ) → length (recordsFrom used ls) ≡ n → Stands table store at used (ls ++ ms) → Stands table store (at + n) (used + total ls) ms
-  unfolding bytesOf stands-left
+  unfolding linesBytes stands-left
   stands-right {at} {used} ls ms n long s =
       let t = stands-left ls ms s in
       record {
         before = s .before ++ recordsFrom used ls;
         after = s .after;
-        front = s .front ++ bytesOf ls;
+        front = s .front ++ linesBytes ls;
         back = s .back;
         records = t .records ∙ sym (append-assoc (s .before) (recordsFrom used ls) (recordsFrom (used + total ls) ms ++ s .after));
         place = rw (length-append, s .place, long);
-        bytes = t .bytes ∙ sym (append-assoc (s .front) (bytesOf ls) (bytesOf ms ++ s .back));
+        bytes = t .bytes ∙ sym (append-assoc (s .front) (linesBytes ls) (linesBytes ms ++ s .back));
         start = rw (length-append, s .start, total-joined ls);
       }
 
@@ -75,7 +75,7 @@ module _ (table store : List ℕ) where
       (ap (λ (r : List ℕ). getD (r ++ s .after) i 0) (append-nil (l .numbers)) ∙ List·getD-append (l .numbers) (s .after) 0 i h)
 
   pub record-bytes : {at used : ℕ} {l : Line} (s : Stands table store at used (l ∷ [])) → store ≡ s .front ++ (l .bytes ++ s .back)
-  unfolding bytesOf joined
+  unfolding linesBytes joined
   record-bytes {at} {used} {l} s = s .bytes ∙ ap (λ (r : List ℕ). s .front ++ (r ++ s .back)) (append-nil (l .bytes))
 
 module _ {A : Type 0} (line : A → Line) (w : ℕ) (wide : (x : A) → suc (length (line x .numbers)) ≡ w) where

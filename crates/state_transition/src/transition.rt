@@ -1,6 +1,7 @@
 // The current state against the witness, its successor and the recovery's lock.
 use account_state::check_state;
 use account_state::flags_of;
+use account_state::recovery_enabled;
 use account_state::recovery_since_of;
 use account_state::sequence_of;
 use protocol::ACCOUNT_STATE_MAX_LEN;
@@ -61,7 +62,10 @@ fn check_recovery(since: u64, current: &[u8]) -> Check
     ensures { λ r. ⌜ r ≡ decide Check.Passed (recoveryRows since (now (current .entry))) ⌝ }
 {
     Check::Passed
-        .require(flags_of(current) % 2 == 1, ProtocolError::InvalidCapability)
+        .require(
+            recovery_enabled(flags_of(current)),
+            ProtocolError::InvalidCapability,
+        )
         .require(
             recovery_since_of(current) <= since,
             ProtocolError::RecoveryLocked,

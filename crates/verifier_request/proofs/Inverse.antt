@@ -12,7 +12,7 @@ use lib.Seq.{take-add, take-all}
 use Rattle.octets.specs.Le.{Bytes}
 use Rattle.octets.specs.Layout.{layoutBytes, layoutAt, fieldValue}
 use Rattle.octets.proofs.LeLaws.{number-lt}
-use Rattle.octets.proofs.LayoutLaws.{table-back, numbers-back}
+use Rattle.octets.proofs.LayoutLaws.{layout-back, numbers-back}
 use Rattle.octets.proofs.Parts.{part-back, part-length}
 use Rattle.protocol.specs.Policy.{isOperation}
 use Rattle.protocol.specs.Rows.{AllPass}
@@ -69,11 +69,11 @@ module _ (s : List ℕ) (b : Bytes s) (z : RequestPasses s) where
   unfolding requestHead layoutAt
   head-back =
       rw (z .magic, z .abi, z .flags, z .headerLen, z .zeros) at
-      (table-back (4 ∷ 1 ∷ 1 ∷ 2 ∷ 2 ∷ 2 ∷ 1 ∷ 1 ∷ 2 ∷ []) s 0 b (omega arith))
+      (layout-back (4 ∷ 1 ∷ 1 ∷ 2 ∷ 2 ∷ 2 ∷ 1 ∷ 1 ∷ 2 ∷ []) s 0 b (omega arith))
 
   lengths-back : layoutBytes (requestLengths (requestAuxLengthOf s) (requestProofLengthOf s)) ≡ take 16 (drop 80 s)
   unfolding requestLengths layoutAt
-  lengths-back = rw (z .lastZeros) at (table-back (4 ∷ 4 ∷ 8 ∷ []) s 80 b (omega arith))
+  lengths-back = rw (z .lastZeros) at (layout-back (4 ∷ 4 ∷ 8 ∷ []) s 80 b (omega arith))
 
   length-aux : length (take (requestAuxLengthOf s) (drop 96 s)) ≡ requestAuxLengthOf s
   length-aux = part-length s 96 (requestAuxLengthOf s) (omega arith)

@@ -7,7 +7,7 @@ use native.Mathlib.Omega.{arith}
 use lib.ListN.{length, drop, getD}
 use lib.Seq.{sets}
 use Rattle.scene_text.specs.Print.{digitText, hexText}
-use Rattle.answer_line.proofs.Digits.{sets-two, hex-turn, hex-end}
+use Rattle.answer_line.proofs.Digits.{sets-two, hex-turn, hex-text-end}
 use Rattle.answer_line.proofs.put.put_hex.Statement.{statement}
 use Rattle.answer_line.proofs.put.put_hex.Tie as tie
 
@@ -42,7 +42,7 @@ returns : tie.Need-returns Inv-loop μ-loop
 returns c =
     let l = c .before .loop in
     let bytes = c .before .before .before .before .args .bytes .now in
-    (omega arith, sym (rw (hex-end bytes (l .i) (c .loop-test .left)) at (sym (l .inv .3))))
+    (omega arith, sym (rw (hex-text-end bytes (l .i) (c .loop-test .left)) at (sym (l .inv .3))))
 
 pub put-hex-spec : {M : Type 1} → statement M
 put-hex-spec =

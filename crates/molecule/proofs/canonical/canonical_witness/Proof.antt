@@ -8,7 +8,7 @@ use Rattle.protocol.proofs.Back.{write-passed}
 use Rattle.protocol.proofs.Outcome.{write-refused, write-done}
 use Rattle.molecule.specs.Table3.{tableRows}
 use Rattle.molecule.specs.Canonical.{canonicalOf, canonicalRoom, canonicalWritten, canonicalStored}
-use Rattle.molecule.proofs.Form.{Passes, passes}
+use Rattle.molecule.proofs.Form.{TablePasses, table-passes}
 use Rattle.molecule.proofs.CanonicalForm.{length-from-second, parts-stored, room-found}
 use borrow.Author.Needs.{needs}
 use Rattle.molecule.proofs.canonical.canonical_witness.Statement.{statement}
@@ -37,7 +37,7 @@ returns-2 c =
     let rows = tableRows InvalidWitness s in
     let found : k .require .result ≡ canonicalRoom s (length (a .out .now)) =
     rw (k .require .ensures, k .before .fits2 .ensures, k .before .before .check-table .ensures, r .rest .ensures, r .before .second-offset-of .ensures) (room-found s (length (a .out .now))) in
-    let z : Passes s = passes InvalidWitness s (write-passed rows (length (canonicalOf s)) (length (a .out .now)) (sym found ∙ told .enum-told .given .1) .0) in
+    let z : TablePasses s = table-passes InvalidWitness s (write-passed rows (length (canonicalOf s)) (length (a .out .now)) (sym found ∙ told .enum-told .given .1) .0) in
     let n : 20 + length (r .rest .result .now) ≡ length (canonicalOf s) = rw (r .rest .ensures, r .before .second-offset-of .ensures) (sym (length-from-second s z)) in
     let stored : c .before .before .store-bytes2 .last .0 ≡ sets (a .out .now) 0 (canonicalOf s) =
     rw (c .before .before .store-bytes2 .ensures, t .store-bytes .ensures, h .canonical-head .ensures, r .rest .ensures, r .before .second-offset-of .ensures) (parts-stored s z (a .out .now)) in

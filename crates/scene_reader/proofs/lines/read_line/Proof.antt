@@ -6,7 +6,7 @@ use mathlib.Core.Bool.{and-false}
 use Rattle.scene_reader.proofs.LinesOutcome.{kept-more, step-cut}
 use Rattle.protocol.specs.Rows.{_▷_, decide}
 use Rattle.scene_text.specs.Text.{pieces, comma}
-use Rattle.scene_line.proofs.KindLaws.{shape, counted}
+use Rattle.scene_line.proofs.KindLaws.{shape, field-counted}
 use Rattle.scene_line.specs.Kind.{lineKind, kindOf, lineFields}
 use Rattle.scene_reader.specs.Reader.{lineRows, rowsOfLine}
 use Rattle.scene_reader.specs.Room.{stateHolding}
@@ -15,7 +15,7 @@ use Rattle.scene_reader.proofs.lines.read_line.Tie as tie
 
 returns : tie.Need-returns
 unfolding rowsOfLine lineRows lineKind lineFields decide _▷_
-returns c = (rw (c .before .find .ensures .whole (c .if1 .taken), counted (kindOf (take (c .before .find .result) (c .before .before .before .before .before .args .line .now))), and-false), tt)
+returns c = (rw (c .before .find .ensures .whole (c .if1 .taken), field-counted (kindOf (take (c .before .find .result) (c .before .before .before .before .before .args .line .now))), and-false), tt)
 
 read-as-requires : tie.Need-read-as-requires
 read-as-requires c κs =
