@@ -135,7 +135,9 @@ pub(crate) fn check_state(
     bytes: &[u8],
 ) -> Check
     requires { ⌜ neededBytes (lentCount (now fields)) (now fields) ≡ length (now bytes) ⌝ }
-    ensures { λ r. ⌜ r ≡ decide Passed (stateChecks flags spend rotate recovery since (entriesFrom (lentCount (now (fields .entry))) (now (fields .entry)) (now (bytes .entry)))) ⌝ }
+    ensures { λ r.
+        ⌜ r ≡ decide Passed (stateChecks flags spend rotate recovery since
+        (entriesFrom (lentCount (now (fields .entry))) (now (fields .entry)) (now (bytes .entry)))) ⌝ }
 {
     let count = fields.len() / LENT_WIDTH;
     match check_head(flags, count) {

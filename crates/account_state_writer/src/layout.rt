@@ -84,7 +84,8 @@ fn store_front(front: &mut [u8], fields: &[u16], verifier: &[u8])
 
 // The entry at the front of the slices. Its first part is lent just its 48 bytes, so that no store there looks for the end.
 fn store_entry(out: &mut [u8], at: usize, fields: &[u16], bytes: &[u8])
-    requires { ⌜ (at + 80 + lentAuxLength (now fields) ≤ length (now out)) × ((lentWidth ≤ length (now fields)) × (lentBytes (now fields) ≤ length (now bytes))) ⌝ }
+    requires { ⌜ (at + 80 + lentAuxLength (now fields) ≤ length (now out))
+        × ((lentWidth ≤ length (now fields)) × (lentBytes (now fields) ≤ length (now bytes))) ⌝ }
     ensures { λ _. ⌜ now (out .exit) ≡ sets (now (out .entry)) at (entryBytes (entryFrom (now (fields .entry)) (now (bytes .entry)))) ⌝ }
 {
     let key = at + 48;
@@ -94,7 +95,8 @@ fn store_entry(out: &mut [u8], at: usize, fields: &[u16], bytes: &[u8])
 }
 
 fn store_entries(out: &mut [u8], fields: &[u16], bytes: &[u8], count: usize)
-    requires { ⌜ (lentWidth * count ≤ length (now fields)) × ((neededBytes count (now fields) ≡ length (now bytes)) × (32 + 14 * count + length (now bytes) ≤ length (now out))) ⌝ }
+    requires { ⌜ (lentWidth * count ≤ length (now fields))
+        × ((neededBytes count (now fields) ≡ length (now bytes)) × (32 + 14 * count + length (now bytes) ≤ length (now out))) ⌝ }
     ensures { λ _. ⌜ now (out .exit) ≡ sets (now (out .entry)) 32 (entriesBytes (entriesFrom count (now (fields .entry)) (now (bytes .entry)))) ⌝ }
 {
     let mut i: usize = 0;
@@ -122,8 +124,12 @@ pub(crate) fn store_state(
     bytes: &[u8],
     out: &mut [u8],
 )
-    requires { ⌜ (lentCount (now fields) ≤ 255) × ((neededBytes (lentCount (now fields)) (now fields) ≡ length (now bytes)) × (32 + 14 * lentCount (now fields) + length (now bytes) ≤ length (now out))) ⌝ }
-    ensures { λ _. ⌜ now (out .exit) ≡ sets (now (out .entry)) 0 (stateBytes (stateFrom flags sequence spend rotate recovery since (now (fields .entry)) (now (bytes .entry)))) ⌝ }
+    requires { ⌜ (lentCount (now fields) ≤ 255)
+        × ((neededBytes (lentCount (now fields)) (now fields) ≡ length (now bytes))
+        × (32 + 14 * lentCount (now fields) + length (now bytes) ≤ length (now out))) ⌝ }
+    ensures { λ _.
+        ⌜ now (out .exit) ≡ sets (now (out .entry)) 0
+        (stateBytes (stateFrom flags sequence spend rotate recovery since (now (fields .entry)) (now (bytes .entry)))) ⌝ }
 {
     let count = fields.len() / LENT_WIDTH;
     store_head(

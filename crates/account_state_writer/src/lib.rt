@@ -29,8 +29,14 @@ fn encode_agreed(
     out: &mut [u8],
 ) -> WriteAnswer
     requires { ⌜ AllPass (sliceRows (now fields) (now bytes)) ⌝ }
-    ensures { λ r. ⌜ r ≡ validWritten (stateBytes (stateFrom flags sequence spend rotate recovery since (now (fields .entry)) (now (bytes .entry)))) (now (out .entry)) ⌝ }
-    ensures { λ _. ⌜ now (out .exit) ≡ validStored (stateBytes (stateFrom flags sequence spend rotate recovery since (now (fields .entry)) (now (bytes .entry)))) (now (out .entry)) ⌝ }
+    ensures { λ r.
+        ⌜ r ≡ validWritten
+        (stateBytes (stateFrom flags sequence spend rotate recovery since (now (fields .entry)) (now (bytes .entry))))
+        (now (out .entry)) ⌝ }
+    ensures { λ _.
+        ⌜ now (out .exit) ≡ validStored
+        (stateBytes (stateFrom flags sequence spend rotate recovery since (now (fields .entry)) (now (bytes .entry))))
+        (now (out .entry)) ⌝ }
 {
     let total = ACCOUNT_STATE_HEADER_LEN + 14 * (fields.len() / LENT_WIDTH) + bytes.len();
     let check = check_state(flags, spend, rotate, recovery, since, fields, bytes).require(
@@ -68,8 +74,14 @@ pub fn encode_state(
     bytes: &[u8],
     out: &mut [u8],
 ) -> WriteAnswer
-    ensures { λ r. ⌜ r ≡ stateWritten (stateFrom flags sequence spend rotate recovery since (now (fields .entry)) (now (bytes .entry))) (now (fields .entry)) (now (bytes .entry)) (now (out .entry)) ⌝ }
-    ensures { λ _. ⌜ now (out .exit) ≡ stateStored (stateFrom flags sequence spend rotate recovery since (now (fields .entry)) (now (bytes .entry))) (now (fields .entry)) (now (bytes .entry)) (now (out .entry)) ⌝ }
+    ensures { λ r.
+        ⌜ r ≡ stateWritten
+        (stateFrom flags sequence spend rotate recovery since (now (fields .entry)) (now (bytes .entry)))
+        (now (fields .entry)) (now (bytes .entry)) (now (out .entry)) ⌝ }
+    ensures { λ _.
+        ⌜ now (out .exit) ≡ stateStored
+        (stateFrom flags sequence spend rotate recovery since (now (fields .entry)) (now (bytes .entry)))
+        (now (fields .entry)) (now (bytes .entry)) (now (out .entry)) ⌝ }
 {
     match check_slices(fields, bytes) {
         Check::Failed(error) => WriteAnswer::Refused(error),

@@ -1,6 +1,6 @@
 // The cells of a transaction, list by list.
 use octets::Place;
-use octets::part;
+use octets::part_at;
 use scene_table::CellPlaces;
 use scene_table::dep_cell;
 use scene_table::dep_count;
@@ -59,8 +59,8 @@ pub(crate) fn cell_hash<'a>(
 {
     let places = cell_places(table, source, i);
     match field {
-        CellField::TypeHash => part(store, places.type_hash.start, places.type_hash.len),
-        CellField::DataHash => part(store, places.data_hash.start, places.data_hash.len),
+        CellField::TypeHash => part_at(store, places.type_hash),
+        CellField::DataHash => part_at(store, places.data_hash),
     }
 }
 
@@ -85,7 +85,7 @@ pub fn cell_content<'a>(table: &[u32], store: &'a [u8], source: Source, i: u32) 
     ensures { λ r. ⌜ now r ≡ cellAt (cellsOf source (sceneIn (now (table .entry)) (now (store .entry)))) i .content ⌝ }
 {
     let places = places_within(table, source, i);
-    part(store, places.content.start, places.content.len)
+    part_at(store, places.content)
 }
 
 // The type script of a cell, nothing where it has none or the list has no such cell.
@@ -93,5 +93,5 @@ pub fn cell_type_script<'a>(table: &[u32], store: &'a [u8], source: Source, i: u
     ensures { λ r. ⌜ now r ≡ cellAt (cellsOf source (sceneIn (now (table .entry)) (now (store .entry)))) i .typeScript ⌝ }
 {
     let places = places_within(table, source, i);
-    part(store, places.type_script.start, places.type_script.len)
+    part_at(store, places.type_script)
 }

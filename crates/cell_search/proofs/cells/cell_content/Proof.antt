@@ -1,7 +1,6 @@
 -- `cell_search::cells::cell_content` meets its contract. Assumes nothing.
 use denote.Ref.{now}
 use mathlib.Core.Path.{ap, _∙_}
-use Rattle.octets.specs.Places.{bytesAt}
 use Rattle.scene_table.specs.Scene.{Cell}
 use Rattle.scene_table.specs.Lent.{cellFrom}
 use Rattle.cell_search.proofs.CellLaws.{cell-within}
@@ -10,10 +9,10 @@ use Rattle.cell_search.proofs.cells.cell_content.Statement.{statement}
 use Rattle.cell_search.proofs.cells.cell_content.Tie as tie
 
 returns : tie.Need-returns
-unfolding cellFrom bytesAt
+unfolding cellFrom
 returns c =
     let a = c .before .before .before .before .args in
-    rw (c .before .places-within .ensures) at (c .part .ensures)
+    rw (c .before .places-within .ensures) at (c .part-at .ensures)
     ∙ ap (λ (x : Cell). x .content) (cell-within (a .source) (now (a .table)) (now (a .store)) (a .i))
 
 pub cell-content-spec : {M : Type 1} → statement M

@@ -1,5 +1,4 @@
 -- `cell_search::cells::cell_hash` meets its contract. Assumes nothing.
-use Rattle.octets.specs.Places.{bytesAt}
 use Rattle.scene_table.specs.Lent.{cellFrom}
 use Rattle.cell_search.specs.Search.{cellHash}
 use borrow.Author.Needs.{needs}
@@ -7,12 +6,12 @@ use Rattle.cell_search.proofs.cells.cell_hash.Statement.{statement}
 use Rattle.cell_search.proofs.cells.cell_hash.Tie as tie
 
 returns : tie.Need-returns
-unfolding cellHash cellFrom bytesAt
-returns c = rw (c .before .enum-told .given .1) (rw (c .before .before .before .cell-places .ensures) at (c .part .ensures))
+unfolding cellHash cellFrom
+returns c = rw (c .before .enum-told .given .1) (rw (c .before .before .before .cell-places .ensures) at (c .part-at .ensures))
 
 returns-2 : tie.Need-returns-2
-unfolding cellHash cellFrom bytesAt
-returns-2 c = rw (c .before .enum-told2 .given .1) (rw (c .before .before .before .cell-places .ensures) at (c .part2 .ensures))
+unfolding cellHash cellFrom
+returns-2 c = rw (c .before .enum-told2 .given .1) (rw (c .before .before .before .cell-places .ensures) at (c .part-at2 .ensures))
 
 pub cell-hash-spec : {M : Type 1} → statement M
 cell-hash-spec =
