@@ -61,7 +61,8 @@ pub record Answers (table store before : List ℕ) : Type 0 where
   -- the digest is reached, and is CKB's hash of document 01's input
   pub reached : lockOf table store (length before) .reached ≡ true
   pub digest : lockOf table store (length before) .digest
-      ≡ ckbHash (digestInput (operation (sceneIn table store)) (account (sceneIn table store)) (sequenceOf (current (sceneIn table store))) (current (sceneIn table store))
+      ≡ ckbHash (digestInput (operation (sceneIn table store)) (account (sceneIn table store)) (sequenceOf (current (sceneIn table store)))
+      (current (sceneIn table store))
       (ckbHash (sighashInput (sceneIn table store .transaction) (canonicalOf (firstWitness (sceneIn table store))) (otherWitnesses (sceneIn table store)))))
 
 -- the numbers that the lock gives; 01, "Where each refusal is raised": its own are "answer buffer too short for this request", 5,
