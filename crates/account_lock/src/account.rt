@@ -9,6 +9,7 @@ use group_sighash::check_others;
 use group_sighash::sighash_with;
 use molecule::lock_of;
 use octets::array_32;
+use proof_walk::Authorization;
 use proof_walk::walk_proofs;
 use protocol::Check;
 use state_transition::ResolvedState;
@@ -57,7 +58,8 @@ fn walk_account(
     let digest = lock_digest(table, store, account_id, witness, current);
     let lock = lock_of(witness);
     let operation = operation_of(lock);
-    let walked = walk_proofs(table, store, current, lock, operation, digest, answer);
+    let authorization = Authorization { operation, digest };
+    let walked = walk_proofs(table, store, current, lock, authorization, answer);
     let found = walked.found;
     let count = walked.count;
     let length = walked.length;

@@ -5,3 +5,9 @@ mod walk; // walk.rt
 
 pub use self::walk::ProofWalkAnswer;
 pub use self::walk::walk_proofs;
+
+// What every request is for: the operation, and the digest that it is over.
+pub struct Authorization {
+    pub operation: u8,
+    pub digest: [u8; 32],
+}

@@ -1,4 +1,5 @@
 // One proof: the rows that it passes before its request is made, and the request.
+use crate::Authorization;
 use crate::authenticator::entry_bytes;
 use crate::authenticator::find_authenticator;
 use crate::authenticator::is_capable;
@@ -99,23 +100,23 @@ fn check_request(
 fn encode_request(
     entry: &[u8],
     slot: u16,
-    operation: u8,
-    digest: [u8; 32],
+    authorization: Authorization,
     proof: &[u8],
     out: &mut [u8],
 ) -> WriteAnswer
     ensures { λ r. ⌜ r ≡ requestWritten
-        (requestContent operation digest (entryOf (now (entry .entry))) (proofWith slot (now (proof .entry))))
+        (requestContent (authorization .operation) (authorization .digest) (entryOf (now (entry .entry))) (proofWith slot (now (proof .entry))))
         (now (out .entry)) ⌝ }
     ensures { λ _. ⌜ now (out .exit) ≡ requestStored
-        (requestContent operation digest (entryOf (now (entry .entry))) (proofWith slot (now (proof .entry))))
+        (requestContent (authorization .operation) (authorization .digest) (entryOf (now (entry .entry))) (proofWith slot (now (proof .entry))))
         (now (out .entry)) ⌝ }
 {
     let aux = aux_of(entry);
+    let digest = authorization.digest;
     encode_verifier_request(
         algorithm_of(entry),
         slot,
-        operation,
+        authorization.operation,
         u8_at(aux, 0),
         digest,
         array_32(key_of(entry)),
@@ -130,14 +131,14 @@ pub(crate) fn make_request(
     table: &[u32],
     store: &[u8],
     state: &[u8],
-    operation: u8,
-    digest: [u8; 32],
+    authorization: Authorization,
     slot: u16,
     proof: &[u8],
     out: &mut [u8],
 ) -> RequestStep
     ensures { λ r. ⌜ RequestStepIs
-        (walkContext (now (table .entry)) (now (store .entry)) (now (state .entry)) operation digest (length (now (out .entry))))
+        (walkContext (now (table .entry)) (now (store .entry)) (now (state .entry))
+        (authorization .operation) (authorization .digest) (length (now (out .entry))))
         (proofWith slot (now (proof .entry))) (now (out .entry)) (now (out .exit)) r ⌝ }
 {
     let found = find_authenticator(state, slot);
@@ -148,12 +149,12 @@ pub(crate) fn make_request(
         store,
         known,
         entry,
-        operation,
+        authorization.operation,
         proof.len(),
         out.len(),
     ) {
         Check::Failed(error) => RequestStep::Refused(error),
-        Check::Passed => match encode_request(entry, slot, operation, digest, proof, out) {
+        Check::Passed => match encode_request(entry, slot, authorization, proof, out) {
             WriteAnswer::Refused(error) => RequestStep::Refused(error),
             WriteAnswer::Written(len) => RequestStep::Made(len, weight_of(entry)),
         },

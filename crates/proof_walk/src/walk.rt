@@ -1,4 +1,5 @@
 // The walk over the proofs, one by one.
+use crate::Authorization;
 use crate::authenticator::threshold;
 use crate::request::RequestStep;
 use crate::request::make_request;
@@ -55,12 +56,12 @@ fn walk_proof(
     lock: &[u8],
     cursor: ProofCursor,
     index: u8,
-    operation: u8,
-    digest: [u8; 32],
+    authorization: Authorization,
     out: &mut [u8],
 ) -> ProofOutcome
     ensures { λ r. ⌜ ProofOutcomeIs
-        (walkContext (now (table .entry)) (now (store .entry)) (now (state .entry)) operation digest (length (now (out .entry))))
+        (walkContext (now (table .entry)) (now (store .entry)) (now (state .entry))
+        (authorization .operation) (authorization .digest) (length (now (out .entry))))
         (now (lock .entry)) cursor index (now (out .entry)) (now (out .exit)) r ⌝ }
 {
     match next_proof(lock, cursor) {
@@ -68,7 +69,7 @@ fn walk_proof(
         ProofStep::Next(proof, next) => {
             let slot = proof.slot;
             let bytes = part(lock, proof.start, proof.len);
-            match make_request(table, store, state, operation, digest, slot, bytes, out) {
+            match make_request(table, store, state, authorization, slot, bytes, out) {
                 RequestStep::Refused(error) => ProofOutcome::Refused(error),
                 RequestStep::Made(len, weight) => apply_verdict(
                     verdict(table, index as u32),
@@ -109,15 +110,16 @@ fn walk_lock(
     store: &[u8],
     state: &[u8],
     lock: &[u8],
-    operation: u8,
-    digest: [u8; 32],
+    authorization: Authorization,
     answer: &mut [u8],
 ) -> ProofWalkAnswer
     ensures { λ r. ⌜ r ≡ proofWalkAnswer (walkLock
-        (walkContext (now (table .entry)) (now (store .entry)) (now (state .entry)) operation digest (length (now (answer .entry))))
+        (walkContext (now (table .entry)) (now (store .entry)) (now (state .entry))
+        (authorization .operation) (authorization .digest) (length (now (answer .entry))))
         (now (lock .entry))) ⌝ }
     ensures { λ _. ⌜ now (answer .exit) ≡ answered (now (answer .entry)) (walkLock
-        (walkContext (now (table .entry)) (now (store .entry)) (now (state .entry)) operation digest (length (now (answer .entry))))
+        (walkContext (now (table .entry)) (now (store .entry)) (now (state .entry))
+        (authorization .operation) (authorization .digest) (length (now (answer .entry))))
         (now (lock .entry)) .made) ⌝ }
 {
     let count = proof_count_of(lock);
@@ -127,7 +129,7 @@ fn walk_lock(
     let mut i: u8 = 0;
     while i < count {
         let out = &mut answer[total..];
-        match walk_proof(table, store, state, lock, cursor, i, operation, digest, out) {
+        match walk_proof(table, store, state, lock, cursor, i, authorization, out) {
             ProofOutcome::Refused(error) => return answer_of(Check::Failed(error), i, total),
             ProofOutcome::Failed(len) => {
                 let failure = Check::Failed(ProtocolError::VerifierFailure);
@@ -141,7 +143,7 @@ fn walk_lock(
         }
         i += 1;
     }
-    let found = check_end(state, lock, operation, cursor.offset, weight);
+    let found = check_end(state, lock, authorization.operation, cursor.offset, weight);
     answer_of(found, i, total)
 }
 
@@ -152,19 +154,20 @@ pub fn walk_proofs(
     store: &[u8],
     state: &[u8],
     lock: &[u8],
-    operation: u8,
-    digest: [u8; 32],
+    authorization: Authorization,
     answer: &mut [u8],
 ) -> ProofWalkAnswer
     ensures { λ r. ⌜ r ≡ proofWalkAnswer (walkProofs
-        (walkContext (now (table .entry)) (now (store .entry)) (now (state .entry)) operation digest (length (now (answer .entry))))
+        (walkContext (now (table .entry)) (now (store .entry)) (now (state .entry))
+        (authorization .operation) (authorization .digest) (length (now (answer .entry))))
         (now (lock .entry))) ⌝ }
     ensures { λ _. ⌜ now (answer .exit) ≡ answered (now (answer .entry)) (walkProofs
-        (walkContext (now (table .entry)) (now (store .entry)) (now (state .entry)) operation digest (length (now (answer .entry))))
+        (walkContext (now (table .entry)) (now (store .entry)) (now (state .entry))
+        (authorization .operation) (authorization .digest) (length (now (answer .entry))))
         (now (lock .entry)) .made) ⌝ }
 {
-    if is_operation(operation) {
-        walk_lock(table, store, state, lock, operation, digest, answer)
+    if is_operation(authorization.operation) {
+        walk_lock(table, store, state, lock, authorization, answer)
     } else {
         answer_of(Check::Failed(ProtocolError::InvalidOperation), 0, 0)
     }

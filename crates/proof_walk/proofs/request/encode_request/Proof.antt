@@ -11,7 +11,7 @@ unfolding requestContent entryOf
 returns c =
     let w = c .before .before in
     let k = w .before .before in
-    rw (k .array-32 .ensures, k .before .key-of .ensures, k .before .before .u8-at .ensures, k .before .before .before .algorithm-of .ensures, k .before .before .before .before .aux-of .ensures, number-one) at (w .encode-verifier-request .ensures)
+    rw (k .array-32 .ensures, k .before .key-of .ensures, k .before .before .u8-at .ensures, k .before .before .before .algorithm-of .ensures, k .before .before .before .before .before .aux-of .ensures, number-one) at (w .encode-verifier-request .ensures)
 
 pub encode-request-spec : {M : Type 1} → statement M
 encode-request-spec =

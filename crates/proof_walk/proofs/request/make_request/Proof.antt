@@ -25,22 +25,26 @@ refused-written h = absurd (let z : _≡_ {A = ℕ} 0 1 = cc in omega arith)
 written-length : {m n : ℕ} → Written m ≡ Written n → m ≡ n
 written-length h = cc
 
+-- the digest is an array of 32 bytes
+digest-long : (s : tie.Start) → length (s .args .authorization .digest) ≡ 32
+digest-long s = search needs
+
 -- what the checks find is what the proof's rows say
 checked : (c : tie.After-check-request) →
     let a = c .before .before .before .before .before .before .before .before .before .args in
     c .check-request .result
-    ≡ decide Passed (proofRows (walkContext (a .table .now) (a .store .now) (a .state .now) (a .operation) (a .digest) (length (a .out .now))) 0 (proofWith (a .slot) (a .proof .now)))
+    ≡ decide Passed (proofRows (walkContext (a .table .now) (a .store .now) (a .state .now) (a .authorization .operation) (a .authorization .digest) (length (a .out .now))) 0 (proofWith (a .slot) (a .proof .now)))
 checked c =
     let a = c .before .before .before .before .before .before .before .before .before .args in
     let f = c .before .before .before .find-authenticator in
     (rw (c .before .is-known .ensures, c .before .before .entry-bytes .ensures) at (c .check-request .ensures))
-    ∙ ap (decide Passed) (found-rows (a .table .now) (a .store .now) (a .state .now) (a .operation) (a .digest) (length (a .out .now)) (a .slot) (a .proof .now) (f .result) (f .ensures))
+    ∙ ap (decide Passed) (found-rows (a .table .now) (a .store .now) (a .state .now) (a .authorization .operation) (a .authorization .digest) (length (a .out .now)) (a .slot) (a .proof .now) (f .result) (f .ensures))
 
 -- where they find nothing every row passes, by the entry that was found
 rows : (t : tie.After-enum-told) →
     let k = t .before .before in
     let a = k .before .before .before .before .before .before .before .before .before .args in
-    decide Passed (foundRows (k .before .is-known .result) (a .operation) (sceneDeps (a .table .now) (a .store .now)) (entryOf (k .before .before .entry-bytes .result .now)) (length (a .proof .now)) (length (a .out .now)))
+    decide Passed (foundRows (k .before .is-known .result) (a .authorization .operation) (sceneDeps (a .table .now) (a .store .now)) (entryOf (k .before .before .entry-bytes .result .now)) (length (a .proof .now)) (length (a .out .now)))
     ≡ Passed
 rows t = sym (t .before .before .check-request .ensures) ∙ t .enum-told .given .1
 
@@ -49,13 +53,13 @@ wrote : (d : tie.After-encode-request) →
     let k = d .before .before .before .before in
     let a = k .before .before .before .before .before .before .before .before .before .args in
     d .encode-request .result
-    ≡ Written (length (requestBytes (requestContent (a .operation) (a .digest) (entryOf (k .before .before .entry-bytes .result .now)) (proofWith (a .slot) (a .proof .now)))))
+    ≡ Written (length (requestBytes (requestContent (a .authorization .operation) (a .authorization .digest) (entryOf (k .before .before .entry-bytes .result .now)) (proofWith (a .slot) (a .proof .now)))))
 wrote d =
     let k = d .before .before .before .before in
     let s = k .before .before .before .before .before .before .before .before .before in
     let a = s .args in
     d .encode-request .ensures .0
-    ∙ made-written _ (a .operation) (a .digest) _ (entryOf (k .before .before .entry-bytes .result .now)) (proofWith (a .slot) (a .proof .now)) (a .out .now) (omega (arith, s .good)) (rows (d .before .before))
+    ∙ made-written _ (a .authorization .operation) (a .authorization .digest) _ (entryOf (k .before .before .entry-bytes .result .now)) (proofWith (a .slot) (a .proof .now)) (a .out .now) (digest-long s) (rows (d .before .before))
 
 returns : tie.Need-returns
 returns c = (sym (checked (c .before .before .before)) ∙ c .before .error .given .1, refl)
@@ -73,16 +77,16 @@ returns-3 c =
     let f = k .before .before .before .find-authenticator in
     let e = k .before .before .entry-bytes in
     let p = proofWith (a .slot) (a .proof .now) in
-    let n : length (a .digest) ≡ 32 = omega (arith, s .good) in
-    let q = found-request (a .table .now) (a .store .now) (a .state .now) (a .operation) (a .digest) (length (a .out .now)) (a .slot) (a .proof .now) (f .result) (f .ensures) in
+    let n = digest-long s in
+    let q = found-request (a .table .now) (a .store .now) (a .state .now) (a .authorization .operation) (a .authorization .digest) (length (a .out .now)) (a .slot) (a .proof .now) (f .result) (f .ensures) in
     let len = written-length (sym (c .before .before .len .given .1) ∙ wrote d) in (
       record {
         passed = sym (checked k) ∙ t .enum-told .given .1;
-        wrote = d .encode-request .ensures .1 ∙ made-stored _ (a .operation) (a .digest) _ (entryOf (e .result .now)) p (a .out .now) n (rows t) ∙ rw (e .ensures) (ap (answered (a .out .now)) q);
+        wrote = d .encode-request .ensures .1 ∙ made-stored _ (a .authorization .operation) (a .authorization .digest) _ (entryOf (e .result .now)) p (a .out .now) n (rows t) ∙ rw (e .ensures) (ap (answered (a .out .now)) q);
         long = len ∙ rw (e .ensures) (ap length q);
-        fits = omega (arith, len, made-fits _ (a .operation) (a .digest) _ (entryOf (e .result .now)) p (a .out .now) n (rows t));
+        fits = omega (arith, len, made-fits _ (a .authorization .operation) (a .authorization .digest) _ (entryOf (e .result .now)) p (a .out .now) n (rows t));
       },
-      (rw (e .ensures) at (c .weight-of .ensures)) ∙ found-weight (a .table .now) (a .store .now) (a .state .now) (a .operation) (a .digest) (length (a .out .now)) (a .slot) (a .proof .now) (f .result) (f .ensures),
+      (rw (e .ensures) at (c .weight-of .ensures)) ∙ found-weight (a .table .now) (a .store .now) (a .state .now) (a .authorization .operation) (a .authorization .digest) (length (a .out .now)) (a .slot) (a .proof .now) (f .result) (f .ensures),
     )
 
 pub make-request-spec : {M : Type 1} → statement M

@@ -14,11 +14,11 @@ use Rattle.proof_walk.proofs.walk.walk_lock.Statement.{statement}
 use Rattle.proof_walk.proofs.walk.walk_lock.Tie as tie
 
 abbrev Inv-loop : tie.InvT-loop
-Inv-loop table store state lock operation digest answer₀ count cursor₀ weight₀ total₀ i₀ answer cursor weight total i =
-    WalkInvariant (walkContext table store state operation digest (length answer₀)) lock count answer₀ answer cursor weight total i
+Inv-loop table store state lock authorization answer₀ count cursor₀ weight₀ total₀ i₀ answer cursor weight total i =
+    WalkInvariant (walkContext table store state (authorization .operation) (authorization .digest) (length answer₀)) lock count answer₀ answer cursor weight total i
 
 abbrev μ-loop : tie.MeasureT-loop
-μ-loop table store state lock operation digest answer₀ count cursor₀ weight₀ total₀ i₀ answer cursor weight total i =
+μ-loop table store state lock authorization answer₀ count cursor₀ weight₀ total₀ i₀ answer cursor weight total i =
     count - i
 
 loop-holds : tie.Need-loop-holds Inv-loop μ-loop
@@ -38,14 +38,14 @@ refused-at : (c : tie.After-known-told Inv-loop μ-loop) →
     let k = c .before .before .before .before .before in
     let l = k .before .before .before .loop in
     let a = At k .args in
-    ProofOutcomeIs (walkContext (a .table .now) (a .store .now) (a .state .now) (a .operation) (a .digest) (length (lentOf (l .total) (l .answer)))) (a .lock .now) (l .cursor) (l .i) (lentOf (l .total) (l .answer)) (k .walk-proof .last .1 .1 .1 .1 .1 .1 .1 .1 .0) (outcome.Refused (c .before .error .given .0 .0))
+    ProofOutcomeIs (walkContext (a .table .now) (a .store .now) (a .state .now) (a .authorization .operation) (a .authorization .digest) (length (lentOf (l .total) (l .answer)))) (a .lock .now) (l .cursor) (l .i) (lentOf (l .total) (l .answer)) (k .walk-proof .last .1 .1 .1 .1 .1 .1 .1 .0) (outcome.Refused (c .before .error .given .0 .0))
 refused-at c = rw (c .before .error .given .1) at (c .before .before .before .before .before .walk-proof .ensures)
 
 failed-at : (c : tie.After-known-told2 Inv-loop μ-loop) →
     let k = c .before .before .before .before .before in
     let l = k .before .before .before .loop in
     let a = At k .args in
-    ProofOutcomeIs (walkContext (a .table .now) (a .store .now) (a .state .now) (a .operation) (a .digest) (length (lentOf (l .total) (l .answer)))) (a .lock .now) (l .cursor) (l .i) (lentOf (l .total) (l .answer)) (k .walk-proof .last .1 .1 .1 .1 .1 .1 .1 .1 .0) (outcome.Failed (c .before .len .given .0 .0))
+    ProofOutcomeIs (walkContext (a .table .now) (a .store .now) (a .state .now) (a .authorization .operation) (a .authorization .digest) (length (lentOf (l .total) (l .answer)))) (a .lock .now) (l .cursor) (l .i) (lentOf (l .total) (l .answer)) (k .walk-proof .last .1 .1 .1 .1 .1 .1 .1 .0) (outcome.Failed (c .before .len .given .0 .0))
 failed-at c = rw (c .before .len .given .1) at (c .before .before .before .before .before .walk-proof .ensures)
 
 onward-at : (c : tie.After-known-told3 Inv-loop μ-loop) →
@@ -53,7 +53,7 @@ onward-at : (c : tie.After-known-told3 Inv-loop μ-loop) →
     let l = k .before .before .before .loop in
     let a = At k .args in
     let v = c .before .len2 .given .0 in
-    ProofOutcomeIs (walkContext (a .table .now) (a .store .now) (a .state .now) (a .operation) (a .digest) (length (lentOf (l .total) (l .answer)))) (a .lock .now) (l .cursor) (l .i) (lentOf (l .total) (l .answer)) (k .walk-proof .last .1 .1 .1 .1 .1 .1 .1 .1 .0) (outcome.Onward (v .0) (v .1 .0) (v .1 .1 .0))
+    ProofOutcomeIs (walkContext (a .table .now) (a .store .now) (a .state .now) (a .authorization .operation) (a .authorization .digest) (length (lentOf (l .total) (l .answer)))) (a .lock .now) (l .cursor) (l .i) (lentOf (l .total) (l .answer)) (k .walk-proof .last .1 .1 .1 .1 .1 .1 .1 .0) (outcome.Onward (v .0) (v .1 .0) (v .1 .1 .0))
 onward-at c = rw (c .before .len2 .given .1) at (c .before .before .before .before .before .walk-proof .ensures)
 
 -- a request was written
@@ -61,19 +61,19 @@ abbrev Written : (k : tie.After-walk-proof Inv-loop μ-loop) → ℕ → Type 0
 Written k len =
     let l = k .before .before .before .loop in
     let a = At k .args in
-    RequestWritten (walkContext (a .table .now) (a .store .now) (a .state .now) (a .operation) (a .digest) (length (a .answer .now))) (a .answer .now) (l .answer) (l .inv .made) (l .total) (proofOf (a .lock .now) (l .cursor .offset)) (k .walk-proof .last .1 .1 .1 .1 .1 .1 .1 .1 .0) len
+    RequestWritten (walkContext (a .table .now) (a .store .now) (a .state .now) (a .authorization .operation) (a .authorization .digest) (length (a .answer .now))) (a .answer .now) (l .answer) (l .inv .made) (l .total) (proofOf (a .lock .now) (l .cursor .offset)) (k .walk-proof .last .1 .1 .1 .1 .1 .1 .1 .0) len
 
 written-2 : (c : tie.After-known-told2 Inv-loop μ-loop) → Written (c .before .before .before .before .before) (c .before .len .given .0 .0)
 written-2 c =
     let k = c .before .before .before .before .before in
     let a = At k .args in
-    turn-written (a .table .now) (a .store .now) (a .state .now) (a .operation) (a .digest) (k .before .before .before .loop .inv) (k .before .before .loop-test .taken) _ _ (failed-at c .0)
+    turn-written (a .table .now) (a .store .now) (a .state .now) (a .authorization .operation) (a .authorization .digest) (k .before .before .before .loop .inv) (k .before .before .loop-test .taken) _ _ (failed-at c .0)
 
 written-3 : (c : tie.After-known-told3 Inv-loop μ-loop) → Written (c .before .before .before .before .before) (c .before .len2 .given .0 .0)
 written-3 c =
     let k = c .before .before .before .before .before in
     let a = At k .args in
-    turn-written (a .table .now) (a .store .now) (a .state .now) (a .operation) (a .digest) (k .before .before .before .loop .inv) (k .before .before .loop-test .taken) _ _ (onward-at c .0)
+    turn-written (a .table .now) (a .store .now) (a .state .now) (a .authorization .operation) (a .authorization .digest) (k .before .before .before .loop .inv) (k .before .before .loop-test .taken) _ _ (onward-at c .0)
 
 same-length : tie.Need-same-length Inv-loop μ-loop
 same-length c =
@@ -87,7 +87,7 @@ returns c =
     let a = At k .args in
     let l = k .before .before .before .loop in
     walk-answered (a .answer .now)
-    (turn-stopped (a .table .now) (a .store .now) (a .state .now) (a .operation) (a .digest) (l .inv) (k .before .before .loop-test .taken) _ _ (refused-at t))
+    (turn-stopped (a .table .now) (a .store .now) (a .state .now) (a .authorization .operation) (a .authorization .digest) (l .inv) (k .before .before .loop-test .taken) _ _ (refused-at t))
     (l .inv .long)
     (unwritten (l .total) (l .answer) _ (refused-at t .1) ∙ l .inv .wrote)
     (c .answer-of .ensures)
@@ -109,7 +109,7 @@ returns-2 c =
     let l = k .before .before .before .loop in
     let w = written-2 t in
     walk-answered (a .answer .now)
-    (turn-failed (a .table .now) (a .store .now) (a .state .now) (a .operation) (a .digest) (l .inv) (k .before .before .loop-test .taken) _ _ (failed-at t .0) (failed-at t .1))
+    (turn-failed (a .table .now) (a .store .now) (a .state .now) (a .authorization .operation) (a .authorization .digest) (l .inv) (k .before .before .loop-test .taken) _ _ (failed-at t .0) (failed-at t .1))
     (w .long)
     (w .wrote)
     (c .answer-of2 .ensures)
@@ -126,7 +126,7 @@ loop-again c =
     let a = At k .args in
     let l = k .before .before .before .loop in
     let t = onward-at c in
-    turn-onward (a .table .now) (a .store .now) (a .state .now) (a .operation) (a .digest) (l .inv) (k .before .before .loop-test .taken) _ _ (t .0) _ _ (omega arith) t
+    turn-onward (a .table .now) (a .store .now) (a .state .now) (a .authorization .operation) (a .authorization .digest) (l .inv) (k .before .before .loop-test .taken) _ _ (t .0) _ _ (omega arith) t
 
 same-length-3 : tie.Need-same-length-3 Inv-loop μ-loop
 same-length-3 c = c .before .before .before .loop .inv .kept
@@ -137,7 +137,7 @@ returns-3 c =
     let a = k .before .before .before .before .before .before .before .before .args in
     let h = k .loop .inv in
     walk-answered (a .answer .now)
-    (walk-ends (a .table .now) (a .store .now) (a .state .now) (a .operation) (a .digest) h (omega (arith, c .before .before .loop-test .left)))
+    (walk-ends (a .table .now) (a .store .now) (a .state .now) (a .authorization .operation) (a .authorization .digest) h (omega (arith, c .before .before .loop-test .left)))
     (h .long)
     (h .wrote)
     (rw (c .before .check-end .ensures) at (c .answer-of3 .ensures))

@@ -12,7 +12,7 @@ use Rattle.proof_walk.proofs.walk.walk_proof.Tie as tie
 abbrev C : tie.Start → Context
 C s =
     let a = s .args in
-    walkContext (a .table .now) (a .store .now) (a .state .now) (a .operation) (a .digest) (length (a .out .now))
+    walkContext (a .table .now) (a .store .now) (a .state .now) (a .authorization .operation) (a .authorization .digest) (length (a .out .now))
 
 returns : tie.Need-returns
 returns c =
@@ -39,7 +39,7 @@ returns-3 c =
     let s = k .before .before .before .before .before .before in
     let a = s .args in
     let h = sym (k .next-proof .ensures) ∙ t .proof .given .1 in
-    let v = c .before .verdict .ensures ∙ verdict-lent (a .table .now) (a .store .now) (a .state .now) (a .operation) (a .digest) (length (a .out .now)) (a .index) in
+    let v = c .before .verdict .ensures ∙ verdict-lent (a .table .now) (a .store .now) (a .state .now) (a .authorization .operation) (a .authorization .digest) (length (a .out .now)) (a .index) in
     rw (c .apply-verdict .ensures)
     (turn-made (C s) (a .lock .now) (a .cursor) _ _ h (a .index) _ (r .before .before .part .ensures) (a .out .now) _ _ _ _ v
     (rw (c .before .before .before .len .given .1) at (r .make-request .ensures)))

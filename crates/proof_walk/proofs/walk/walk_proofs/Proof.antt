@@ -13,7 +13,7 @@ returns c =
     let w = c .before .before in
     let known = w .before .before in
     let a = known .before .before .before .before .before .before .before .args in
-    let same = sym (walk-known (a .table .now) (a .store .now) (a .state .now) (a .operation) (a .digest) (length (a .answer .now)) (a .lock .now) (sym (known .before .is-operation .ensures) ∙ known .if1 .taken)) in
+    let same = sym (walk-known (a .table .now) (a .store .now) (a .state .now) (a .authorization .operation) (a .authorization .digest) (length (a .answer .now)) (a .lock .now) (sym (known .before .is-operation .ensures) ∙ known .if1 .taken)) in
     (w .walk-lock .ensures .0 ∙ ap proofWalkAnswer same, w .walk-lock .ensures .1 ∙ ap (λ (o : WalkOutcome). answered (a .answer .now) (o .made)) same)
 
 returns-2 : tie.Need-returns-2
@@ -21,7 +21,7 @@ unfolding answered
 returns-2 c =
     let a = c .before .before .before .before .before .before .before .before .args in
     walk-answered (a .answer .now)
-    (walk-unknown (a .table .now) (a .store .now) (a .state .now) (a .operation) (a .digest) (length (a .answer .now)) (a .lock .now) (sym (c .before .before .is-operation .ensures) ∙ c .before .if1 .left))
+    (walk-unknown (a .table .now) (a .store .now) (a .state .now) (a .authorization .operation) (a .authorization .digest) (length (a .answer .now)) (a .lock .now) (sym (c .before .before .is-operation .ensures) ∙ c .before .if1 .left))
     refl
     refl
     (c .answer-of .ensures)
