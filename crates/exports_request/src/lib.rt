@@ -2,15 +2,15 @@
 // then 5 where `out` is too short for what it hands out; a refusal leaves `out` and `len` as they were.
 use export_answers::store_part;
 use export_answers::store_words;
-use held_request::algorithm_id_of;
-use held_request::authorization_digest_of;
-use held_request::aux_of;
-use held_request::key_id_of;
-use held_request::operation_of;
-use held_request::proof_of;
-use held_request::refusal_of;
-use held_request::slot_of;
-use held_request::verifier_profile_of;
+use held_request::request_algorithm_id_of;
+use held_request::request_authorization_digest_of;
+use held_request::request_aux_of;
+use held_request::request_key_id_of;
+use held_request::request_operation_of;
+use held_request::request_proof_of;
+use held_request::request_refusal_of;
+use held_request::request_slot_of;
+use held_request::request_verifier_profile_of;
 ghost use mathlib.Core.Path.{_≡_};
 ghost use Rattle.verifier_request.specs.Reader.{readRequest};
 ghost use Rattle.verifier_request.specs.Reading.{RequestReading};
@@ -22,10 +22,10 @@ fn number_words(request: &[u8]) -> [u8; 32]
     ensures { λ r. ⌜ r ≡ numberWords (heldReading (now (request .entry)) (requestPlacesOf (readRequest (now (request .entry))))) ⌝ }
 {
     let words = [
-        algorithm_id_of(request) as u64,
-        slot_of(request) as u64,
-        operation_of(request) as u64,
-        verifier_profile_of(request) as u64,
+        request_algorithm_id_of(request) as u64,
+        request_slot_of(request) as u64,
+        request_operation_of(request) as u64,
+        request_verifier_profile_of(request) as u64,
     ];
     let mut bytes = [0u8; 32];
     store_words(&words, &mut bytes);
@@ -38,7 +38,12 @@ pub extern "C" fn fowlcredenza_request_numbers(request: &[u8], out: &mut [u8]) -
     ensures { λ r. ⌜ StoresNumbers (now (request .entry)) (now (out .entry)) r (now (out .exit)) ⌝ }
 {
     let mut len: usize = 0;
-    store_part(refusal_of(request), &number_words(request), out, &mut len)
+    store_part(
+        request_refusal_of(request),
+        &number_words(request),
+        out,
+        &mut len,
+    )
 }
 
 // Stores the digest that the request is for.
@@ -53,8 +58,8 @@ pub extern "C" fn fowlcredenza_request_authorization_digest(
         (now (out .exit)) (now (len .exit)) ⌝ }
 {
     store_part(
-        refusal_of(request),
-        authorization_digest_of(request),
+        request_refusal_of(request),
+        request_authorization_digest_of(request),
         out,
         len,
     )
@@ -71,7 +76,12 @@ pub extern "C" fn fowlcredenza_request_key_id(
         ⌜ StoresField (λ (q : RequestReading). q .key) (now (request .entry)) (now (out .entry)) (now (len .entry)) r
         (now (out .exit)) (now (len .exit)) ⌝ }
 {
-    store_part(refusal_of(request), key_id_of(request), out, len)
+    store_part(
+        request_refusal_of(request),
+        request_key_id_of(request),
+        out,
+        len,
+    )
 }
 
 // Stores the aux.
@@ -81,7 +91,12 @@ pub extern "C" fn fowlcredenza_request_aux(request: &[u8], out: &mut [u8], len: 
         ⌜ StoresField (λ (q : RequestReading). q .aux) (now (request .entry)) (now (out .entry)) (now (len .entry)) r
         (now (out .exit)) (now (len .exit)) ⌝ }
 {
-    store_part(refusal_of(request), aux_of(request), out, len)
+    store_part(
+        request_refusal_of(request),
+        request_aux_of(request),
+        out,
+        len,
+    )
 }
 
 // Stores the proof.
@@ -91,5 +106,10 @@ pub extern "C" fn fowlcredenza_request_proof(request: &[u8], out: &mut [u8], len
         ⌜ StoresField (λ (q : RequestReading). q .proof) (now (request .entry)) (now (out .entry)) (now (len .entry)) r
         (now (out .exit)) (now (len .exit)) ⌝ }
 {
-    store_part(refusal_of(request), proof_of(request), out, len)
+    store_part(
+        request_refusal_of(request),
+        request_proof_of(request),
+        out,
+        len,
+    )
 }

@@ -14,7 +14,7 @@ returns c =
     let part = call .before .before .before in
     let a = part .before .before .before .before .args in
     handed (a .request .now) (a .out .now) (a .len .now) (λ (q : RequestReading). q .digest) _ _ _
-    (rw (part .authorization-digest-of .ensures, part .before .refusal-of .ensures) at (call .store-part .ensures))
+    (rw (part .request-authorization-digest-of .ensures, part .before .request-refusal-of .ensures) at (call .store-part .ensures))
 
 pub fowlcredenza-request-authorization-digest-spec : {M : Type 1} → statement M
 fowlcredenza-request-authorization-digest-spec =

@@ -13,7 +13,7 @@ returns c =
     let part = call .before .before .before in
     let a = part .before .before .before .before .args in
     handed (a .request .now) (a .out .now) (a .len .now) (λ (q : RequestReading). q .aux) _ _ _
-    (rw (part .aux-of .ensures, part .before .refusal-of .ensures) at (call .store-part .ensures))
+    (rw (part .request-aux-of .ensures, part .before .request-refusal-of .ensures) at (call .store-part .ensures))
 
 pub fowlcredenza-request-aux-spec : {M : Type 1} → statement M
 fowlcredenza-request-aux-spec =

@@ -13,7 +13,7 @@ returns c =
     let part = call .before .before .before in
     let a = part .before .before .before .before .args in
     handed (a .request .now) (a .out .now) (a .len .now) (λ (q : RequestReading). q .key) _ _ _
-    (rw (part .key-id-of .ensures, part .before .refusal-of .ensures) at (call .store-part .ensures))
+    (rw (part .request-key-id-of .ensures, part .before .request-refusal-of .ensures) at (call .store-part .ensures))
 
 pub fowlcredenza-request-key-id-spec : {M : Type 1} → statement M
 fowlcredenza-request-key-id-spec =

@@ -11,7 +11,7 @@ returns c =
     let words = call .before .before .before .before in
     let a = words .before .before .before .before .args in
     handed (a .request .now) (a .out .now) 0 numberWords _ _ _
-    (rw (words .number-words .ensures, words .before .refusal-of .ensures) at (call .store-part .ensures)) .0
+    (rw (words .number-words .ensures, words .before .request-refusal-of .ensures) at (call .store-part .ensures)) .0
 
 pub fowlcredenza-request-numbers-spec : {M : Type 1} → statement M
 fowlcredenza-request-numbers-spec =

@@ -11,7 +11,7 @@ returns : tie.Need-returns
 unfolding numberWords heldReading
 returns c =
     let w = c .before .before .before .before in
-    rw (sym (w .verifier-profile-of .ensures), sym (w .before .operation-of .ensures), sym (w .before .before .slot-of .ensures), sym (w .before .before .before .algorithm-id-of .ensures))
+    rw (sym (w .request-verifier-profile-of .ensures), sym (w .before .request-operation-of .ensures), sym (w .before .before .request-slot-of .ensures), sym (w .before .before .before .request-algorithm-id-of .ensures))
     (c .before .store-words .ensures .1 ∙ words-fill _ _ refl)
 
 pub number-words-spec : {M : Type 1} → statement M
