@@ -17,25 +17,29 @@ pub const SHORTER_AUX: usize = 942;
 /// An ML-DSA-44 signature.
 pub const PROOF: usize = 2_420;
 
-/// The time of CALLS calls.
-fn time(f: &mut dyn FnMut()) -> Duration {
+/// The time of so many calls.
+fn time(calls: u32, f: &mut dyn FnMut()) -> Duration {
     let start = Instant::now();
-    for _ in 0..CALLS {
+    for _ in 0..calls {
         f();
     }
     start.elapsed()
 }
 
 /// Prints the best time of each, taken in turn so that a disturbance meets both alike.
-pub fn print_row(name: &str, original: &mut dyn FnMut(), port: &mut dyn FnMut()) {
+pub fn print_row_of(calls: u32, name: &str, original: &mut dyn FnMut(), port: &mut dyn FnMut()) {
     let mut best = [Duration::MAX; 2];
     for _ in 0..ROUNDS {
-        best[0] = time(original).min(best[0]);
-        best[1] = time(port).min(best[1]);
+        best[0] = time(calls, original).min(best[0]);
+        best[1] = time(calls, port).min(best[1]);
     }
-    let [rust, rattle] = best.map(|time| time.as_secs_f64() * 1e9 / f64::from(CALLS));
+    let [rust, rattle] = best.map(|time| time.as_secs_f64() * 1e9 / f64::from(calls));
     let ratio = rust / rattle;
-    println!("{name:48} {rust:8.1} {rattle:8.1} {ratio:12.2}");
+    println!("{name:47} {rust:9.1} {rattle:9.1} {ratio:12.2}");
+}
+
+pub fn print_row(name: &str, original: &mut dyn FnMut(), port: &mut dyn FnMut()) {
+    print_row_of(CALLS, name, original, port);
 }
 
 pub fn state(entries: u16, aux_len: usize) -> AccountState {

@@ -11,6 +11,8 @@ mod formats;
 mod fowlcredenza;
 mod hash;
 #[cfg(originals)]
+mod lay_out;
+#[cfg(originals)]
 #[allow(dead_code)]
 #[path = "../host/lent.rs"]
 mod lent;
