@@ -148,7 +148,7 @@ pub fn run() {
     println!();
     println!("Readers and writers, nanoseconds for a call, best of {ROUNDS} times {CALLS} in turn. The original's writers");
     println!("allocate what they return; the port's write into a buffer. A ratio is of speeds: above 1 the port is faster.");
-    println!("                                                     Rust   Rattle  Rattle/Rust");
+    println!("                                                     Rust    Rattle  Rattle/Rust");
     let (one, most) = (state(1, AUX), state(16, SHORTER_AUX));
     validate("validate_state, 1 entry, aux 1,313", &one);
     validate("validate_state, 16 entries, aux 942", &most);

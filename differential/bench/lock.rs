@@ -1,108 +1,21 @@
 //! The speed of the lock: the original with the test of hashes before it and the port, on the same scenes in one process.
 
-use crate::formats::{print_row, print_row_of, state, AUX, CALLS, PROOF, ROUNDS, SHORTER_AUX};
+use crate::formats::{print_row, print_row_of, AUX, CALLS, ROUNDS, SHORTER_AUX};
 use crate::lent::Lent;
+use crate::lock_scenes::{scene_of, scene_of_64_cells};
 use crate::scene;
 use crate::scene_exports::{lock, read_scene};
 use crate::scene_text::text;
 use blake2b::ckb_hash as plain_hash;
-use ckb_account_host::{account_lock_args, encode_state, encode_witness, Proof};
 use ckb_account_protocol::{OP_ROTATE, OP_SPEND};
-use ckb_std::{serve_shared, Cell, Input, Scene};
-use ckb_types::molecule::{byte_vector, table};
+use ckb_std::{serve_shared, Cell, Scene};
 use std::hint::black_box;
 use std::rc::Rc;
 
-/// The type script of the cells that hold the account's states; its hash is the account's id.
-const TYPE_SCRIPT: [u8; 53] = [0x55; 53];
-/// The code hash of the states' entries, which is the believed hash of a dep without data.
-const VERIFIER: [u8; 32] = [0x22; 32];
 const ANSWER: usize = 148_992;
-/// A cell's data where there is much.
-const MUCH: usize = 16_384;
-/// Calls in one measurement with 64 cells of so much data.
+/// Calls in one measurement with 64 cells.
 const FEW_CALLS: u32 = 10;
 const HASH_MISMATCH: i8 = 40;
-
-/// A cell with true hashes.
-fn cell(type_script: Option<Vec<u8>>, data: Vec<u8>) -> Cell {
-    let data_hash = if data.is_empty() {
-        VERIFIER
-    } else {
-        plain_hash(&data)
-    };
-    Cell {
-        type_hash: type_script.as_deref().map(plain_hash),
-        data_hash,
-        type_script,
-        data,
-    }
-}
-
-fn state_cell(state: Vec<u8>) -> Cell {
-    cell(Some(TYPE_SCRIPT.to_vec()), state)
-}
-
-fn witness(operation: u8, sequence: u64, proofs: u16) -> Vec<u8> {
-    let proof = |slot| Proof {
-        slot,
-        bytes: vec![2; PROOF],
-    };
-    let proofs: Vec<Proof> = (0..proofs).map(proof).collect();
-    let lock = encode_witness(operation, sequence, &proofs).expect("a valid witness lock");
-    table(&[&byte_vector(&lock), &[], &[]])
-}
-
-/// A spend or a rotation in which every entry gives a proof.
-fn scene_of(operation: u8, proofs: u16, aux_len: usize) -> Scene {
-    let mut account = state(proofs, aux_len);
-    let current = encode_state(&account).expect("a valid state");
-    let witnesses = vec![witness(operation, account.sequence, proofs)];
-    account.sequence += 1;
-    let successor = encode_state(&account).expect("a valid state");
-    let (held, left) = (state_cell(current), state_cell(successor));
-    let (verifier, plain) = (cell(None, vec![]), cell(None, vec![]));
-    let spend = operation == OP_SPEND;
-    let (input, output) = if spend {
-        (&plain, &plain)
-    } else {
-        (&held, &left)
-    };
-    let input = Input {
-        group: true,
-        since: 0,
-        cell: input.clone(),
-    };
-    let state_dep = if spend { vec![held.clone()] } else { vec![] };
-    Scene {
-        script: table(&[
-            &[0x44; 32],
-            &[1],
-            &byte_vector(&account_lock_args(&plain_hash(&TYPE_SCRIPT))),
-        ]),
-        tx_hash: [0x66; 32],
-        inputs: vec![input],
-        outputs: vec![output.clone()],
-        deps: [state_dep, vec![verifier]].concat(),
-        witnesses,
-        verdicts: vec![0; usize::from(proofs)],
-    }
-}
-
-/// A spend with one proof among 64 cells with much data, in inputs, outputs and deps.
-fn scene_of_64_cells() -> Scene {
-    let mut scene = scene_of(OP_SPEND, 1, AUX);
-    let cell = cell(None, vec![0x77; MUCH]);
-    let input = Input {
-        group: false,
-        since: 0,
-        cell: cell.clone(),
-    };
-    scene.inputs.extend(vec![input; 16]);
-    scene.outputs.extend(vec![cell.clone(); 16]);
-    scene.deps.extend(vec![cell; 32]);
-    scene
-}
 
 /// Whether type hash and data hash are the hashes of type script and data; that of empty data is believed.
 fn hashes_true(cell: &Cell) -> bool {
@@ -110,8 +23,8 @@ fn hashes_true(cell: &Cell) -> bool {
         && (cell.data.is_empty() || plain_hash(&cell.data) == cell.data_hash)
 }
 
-/// The test of hashes by the plain hash, then the original over a scene that is not copied. The stub keeps digests until they
-/// are taken.
+/// The test of hashes by the plain hash, then the original. The scene is not copied; the stub keeps digests until they are
+/// taken.
 fn original(scene: &Rc<Scene>) -> (i8, Vec<Vec<u8>>) {
     let inputs = scene.inputs.iter().map(|input| &input.cell);
     let mut cells = inputs.chain(&scene.outputs).chain(&scene.deps);
@@ -129,7 +42,6 @@ struct Written {
     out: [u8; 56],
 }
 
-/// The port's run.
 fn port(lent: &Lent, written: &mut Written) -> u32 {
     let Written { answer, out } = written;
     lock(&lent.table, &lent.store, answer, out)
@@ -195,9 +107,9 @@ fn row_of_64_cells(name: &str) {
 
 pub fn run() {
     println!();
-    println!("The lock, nanoseconds for a run, best of {ROUNDS} times {CALLS} in turn ({FEW_CALLS} with 64 cells), hashing included. The original");
-    println!("runs behind the test of hashes by the plain Rust hash. It allocates what it loads and sends; it has no reader of scenes, so a");
-    println!("plain one is timed with it. A ratio is of speeds.");
+    println!("The lock, nanoseconds for a run, best of {ROUNDS} times {CALLS} in turn ({FEW_CALLS} with 64 cells), hashing included.");
+    println!("Before the original the plain Rust hash works out the cells' hashes. The original allocates what it loads and sends;");
+    println!("it has no reader of scenes, so a plain one is timed with it. A ratio is of speeds.");
     println!("                                                     Rust    Rattle  Rattle/Rust");
     rows("spend, 1 proof of 2,420", scene_of(OP_SPEND, 1, AUX), 0);
     rows("spend, 4 proofs", scene_of(OP_SPEND, 4, AUX), 0);

@@ -21,6 +21,8 @@ mod lent;
 mod lent_state;
 #[cfg(originals)]
 mod lock;
+#[cfg(originals)]
+mod lock_scenes;
 #[allow(dead_code)]
 #[path = "../host/prng.rs"]
 mod prng;
