@@ -12,7 +12,7 @@ use lib.ListN.{length, drop, length-take}
 use lib.Seq.{length-take-le}
 use Rattle.octets.proofs.Filled.{length-tabulate}
 use Rattle.blake2b.specs.Rfc7693.{bytesOf, halves, F, hashWords, hashOf}
-use Rattle.blake2b.specs.State.{ckbParameters}
+use Rattle.blake2b.specs.State.{ckbParameters, ckbHash}
 use Rattle.blake2b.proofs.Bytes.{length-bytes}
 use Rattle.protocol.specs.Rows.{AllPass, decide}
 use Rattle.protocol.proofs.AllPass.{all-pass-split, passed-all-pass, all-pass-passed}
@@ -20,7 +20,7 @@ use Rattle.protocol.specs.declared.error.ProtocolError.the-variants.{SlicesDisa
 use Rattle.protocol.specs.declared.check.Check.{Check}
 use Rattle.protocol.specs.declared.check.Check.the-variants.{Passed, Failed}
 use Rattle.molecule.specs.Canonical.{canonicalOf}
-use Rattle.authorization.specs.Digest.{ckbHash, digestOf, digestInput}
+use Rattle.authorization.specs.Digest.{digestOf, digestInput}
 use Rattle.authorization.specs.Sighash.{sighashInput}
 use Rattle.scene_table.specs.Scene.{Scene}
 use Rattle.scene_table.specs.Lent.{tableEntry, sceneFrom, sceneIn, blankScene, witnessCount, transactionPlace}

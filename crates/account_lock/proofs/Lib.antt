@@ -6,3 +6,4 @@ pub mod AnswerTheorem
 pub mod Numbers
 pub mod AnswerRoom
 pub mod Unsatisfied
+pub mod Real

@@ -11,7 +11,7 @@ use borrow.Author.Tests.{eqb-true, leb-true}
 use Rattle.protocol.specs.Args.{argsRows, accountOf}
 use Rattle.protocol.specs.Policy.{isOperation, operationRows}
 use Rattle.protocol.specs.Rows.{AllPass, decide, _▷_, _then_}
-use Rattle.protocol.proofs.AllPass.{decide-append, decide-then, all-pass-append, all-pass-split}
+use Rattle.protocol.proofs.AllPass.{decide-both, then-assoc, all-pass-append, all-pass-split}
 use Rattle.protocol.specs.declared.error.ProtocolError.{ProtocolError}
 use Rattle.protocol.specs.declared.error.ProtocolError.the-variants.{InvalidWitness}
 use Rattle.protocol.specs.declared.check.Check.{Check}
@@ -23,6 +23,7 @@ use Rattle.octets.specs.Places.{bytesAt}
 use Rattle.account_witness.specs.Fields.{proofCountOf}
 use Rattle.account_witness.specs.Header.{witnessHeaderRows}
 use Rattle.scene_table.specs.Scene.{Scene}
+use Rattle.cell_hashes.specs.Hashes.{hashRows}
 use Rattle.group_sighash.specs.Witnesses.{firstWitness, lockIn, firstWitnessRows, countRows, groupRows, otherRows, witnessFits}
 use Rattle.group_sighash.specs.GroupSighash.{sighashRows}
 use Rattle.state_transition.specs.Resolve.{resolveRows, resolvedOf}
@@ -38,25 +39,12 @@ module _ (s : Scene) where
   pub late-found : {a b c : Check} → a ≡ decide Passed (resolveRows (operation s) (account s) s) → b ≡ decide Passed (statesRows s)
       → c ≡ decide Passed (otherRows s) → (a then b) then c ≡ decide Passed (lateRows s)
   unfolding lateRows
-  late-found {a} {b} {c} p q r =
-      let resolve = resolveRows (operation s) (account s) s in
-      rw (p, q, r)
-      (sym
-      (decide-append Passed resolve _
-      ∙ decide-append (decide Passed resolve) (statesRows s) (otherRows s)
-      ∙ decide-then _ (otherRows s)
-      ∙ ap (λ (x : Check). x then decide Passed (otherRows s)) (decide-then (decide Passed resolve) (statesRows s))))
+  late-found p q r = rw (p, q, r) (simp (decide-both, then-assoc))
 
-  pub early-found : {a b : Check} → a ≡ decide Passed (scriptRows (s .script)) → b ≡ decide Passed (groupRows s)
-      → decide Passed (earlyRows s) ≡ (a then b) then decide Passed (lateRows s)
+  pub early-found : {a b c : Check} → a ≡ decide Passed (hashRows s) → b ≡ decide Passed (scriptRows (s .script)) → c ≡ decide Passed (groupRows s)
+      → decide Passed (earlyRows s) ≡ ((a then b) then c) then decide Passed (lateRows s)
   unfolding earlyRows
-  early-found {a} {b} p q =
-      let script = scriptRows (s .script) in
-      rw (p, q)
-      (decide-append Passed script _
-      ∙ decide-append (decide Passed script) (groupRows s) (lateRows s)
-      ∙ decide-then _ (lateRows s)
-      ∙ ap (λ (x : Check). x then decide Passed (lateRows s)) (decide-then (decide Passed script) (groupRows s)))
+  early-found p q r = rw (p, q, r) (simp (decide-both, then-assoc))
 
   pub late-refused : (room : ℕ) {c : Check} (e : ProtocolError) → c ≡ decide Passed (lateRows s) → c ≡ Failed e
       → lateResult s room ≡ refused (Failed e)
@@ -67,15 +55,15 @@ module _ (s : Scene) where
   unfolding lateResult orWalked
   late-walked room p q = rw (sym p ∙ q)
 
-  pub scene-refused : (room : ℕ) {a b : Check} (e : ProtocolError) → a ≡ decide Passed (scriptRows (s .script)) → b ≡ decide Passed (groupRows s)
-      → a then b ≡ Failed e → lockScene s room ≡ refused (Failed e)
+  pub scene-refused : (room : ℕ) {a b c : Check} (e : ProtocolError) → a ≡ decide Passed (hashRows s) → b ≡ decide Passed (scriptRows (s .script))
+      → c ≡ decide Passed (groupRows s) → (a then b) then c ≡ Failed e → lockScene s room ≡ refused (Failed e)
   unfolding lockScene orWalked _then_
-  scene-refused room e p q f = rw (early-found p q, f)
+  scene-refused room e p q r f = rw (early-found p q r, f)
 
-  pub scene-late : (room : ℕ) {a b : Check} → a ≡ decide Passed (scriptRows (s .script)) → b ≡ decide Passed (groupRows s)
-      → a then b ≡ Passed → lockScene s room ≡ lateResult s room
+  pub scene-late : (room : ℕ) {a b c : Check} → a ≡ decide Passed (hashRows s) → b ≡ decide Passed (scriptRows (s .script))
+      → c ≡ decide Passed (groupRows s) → (a then b) then c ≡ Passed → lockScene s room ≡ lateResult s room
   unfolding lockScene lateResult _then_
-  scene-late room p q f = rw (early-found p q, f)
+  scene-late room p q r f = rw (early-found p q r, f)
 
 -- the args of a script whose rows pass have the id's 32 bytes
 pub account-whole : (script : List ℕ) → AllPass (scriptRows script) → length (accountIn script) ≡ 32

@@ -19,6 +19,7 @@ use Rattle.account_state.specs.State as state
 use Rattle.scene_table.specs.Scene.{Scene}
 use Rattle.scene_table.specs.Lent.{sceneIn}
 use Rattle.scene_table.specs.Valid.{validTable}
+use Rattle.cell_hashes.specs.Hashes.{hashRows}
 use Rattle.group_sighash.specs.Witnesses.{groupRows, otherRows}
 use Rattle.state_transition.specs.Resolve.{resolveRows, stateSince}
 use Rattle.state_transition.specs.Transition.{dataRows, currentRows, successorRows, recoveryRows, successionRows, transitionRows}
@@ -49,9 +50,19 @@ state-thresholds s h =
     }
 
 module _ (s : Scene) (h : AllPass (earlyRows s)) where
+  -- the rows of the hashes and of the script,
+  pub hashes-pass : AllPass (hashRows s)
+  unfolding earlyRows
+  hashes-pass = all-pass-split (hashRows s) _ h .0
+
+  pub script-passes : AllPass (scriptRows (s .script))
+  unfolding earlyRows
+  script-passes = all-pass-split (scriptRows (s .script)) _ (all-pass-split (hashRows s) _ h .1) .0
+
+  -- the group's, and those behind it
   pub late : AllPass (groupRows s) × AllPass (lateRows s)
   unfolding earlyRows
-  late = all-pass-split (groupRows s) _ (all-pass-split (scriptRows (s .script)) _ h .1)
+  late = all-pass-split (groupRows s) _ (all-pass-split (scriptRows (s .script)) _ (all-pass-split (hashRows s) _ h .1) .1)
 
   pub transition : AllPass (transitionRows (operation s) (witnessSequence s) (stateSince (operation s) (account s) s) (current s) (successor s))
   unfolding lateRows statesRows

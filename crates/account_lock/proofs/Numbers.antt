@@ -1,4 +1,4 @@
--- The numbers that the lock gives, for every table, store and answer buffer: 0, its own 5 and 7, and the original's 20 to 39.
+-- The numbers that the lock gives, for every table, store and answer buffer: 0, its own 5 and 7, the original's 20 to 39, and 40.
 -- So it never gives 6, and 7 only where the table fails its test.
 -- Assumes nothing.
 use mathlib.Core.Path.{_≡_, refl}
@@ -23,9 +23,12 @@ use Rattle.account_state.specs.Fields.{recoveryEnabled, entryLengthOf, entrySlo
 use Rattle.account_state.specs.State as state
 use Rattle.account_witness.specs.Header.{witnessHeaderRows}
 use Rattle.account_witness.specs.Reading.{ProofReading}
-use Rattle.scene_table.specs.Scene.{Scene}
+use Rattle.scene_table.specs.Scene.{Cell, Scene}
 use Rattle.scene_table.specs.Lent.{sceneIn}
 use Rattle.scene_table.specs.Valid.{validTable}
+use Rattle.cell_search.specs.declared.cells.Source.the-variants as source
+use Rattle.cell_search.specs.Search.{cellsOf}
+use Rattle.cell_hashes.specs.Hashes.{cellHashRows, cellsHashRows, hashRows}
 use Rattle.group_sighash.specs.Witnesses.{countRows, firstWitnessRows, groupRows, otherRows}
 use Rattle.state_transition.specs.Resolve as resolve
 use Rattle.state_transition.specs.Transition as transition
@@ -34,14 +37,14 @@ use Rattle.decision.specs.Walk.{WalkOutcome, walkOutcome, verdict, approvedWeig
 use Rattle.account_lock.specs.Lock as lock
 use Rattle.account_lock.specs.Decides.{LockNumber}
 
--- 01: "Error numbers are 20 to 39": a refusal of the original
-abbrev pub Original : ProtocolError → Type 0
-Original e = (20 ≤ errorNumber e) × (errorNumber e ≤ 39)
+-- a refusal behind the table's test, but for the lock's own 5. 01: "Error numbers are 20 to 39"; 02, change 1: 40
+abbrev pub Numbered : ProtocolError → Type 0
+Numbered e = (20 ≤ errorNumber e) × (errorNumber e ≤ 40)
 
--- ---- the rows before the proofs: each refusal is one of the original's, and none is 28
+-- ---- the rows before the proofs: each refusal is such, and none is 28
 
 abbrev pub Early : ProtocolError → Type 0
-Early e = Original e × (errorNumber e ≢ 28)
+Early e = Numbered e × (errorNumber e ≢ 28)
 
 -- a state's header
 head-early : (s : List ℕ) → Each Early (state.stateHeaderRows s)
@@ -124,16 +127,29 @@ transition-early operation sequence since current successor =
     each-append Early (transition.currentRows sequence current) _ (current-early sequence current)
     (each-cond Early (eqb operation 1) [] (transition.successionRows operation since current successor) tt (change-early operation since current successor))
 
+-- the hashes of the cells
+cells-early : (cells : List Cell) → Each Early (cellsHashRows cells)
+unfolding cellsHashRows cellHashRows
+cells-early [] = tt
+cells-early (c ∷ cs) = each-append Early (cellHashRows c) (cellsHashRows cs) (search arith depth 12) (cells-early cs)
+
+hash-early : (s : Scene) → Each Early (hashRows s)
+unfolding hashRows
+hash-early s =
+    each-append Early (cellsHashRows (cellsOf source.Input s)) _ (cells-early _)
+    (each-append Early (cellsHashRows (cellsOf source.Output s)) (cellsHashRows (cellsOf source.CellDep s)) (cells-early _) (cells-early _))
+
 -- every row before the proofs
 pub early-each : (s : Scene) → Each Early (lock.earlyRows s)
 unfolding lock.earlyRows lock.lateRows lock.statesRows
 early-each s =
-    each-append Early (lock.scriptRows (s .script)) _ (script-early (s .script))
+    each-append Early (hashRows s) _ (hash-early s)
+    (each-append Early (lock.scriptRows (s .script)) _ (script-early (s .script))
     (each-append Early (groupRows s) _ (group-early s)
     (each-append Early (resolve.resolveRows (lock.operation s) (lock.account s) s) _ (resolve-early _ _ s)
     (each-append Early (lock.statesRows s) _
     (each-append Early (transition.dataRows (lock.current s) (lock.successor s)) _ (data-early _ _) (transition-early _ _ _ _ _))
-    (other-early s))))
+    (other-early s)))))
 
 -- a refusal before the proofs is such
 pub early-number : (s : Scene) (e : ProtocolError) → decide Passed (lock.earlyRows s) ≡ Failed e → Early e
@@ -141,22 +157,22 @@ early-number s e f = each-failed Early (lock.earlyRows s) e (early-each s) f
 
 -- ---- the proofs
 
--- a refusal behind the table's test: the lock's own 5, or one of the original
+-- a refusal behind the table's test: the lock's own 5, or one of the others
 abbrev LockRefusal : ProtocolError → Type 0
-LockRefusal e = (errorNumber e ≡ 5) ⊎ Original e
+LockRefusal e = (errorNumber e ≡ 5) ⊎ Numbered e
 
-original-refusal : (e : ProtocolError) → Original e → LockRefusal e
-original-refusal e h = inr h
+numbered-refusal : (e : ProtocolError) → Numbered e → LockRefusal e
+numbered-refusal e h = inr h
 
 -- one proof's rows
 proof-refusal : (c : Context) (used : ℕ) (p : ProofReading) → Each LockRefusal (proofRows c used p)
 unfolding proofRows authenticatorRows requestLimitRows
 proof-refusal c used p =
-    let witness = original-refusal InvalidWitness (search arith) in
-    let capability = original-refusal InvalidCapability (search arith) in
-    let verifier = original-refusal InvalidVerifierRef (search arith) in
-    let request = original-refusal InvalidRequest (search arith) in
-    let overflow = original-refusal LengthOverflow (search arith) in
+    let witness = numbered-refusal InvalidWitness (search arith) in
+    let capability = numbered-refusal InvalidCapability (search arith) in
+    let verifier = numbered-refusal InvalidVerifierRef (search arith) in
+    let request = numbered-refusal InvalidRequest (search arith) in
+    let overflow = numbered-refusal LengthOverflow (search arith) in
     let room : LockRefusal BufferTooShort = inl refl in
     search depth 12
 
@@ -164,8 +180,8 @@ proof-refusal c used p =
 end-refusal : (clean : Bool) (weight threshold : ℕ) → Each LockRefusal (lastRows clean weight threshold)
 unfolding lastRows
 end-refusal clean weight threshold =
-    let witness = original-refusal InvalidWitness (search arith) in
-    let unsatisfied = original-refusal ThresholdUnsatisfied (search arith) in
+    let witness = numbered-refusal InvalidWitness (search arith) in
+    let unsatisfied = numbered-refusal ThresholdUnsatisfied (search arith) in
     search depth 12
 
 -- one proof, and those behind it
@@ -180,7 +196,7 @@ walk-refusal c clean i weight made (p ∷ ps) =
     go : (k : Check) → Refuses LockRefusal k → (b : Bool) (onward : WalkOutcome) → Refuses LockRefusal (onward .found)
         → Refuses LockRefusal (unlessFailed k i made (cond b (walkOutcome (Failed VerifierFailure) (i + 1) (made ++ requestOf c p)) onward) .found)
     go (Failed e) h b onward f = h
-    go Passed h true onward f = original-refusal VerifierFailure (search arith)
+    go Passed h true onward f = numbered-refusal VerifierFailure (search arith)
     go Passed h false onward f = f
 
 -- ---- the lock
@@ -192,7 +208,7 @@ scene-refusal s room = go (decide Passed (lock.earlyRows s)) (each-refuses Early
   where
     go : (k : Check) → Refuses Early k → Refuses LockRefusal (lock.orWalked k (lock.walkResult s room) .found)
     go Passed h = walk-refusal _ _ 0 0 [] _
-    go (Failed e) h = original-refusal e (h .0)
+    go (Failed e) h = numbered-refusal e (h .0)
 
 -- the number of what it finds there
 scene-number : (k : Check) → Refuses LockRefusal k → LockNumber (checkNumber k)
@@ -206,7 +222,7 @@ not-seven (Failed e) (inl h) q = absurd (omega arith)
 not-seven (Failed e) (inr h) q = absurd (omega (arith, h .0))
 
 module _ (table store : List ℕ) (room : ℕ) where
-  -- every number that the lock gives is 0, 5, 7, or 20 to 39
+  -- every number that the lock gives is 0, 5, 7, or 20 to 40
   pub lock-numbers : LockNumber (checkNumber (lock.lockOf table store room .found))
   unfolding lock.lockOf lock.refused
   lock-numbers = go (validTable table (length store))

@@ -8,7 +8,8 @@ use lib.ListN.{length, drop}
 use Rattle.protocol.specs.Rows.{AllPass}
 use Rattle.protocol.specs.declared.check.Check.the-variants.{Passed}
 use Rattle.molecule.specs.Canonical.{canonicalOf}
-use Rattle.authorization.specs.Digest.{ckbHash, digestInput}
+use Rattle.blake2b.specs.State.{ckbHash}
+use Rattle.authorization.specs.Digest.{digestInput}
 use Rattle.authorization.specs.Sighash.{sighashInput}
 use Rattle.scene_table.specs.Lent.{sceneIn}
 use Rattle.scene_table.specs.Valid.{validTable}
@@ -66,6 +67,7 @@ pub record Answers (table store before : List ℕ) : Type 0 where
       (ckbHash (sighashInput (sceneIn table store .transaction) (canonicalOf (firstWitness (sceneIn table store))) (otherWitnesses (sceneIn table store)))))
 
 -- the numbers that the lock gives; 01, "Where each refusal is raised": its own are "answer buffer too short for this request", 5,
--- and "a table that the reader, scene length aside, leaves for no accepted scene with a store this long", 7
+-- and "a table that the reader, scene length aside, leaves for no accepted scene with a store this long", 7; the original's are 20 to
+-- 39, and 02, change 1: "40 where a hash differs"
 abbrev pub LockNumber : ℕ → Type 0
-LockNumber n = (n ≡ 0) ⊎ (n ≡ 5) ⊎ (n ≡ 7) ⊎ ((20 ≤ n) × (n ≤ 39))
+LockNumber n = (n ≡ 0) ⊎ (n ≡ 5) ⊎ (n ≡ 7) ⊎ ((20 ≤ n) × (n ≤ 40))

@@ -1,3 +1,4 @@
 pub mod Lock
 pub mod Decides
+pub mod Real
 pub mod Calls

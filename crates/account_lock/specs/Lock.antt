@@ -14,6 +14,7 @@ use Rattle.authorization.specs.Digest.{digestOf}
 use Rattle.scene_table.specs.Scene.{Scene}
 use Rattle.scene_table.specs.Lent.{sceneIn}
 use Rattle.scene_table.specs.Valid.{validTable}
+use Rattle.cell_hashes.specs.Hashes.{hashRows}
 use Rattle.group_sighash.specs.Witnesses.{firstWitness, lockIn, groupRows, otherRows}
 use Rattle.group_sighash.specs.GroupSighash.{groupSighash}
 use Rattle.state_transition.specs.Resolve.{resolveRows, currentState, successorState, stateSince}
@@ -65,9 +66,9 @@ statesRows s =
 unfoldable pub lateRows : Scene → List Row
 lateRows s = resolveRows (operation s) (account s) s ++ (statesRows s ++ otherRows s)
 
--- every row behind the table's and before the proofs'
+-- every row behind the table's and before the proofs'. 02, change 1: 40 stands "after 7 and before the script"
 unfoldable pub earlyRows : Scene → List Row
-earlyRows s = scriptRows (s .script) ++ (groupRows s ++ lateRows s)
+earlyRows s = hashRows s ++ (scriptRows (s .script) ++ (groupRows s ++ lateRows s))
 
 -- 01, main.rs: "Digest input: `CKB_ACCOUNT_LOCK_V1`, operation, account id, sequence (u64), hash of the state, sighash."
 unfoldable pub digest : Scene → List ℕ

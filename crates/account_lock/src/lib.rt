@@ -5,6 +5,7 @@ mod account; // account.rt
 
 use self::account::lock_account;
 use self::script::check_script;
+use cell_hashes::check_hashes;
 use group_sighash::check_first_witness;
 use group_sighash::first_witness;
 use molecule::args_of;
@@ -27,7 +28,9 @@ fn lock_scene(table: &[u32], store: &[u8], answer: &mut [u8]) -> LockAnswer
 {
     let script = part_at(store, script(table));
     let witness = first_witness(table, store);
-    match check_script(script).and(check_first_witness(witness)) {
+    match check_hashes(table, store)
+        .and(check_script(script))
+        .and(check_first_witness(witness)) {
         Check::Failed(error) => refused(error),
         Check::Passed => lock_account(table, store, account_of(args_of(script)), witness, answer),
     }

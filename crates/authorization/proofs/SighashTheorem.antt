@@ -7,12 +7,11 @@ use lib.ListN.{length, take, length-append}
 use Rattle.octets.specs.Le.{toLe}
 use Rattle.octets.proofs.LeLaws.{length-to}
 use Rattle.blake2b.specs.Rfc7693.{bytesOf}
-use Rattle.blake2b.specs.State.{begun, fedAll, finished, ckbParameters}
+use Rattle.blake2b.specs.State.{begun, fedAll, finished, ckbParameters, ckbHash}
 use Rattle.blake2b.specs.declared.Blake2b.{Blake2b}
 use Rattle.blake2b.proofs.Feed.{fed-append}
 use Rattle.blake2b.proofs.Whole.{hash-fed}
 use Rattle.molecule.specs.Canonical.{canonicalOf}
-use Rattle.authorization.specs.Digest.{ckbHash}
 use Rattle.authorization.specs.Hashed.{hashedWitness}
 use Rattle.authorization.specs.Sighash.{hashedWitnesses, sighashInput, sighashOf}
 

@@ -3,17 +3,12 @@ use Prim.Native.Nat.{ℕ}
 use mathlib.Core.List.{List, [], _∷_, _++_}
 use lib.ListN.{replicate}
 use Rattle.octets.specs.Le.{toLe}
-use Rattle.blake2b.specs.Rfc7693.{hashOf}
-use Rattle.blake2b.specs.State.{ckbParameters}
+use Rattle.blake2b.specs.State.{ckbHash}
 use Rattle.protocol.specs.Policy.{operationRows}
 use Rattle.protocol.specs.Rows.{decide}
 use Rattle.protocol.specs.declared.check.Check.{Check}
 use Rattle.protocol.specs.declared.check.Check.the-variants.{Passed, Failed}
 use Rattle.authorization.specs.declared.digest.AuthorizationDigest.{AuthorizationDigest}
-
--- CKB's hash, of 32 bytes
-unfoldable pub ckbHash : List ℕ → List ℕ
-ckbHash bytes = hashOf ckbParameters bytes 32
 
 -- `CKB_ACCOUNT_LOCK_V1`
 unfoldable pub authDomain : List ℕ

@@ -6,7 +6,7 @@ use mathlib.Core.Bool.{true, false, cond}
 use mathlib.Core.List.{List, [], _∷_, _++_}
 use lib.Dec.{eqb}
 use lib.ListN.{set, take, replicate}
-use Rattle.blake2b.specs.Rfc7693.{wordsOf, F, startWords}
+use Rattle.blake2b.specs.Rfc7693.{wordsOf, F, startWords, hashOf}
 use Rattle.blake2b.specs.declared.Blake2b.{Blake2b}
 
 -- nothing fed yet
@@ -53,3 +53,7 @@ unfoldable pub ckbParameters : List ℕ
 ckbParameters =
     (32 ∷ 0 ∷ 1 ∷ 1 ∷ []) ++ replicate 44 0
     ++ (99 ∷ 107 ∷ 98 ∷ 45 ∷ 100 ∷ 101 ∷ 102 ∷ 97 ∷ 117 ∷ 108 ∷ 116 ∷ 45 ∷ 104 ∷ 97 ∷ 115 ∷ 104 ∷ [])
+
+-- CKB's hash, of 32 bytes
+unfoldable pub ckbHash : List ℕ → List ℕ
+ckbHash bytes = hashOf ckbParameters bytes 32

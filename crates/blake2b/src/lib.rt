@@ -11,8 +11,8 @@ use self::compression::message_words;
 ghost use mathlib.Core.Path.{_≡_};
 ghost use lib.ListN.{take};
 ghost use lib.Seq.{sets};
-ghost use Rattle.blake2b.specs.Rfc7693.{startWords, bytesOf, hashOf};
-ghost use Rattle.blake2b.specs.State.{begun, fedAll, finished, ckbParameters};
+ghost use Rattle.blake2b.specs.Rfc7693.{startWords, bytesOf};
+ghost use Rattle.blake2b.specs.State.{begun, fedAll, finished, ckbParameters, ckbHash};
 
 // A hash state: the chained words, the block that is being filled, and the number of bytes fed.
 pub struct Blake2b {
@@ -145,7 +145,7 @@ impl Blake2b {
 
 // CKB's hash of a slice.
 pub fn ckb_hash(data: &[u8]) -> [u8; 32]
-    ensures { λ r. ⌜ r ≡ hashOf ckbParameters (now («data» .entry)) 32 ⌝ }
+    ensures { λ r. ⌜ r ≡ ckbHash (now («data» .entry)) ⌝ }
 {
     Blake2b::new().update(data).finish().digest()
 }

@@ -1,4 +1,3 @@
--- Private: no public contract cites this file.
 -- The records of the lent table that hold a list of cells: how many, and the places of each.
 use Prim.Native.Nat.{ℕ}
 use mathlib.Core.Bool.{cond}

@@ -27,7 +27,8 @@ pub enum CellField {
     DataHash,
 }
 
-pub(crate) fn cell_count(table: &[u32], source: Source) -> u32
+// How many cells a list has.
+pub fn cell_count(table: &[u32], source: Source) -> u32
     ensures { λ r. ⌜ r ≡ cellCount source (now (table .entry)) ⌝ }
 {
     match source {
@@ -37,7 +38,8 @@ pub(crate) fn cell_count(table: &[u32], source: Source) -> u32
     }
 }
 
-fn cell_places(table: &[u32], source: Source, i: u32) -> CellPlaces
+// The places of a cell's fields, by its record.
+pub fn cell_places(table: &[u32], source: Source, i: u32) -> CellPlaces
     ensures { λ r. ⌜ r ≡ sourcePlaces source (now (table .entry)) i ⌝ }
 {
     match source {

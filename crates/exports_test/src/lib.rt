@@ -7,8 +7,7 @@ use protocol::error_number;
 ghost use mathlib.Core.Path.{_≡_};
 ghost use Prim.Native.Nat.{_≤_, _<_};
 ghost use lib.ListN.{length};
-ghost use Rattle.blake2b.specs.Rfc7693.{hashOf};
-ghost use Rattle.blake2b.specs.State.{ckbParameters};
+ghost use Rattle.blake2b.specs.State.{ckbHash};
 ghost use Rattle.protocol.specs.Rows.{checkNumber};
 ghost use Rattle.export_answers.specs.Stored.{StoresBytes};
 ghost use Rattle.exports_test.specs.Parts.{partsFault};
@@ -27,7 +26,7 @@ fn part_end(at: usize, step: usize, len: usize) -> usize
 // CKB's hash of the data, fed as its first `first` bytes, and then `step` bytes at a time.
 fn parts_hash(data: &[u8], first: usize, step: usize) -> [u8; 32]
     requires { ⌜ first ≤ length (now «data») ⌝ }
-    ensures { λ r. ⌜ r ≡ hashOf ckbParameters (now («data» .entry)) 32 ⌝ }
+    ensures { λ r. ⌜ r ≡ ckbHash (now («data» .entry)) ⌝ }
 {
     let mut at = first;
     let mut state = Blake2b::new().update(&data[0..at]);
@@ -49,7 +48,7 @@ pub extern "C" fn fowlcredenza_ckb_hash_parts(
     out: &mut [u8],
 ) -> u32
     ensures { λ r.
-        ⌜ StoresBytes (checkNumber (partsFault (now («data» .entry)) first)) (hashOf ckbParameters (now («data» .entry)) 32)
+        ⌜ StoresBytes (checkNumber (partsFault (now («data» .entry)) first)) (ckbHash (now («data» .entry)))
         (now (out .entry)) r (now (out .exit)) ⌝ }
 {
     if first <= data.len() {

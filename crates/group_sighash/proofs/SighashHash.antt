@@ -16,7 +16,7 @@ use Rattle.protocol.specs.declared.error.ProtocolError.the-variants.{InvalidWit
 use Rattle.molecule.specs.Table3.{tableRows}
 use Rattle.molecule.specs.Canonical.{canonicalOf}
 use Rattle.molecule.proofs.CanonicalForm.{length-canonical, fields-within}
-use Rattle.authorization.specs.Digest.{ckbHash}
+use Rattle.blake2b.specs.State.{ckbHash}
 use Rattle.authorization.specs.Hashed.{hashedWitness}
 use Rattle.authorization.specs.Sighash.{hashedWitnesses, sighashInput}
 use Rattle.authorization.proofs.SighashTheorem.{hashed-length, sighash-theorem}

@@ -32,11 +32,12 @@ module _ (p : ℕ → Bool) where
   unfolding every
   every-end s i h = rw (drop-of-length-le s h)
 
-  pub every-at : (s : List ℕ) (i : ℕ) → every p s ≡ true → i < length s → p (getD s i 0) ≡ true
-  unfolding every
-  every-at [] i e h = absurd (omega arith)
-  every-at (x ∷ s) zero e h = and-left (p x) (every p s) e
-  every-at (x ∷ s) (suc i) e h = every-at s i (and-right (p x) (every p s) e) (omega arith)
+-- each element
+pub every-nth : {A : Type 0} (p : A → Bool) (s : List A) (i : ℕ) (d : A) → every p s ≡ true → i < length s → p (getD s i d) ≡ true
+unfolding every
+every-nth p [] i d e h = absurd (omega arith)
+every-nth p (x ∷ s) zero d e h = and-left (p x) (every p s) e
+every-nth p (x ∷ s) (suc i) d e h = every-nth p s i d (and-right (p x) (every p s) e) (omega arith)
 
 -- the first, and the others
 pub every-split : {A : Type 0} (p : A → Bool) (x : A) (xs : List A) → every p (x ∷ xs) ≡ true → (p x ≡ true) × (every p xs ≡ true)

@@ -33,6 +33,15 @@ unfolding _then_
 decide-then Passed rs = refl
 decide-then (Failed e) rs = decide-failed rs e
 
+-- two lists, each by itself
+pub decide-both : (ps qs : List Row) → decide Passed (ps ++ qs) ≡ decide Passed ps then decide Passed qs
+decide-both ps qs = decide-append Passed ps qs ∙ decide-then (decide Passed ps) qs
+
+pub then-assoc : (a b c : Check) → (a then b) then c ≡ a then (b then c)
+unfolding _then_
+then-assoc Passed b c = refl
+then-assoc (Failed e) b c = refl
+
 -- where both found nothing, each did
 pub then-passed : (a b : Check) → a then b ≡ Passed → (a ≡ Passed) × (b ≡ Passed)
 unfolding _then_

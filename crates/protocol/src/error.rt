@@ -1,4 +1,4 @@
-// The refusals: the original's, and before them the port's own.
+// The refusals: the original's, before them the port's own, and behind them document 02's.
 ghost use mathlib.Core.Path.{_≡_};
 ghost use Rattle.protocol.specs.Errors.{errorNumber};
 
@@ -30,6 +30,7 @@ pub enum ProtocolError {
     InvalidOperation,
     UnsatisfiableThreshold,
     LengthOverflow,
+    HashMismatch,
 }
 
 // The number of a refusal.
@@ -64,5 +65,6 @@ pub fn error_number(error: ProtocolError) -> u8
         ProtocolError::InvalidOperation => 37,
         ProtocolError::UnsatisfiableThreshold => 38,
         ProtocolError::LengthOverflow => 39,
+        ProtocolError::HashMismatch => 40,
     }
 }

@@ -1,6 +1,7 @@
 -- Records of a table: how many, one by one, and what is left of them.
 -- Assumes nothing.
 use mathlib.Core.Path.{_≡_, refl, ap, _∙_}
+use mathlib.Core.Bool.{Bool, true}
 use mathlib.Core.List.{List, [], _∷_}
 use Prim.Native.Nat.{ℕ, zero, suc, _+_, _-_, _*_, _≤_, _<_}
 use native.Mathlib.Nat.{mul-suc, mul-zero, not-suc-le-zero, le-of-suc-le-suc}
@@ -8,6 +9,8 @@ use native.Mathlib.Omega.{arith}
 use native.Mathlib.Numerals.{add-one}
 use lib.ListN.{length, drop, getD, drop-of-length-le}
 use lib.Seq.{drop-cons}
+use Rattle.octets.specs.Lists.{every}
+use Rattle.octets.proofs.Every.{every-nth}
 use Rattle.scene_table.specs.Lent.{recordsAt}
 
 -- l is f 0, f 1, .. f (n - 1): its elements, and what is left of it at each turn of a loop
@@ -24,6 +27,10 @@ listed l n f long nth = record {
   turn = λ i h. let k : i < length l = rw long h in rw (add-one, drop-cons l i (f i) k, nth i (f i) h);
   none = λ i h. let k : length l ≤ i = rw long h in drop-of-length-le l k;
 }
+
+-- a test that all elements pass
+pub listed-every : {A : Type 0} (p : A → Bool) {l : List A} {n : ℕ} {f : ℕ → A} → Listed l n f → every p l ≡ true → (i : ℕ) → i < n → p (f i) ≡ true
+listed-every p {l} {n} {f} s e i h = rw (s .nth i (f i) h) at (every-nth p l i (f i) e (rw (s .long) h))
 
 module _ {A : Type 0} (read : ℕ → A) (w : ℕ) where
   -- the next record

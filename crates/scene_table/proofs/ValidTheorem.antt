@@ -22,7 +22,7 @@ use Rattle.scene_table.proofs.ReadBack.{cellWith, inputWith, sceneWith,
 use Rattle.scene_table.proofs.SceneBack.{Sayable, sayable, scene-back}
 
 -- as many zeros as a list has elements
-abbrev zeroed : List ℕ → List ℕ
+abbrev pub zeroed : List ℕ → List ℕ
 zeroed q = replicate (length q) 0
 
 -- lines of the same records and as many bytes
@@ -134,7 +134,7 @@ few p f h xs l e = rw (length-map xs f, le-leb (length xs) 64 l) (every-map p p 
 zeroed-hash : (hash : List ℕ) → hashBytesOk hash ≡ true → hashBytesOk (zeroed hash) ≡ true
 zeroed-hash hash h = rw (hash-long hash h) blank-hash
 
-zeroed-ok : (s : Scene) → Sayable s → sceneOk (sceneWith zeroed s) ≡ true
+pub zeroed-ok : (s : Scene) → Sayable s → sceneOk (sceneWith zeroed s) ≡ true
 unfolding sceneOk sceneWith digitsOk
 zeroed-ok s ok =
     rw (

@@ -4,7 +4,7 @@ use Prim.Native.Nat.{_≤_, _-_, zero-le}
 use native.Mathlib.Omega.{arith}
 use lib.ListN.{length, take}
 use lib.Seq.{take-all}
-use Rattle.blake2b.specs.State.{ckbParameters}
+use Rattle.blake2b.specs.State.{ckbParameters, ckbHash}
 use Rattle.blake2b.proofs.Chain.{Fed, fed-none, fed-part, fed-hash}
 use borrow.Author.Needs.{needs}
 use Rattle.exports_test.proofs.parts_hash.Statement.{statement}
@@ -27,6 +27,7 @@ loop-again c =
     (omega arith, fed-part _ (l .at) _ (omega arith) (l .inv .1) (c .update2 .ensures))
 
 returns : tie.Need-returns Inv-loop μ-loop
+unfolding ckbHash
 returns c =
     let l = c .before .before .before .loop in
     let s = c .before .before .before .before .before .before .before .before in

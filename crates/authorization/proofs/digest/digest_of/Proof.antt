@@ -5,9 +5,9 @@ use Prim.Native.Nat.{ℕ, _^_, _<_}
 use lib.ListN.{length, length-append}
 use native.Mathlib.Omega.{arith}
 use Rattle.octets.proofs.LeLaws.{length-to}
-use Rattle.blake2b.specs.State.{fedAll, ckbParameters}
+use Rattle.blake2b.specs.State.{fedAll, ckbParameters, ckbHash}
 use Rattle.blake2b.proofs.Chain.{Fed, fed-more, fed-hash}
-use Rattle.authorization.specs.Digest.{ckbHash, authDomain, digestHead, digestInput, digestOf}
+use Rattle.authorization.specs.Digest.{authDomain, digestHead, digestInput, digestOf}
 use borrow.Author.Needs.{needs}
 use Rattle.authorization.proofs.digest.digest_of.Statement.{statement}
 use Rattle.authorization.proofs.digest.digest_of.Tie as tie

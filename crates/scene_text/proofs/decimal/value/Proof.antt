@@ -5,7 +5,7 @@ use Prim.Native.Nat.{_-_, _≤_, _<_, _^_}
 use mathlib.Core.Path.{_≡_, refl, _∙_}
 use lib.ListN.{length, drop}
 use borrow.Author.Tests.{lt-ltb, le-ltb}
-use Rattle.octets.proofs.Every.{every-at}
+use Rattle.octets.proofs.Every.{every-nth}
 use Rattle.scene_text.proofs.RangeLaws.{between-low}
 use Rattle.scene_text.proofs.DecimalLaws.{decimal-on, decimal-end, decimal-over}
 use Rattle.scene_text.specs.Text.{inRange, decimal, numberOf}
@@ -25,7 +25,7 @@ cast-d : tie.Need-cast-d Inv-loop μ-loop
 cast-d c = omega (arith, c .shared-slice-known .given (c .before .before .loop .i))
 
 sub-d : tie.Need-sub-d Inv-loop μ-loop
-sub-d c = between-low 48 57 _ (every-at (inRange 48 57) (c .before .before .before .args .s .now) (c .before .before .loop .i) (c .before .before .before .pre) (c .before .loop-test .taken))
+sub-d c = between-low 48 57 _ (every-nth (inRange 48 57) (c .before .before .before .args .s .now) (c .before .before .loop .i) 0 (c .before .before .before .pre) (c .before .loop-test .taken))
 
 returns : tie.Need-returns Inv-loop μ-loop
 unfolding numberOf

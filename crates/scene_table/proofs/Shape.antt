@@ -1,0 +1,84 @@
+-- Where a table passes its test, the store has every byte that the table names: the hashes of a cell have the lengths that belong
+-- beside its type script and its data.
+-- Assumes nothing.
+use mathlib.Core.Path.{_≡_}
+use mathlib.Core.Bool.{true}
+use mathlib.Core.List.{List}
+use Prim.Native.Nat.{ℕ, _+_, _^_, _≤_, _<_}
+use native.Mathlib.Omega.{arith}
+use lib.Dec.{ltb}
+use lib.ListN.{length, take, drop, length-append, length-drop, length-replicate}
+use lib.Seq.{length-take-le}
+use Rattle.octets.specs.declared.place.Place.{Place}
+use Rattle.octets.specs.Places.{bytesAt}
+use Rattle.octets.proofs.Truth.{and-right}
+use Rattle.scene_table.specs.Scene.{Cell, Input, sceneBytes}
+use Rattle.scene_table.specs.Lent.{inputsAt, outputsAt, depsAt, inputCount, outputCount, depCount, inputWidth, cellWidth, hashLength, cellFrom, inputFrom, cellRecordFrom, sceneFrom}
+use Rattle.scene_table.specs.Places.{inputAt, inputPlaces, outputPlaces, depPlaces, cellIn}
+use Rattle.scene_table.specs.declared.places.CellPlaces.{CellPlaces}
+use Rattle.scene_table.specs.Valid.{cellOk, inputOk, validTable}
+use Rattle.scene_table.proofs.Records.{listed-every, records-listed}
+use Rattle.scene_table.proofs.ReadBack.{Gives, cell-hashes}
+use Rattle.scene_table.proofs.SceneBack.{Sayable, sayable, scene-back}
+use Rattle.scene_table.proofs.ValidTheorem.{zeroed, zeroed-ok, passes-scene}
+
+-- a cell with all of its bytes
+pub record Whole (c : Cell) : Type 0 where
+  pub typed : hashLength (length (c .typeScript)) ≡ length (c .typeHash)
+  pub hashed : length (c .dataHash) ≡ 32
+
+-- the cells of a table and a store
+pub record CellsWhole (table store : List ℕ) : Type 0 where
+  pub inputs : (i : ℕ) → i < inputCount table → Whole (cellIn store (inputPlaces table i))
+  pub outputs : (i : ℕ) → i < outputCount table → Whole (cellIn store (outputPlaces table i))
+  pub deps : (i : ℕ) → i < depCount table → Whole (cellIn store (depPlaces table i))
+
+-- the cell of an input
+input-cell : (i : Input) → inputOk i ≡ true → cellOk (i .cell) ≡ true
+unfolding inputOk
+input-cell i h = and-right (ltb (i .since) (2 ^ 64)) (cellOk (i .cell)) (and-right (ltb (i .group) 2) _ h)
+
+module _ (store : List ℕ) where
+  -- as many zeros as the store has bytes at a place
+  abbrev zerosIn : Place → List ℕ
+  zerosIn p = zeroed (bytesAt store p)
+
+  -- a store at least as long as a scene's bytes has as many at the place of each part
+  zeros-give : (bytes : List ℕ) → length bytes ≤ length store → Gives zerosIn zeroed bytes
+  unfolding bytesAt
+  zeros-give bytes room p q r at n e lp lq =
+      let whole : length bytes ≡ length p + (length q + length r) = rw (e, length-append, length-append) in
+      let rest = length-drop at store in
+      let there : length (take n (drop at store)) ≡ n = length-take-le n (drop at store) (omega arith) in
+      rw (there, lq)
+
+  -- a cell whose zeros are a cell's is whole
+  zeros-whole : (p : CellPlaces) → cellOk (cellFrom zerosIn p) ≡ true → Whole (cellIn store p)
+  unfolding cellFrom
+  zeros-whole p ok =
+      let l = cell-hashes (cellFrom zerosIn p) ok in
+      record {
+        typed = simp length-replicate at (l .0);
+        hashed = simp length-replicate at (l .1);
+      }
+
+module _ (table store : List ℕ) (valid : validTable table (length store) ≡ true) where
+  shape : Sayable (sceneFrom (zerosIn store) table)
+  shape =
+      let t = passes-scene table (length store) valid in
+      let s = t .1 in
+      let back = scene-back s (length table) (zerosIn store) zeroed (zeros-give store (sceneBytes s) (t .3)) (sayable s (t .2)) in
+      sayable _ (rw (t .4, back) (zeroed-ok s (sayable s (t .2))))
+
+  pub cells-whole : CellsWhole table store
+  unfolding sceneFrom inputFrom inputPlaces inputAt outputPlaces depPlaces
+  cells-whole =
+      let from = zerosIn store in
+      let inputs = records-listed (inputFrom from table) inputWidth (inputCount table) inputsAt in
+      let outputs = records-listed (cellRecordFrom from table) cellWidth (outputCount table) (outputsAt table) in
+      let deps = records-listed (cellRecordFrom from table) cellWidth (depCount table) (depsAt table) in
+      record {
+        inputs = λ i h. zeros-whole store (inputPlaces table i) (input-cell _ (listed-every inputOk inputs (shape .inputs) i h));
+        outputs = λ i h. zeros-whole store (outputPlaces table i) (listed-every cellOk outputs (shape .outputs) i h);
+        deps = λ i h. zeros-whole store (depPlaces table i) (listed-every cellOk deps (shape .deps) i h);
+      }
