@@ -4,6 +4,8 @@
 //! with the original's answers into a file, and `--samples FOLDER` sample scenes into a folder. `--fuzz`, with limits
 //! behind it, compares recorded scenes that are changed at random, and nothing else.
 
+#[cfg(originals)]
+mod cell_hashes;
 #[cfg_attr(not(originals), allow(dead_code))]
 mod changes;
 #[cfg_attr(not(originals), allow(dead_code))]
@@ -27,6 +29,8 @@ mod lent_state;
 #[cfg(originals)]
 mod locks;
 #[cfg(originals)]
+mod measure;
+#[cfg(originals)]
 mod original;
 mod prng;
 mod report;
@@ -43,6 +47,8 @@ mod table;
 mod test_exports;
 #[cfg(originals)]
 mod transaction;
+#[cfg(originals)]
+mod true_hashes;
 mod vectors;
 
 use report::Report;

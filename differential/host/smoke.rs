@@ -18,7 +18,7 @@ fn sighash(scene: &Scene) -> [u8; 32] {
 }
 
 fn digest(scene: &Scene, operation: u8) -> [u8; 32] {
-    let (id, sequence) = (samples::ACCOUNT_ID, samples::SEQUENCE);
+    let (id, sequence) = (samples::account_id(), samples::SEQUENCE);
     let state = samples::state(sequence);
     authorization_digest(operation, &id, sequence, &state, &sighash(scene)).expect("an operation")
 }
@@ -93,7 +93,7 @@ fn opened_functions(report: &mut Report) {
     let expected = Ok(sighash(&scene));
     report.compare(name, 0, || "sample's sighash".into(), &result, &expected);
     let args = opened::script_args(&scene.script);
-    let expected = ckb_account_host::account_lock_args(&samples::ACCOUNT_ID);
+    let expected = ckb_account_host::account_lock_args(&samples::account_id());
     report.compare(
         name,
         0,
