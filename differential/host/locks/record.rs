@@ -4,7 +4,7 @@
 use super::faults::{build, rows, Fault, Row};
 use super::plan::Plan;
 use super::{by_number, random_faults};
-use crate::measure::{self, HASH_MISMATCH};
+use crate::measure;
 use crate::original::Outcome;
 use crate::prng::Prng;
 use crate::scene_text::text;
@@ -86,16 +86,11 @@ impl Recorder {
         build(&mut self.prng, plan, faults)
     }
 
-    /// Every row once for each operation; those of hashes, which are many, once for one of them.
+    /// Every row once for each operation.
     fn each_row(&mut self, rows: &[Row]) {
         let short = rows.iter().filter(|row| !row.long);
-        for (turn, row) in short.filter(|row| row.number != 35).enumerate() {
-            let one = turn % row.operations.len();
-            let operations = match row.number {
-                HASH_MISMATCH => &row.operations[one..=one],
-                _ => row.operations,
-            };
-            for operation in operations {
+        for row in short.filter(|row| row.number != 35) {
+            for operation in row.operations {
                 let scene = self.with(*operation, &row.faults);
                 self.offer(&scene, SHORT);
             }

@@ -31,13 +31,24 @@ pub fn any(prng: &mut Prng) -> Fault {
     Fault::Cell(place, changes[prng.up_to(changes.len() - 1)])
 }
 
+/// An operation in turn: the test of hashes does not know it.
+fn one(turn: usize) -> &'static [u8] {
+    &ALL[turn % 3..][..1]
+}
+
 /// Each change in each kind of cell.
 fn cell_rows() -> Vec<Row> {
     let mut rows = Vec::new();
     for (name, change) in OF_TYPE.iter().chain(&OF_DATA) {
         for (kind, place) in PLACES {
+            let operations = one(rows.len());
             let fault = Fault::Cell(place, *change);
-            rows.push(row(HASH_MISMATCH, ALL, &format!("{kind}: {name}"), fault));
+            rows.push(row(
+                HASH_MISMATCH,
+                operations,
+                &format!("{kind}: {name}"),
+                fault,
+            ));
         }
     }
     rows
@@ -47,8 +58,9 @@ fn passing_rows() -> Vec<Row> {
     let mut rows = Vec::new();
     for (kind, place) in PLACES {
         for (name, change) in PASSING {
+            let operations = one(rows.len());
             let fault = Fault::NewCell(place, change);
-            rows.push(row(0, ALL, &format!("{kind}: {name}"), fault).made(AllBut(0)));
+            rows.push(row(0, operations, &format!("{kind}: {name}"), fault).made(AllBut(0)));
         }
         let name = format!("{kind}: type script of 513, data of 20,000");
         let fault = Fault::NewCell(place, |cell, prng| {
@@ -192,28 +204,26 @@ const LATER: [(&str, Fault); 10] = [
         "witness sequence differing",
         Fault::Plan(|plan, _| plan.lock.sequence ^= 1),
     ),
-    (
-        "no verdicts",
-        Fault::Plan(|plan, _| plan.verdicts.clear()),
-    ),
-    (
-        "no proofs",
-        Fault::Plan(|plan, _| plan.lock.proofs.clear()),
-    ),
+    ("no verdicts", Fault::Plan(|plan, _| plan.verdicts.clear())),
+    ("no proofs", Fault::Plan(|plan, _| plan.lock.proofs.clear())),
 ];
 
 /// A hash that differs beside a fault of a later row, and two that differ.
 fn together_rows() -> Vec<Row> {
     let (of_type, of_data) = (OF_TYPE[0].1, OF_DATA[0].1);
     let hashes = [
-        ("an output's type hash", Fault::NewCell(Place::Output, of_type)),
+        (
+            "an output's type hash",
+            Fault::NewCell(Place::Output, of_type),
+        ),
         ("a dep's data hash", Fault::NewCell(Place::Dep, of_data)),
     ];
     let mut rows = Vec::new();
     for (later, fault) in LATER {
         for (name, hash) in hashes {
+            let operations = one(rows.len());
             let name = format!("{later}, and {name}");
-            rows.push(row(HASH_MISMATCH, ALL, &name, fault).and(hash));
+            rows.push(row(HASH_MISMATCH, operations, &name, fault).and(hash));
         }
     }
     let [(_, output), (_, dep)] = hashes;

@@ -126,12 +126,12 @@ impl Row {
 
 pub fn rows() -> Vec<Row> {
     let mut rows = Vec::new();
-    rows.extend(hashes::rows());
     rows.extend(script::rows());
     rows.extend(witness::rows());
     rows.extend(cells::rows());
     rows.extend(states::rows());
     rows.extend(transition::rows());
+    rows.extend(hashes::rows());
     // These come before the digest.
     for row in rows.iter_mut().filter(|row| row.number != 0) {
         row.made = Some(Made::Nothing);
@@ -168,7 +168,9 @@ fn new_cell<'a>(scene: &'a mut Scene, place: Place, prng: &mut Prng) -> &'a mut 
         Place::Output => &mut scene.outputs,
         Place::Dep => &mut scene.deps,
         Place::GroupInput | Place::ForeignInput => {
-            scene.inputs.push(plain_input(prng, place == Place::GroupInput));
+            scene
+                .inputs
+                .push(plain_input(prng, place == Place::GroupInput));
             let input = scene.inputs.last_mut().expect("an input");
             return &mut input.cell;
         }
