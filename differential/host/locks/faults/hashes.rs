@@ -31,7 +31,7 @@ pub fn any(prng: &mut Prng) -> Fault {
     Fault::Cell(place, changes[prng.up_to(changes.len() - 1)])
 }
 
-/// An operation in turn: the test of hashes does not know it.
+/// One operation, another in each turn: the test of hashes is the same for all.
 fn one(turn: usize) -> &'static [u8] {
     &ALL[turn % 3..][..1]
 }
@@ -41,14 +41,9 @@ fn cell_rows() -> Vec<Row> {
     let mut rows = Vec::new();
     for (name, change) in OF_TYPE.iter().chain(&OF_DATA) {
         for (kind, place) in PLACES {
-            let operations = one(rows.len());
+            let name = format!("{kind}: {name}");
             let fault = Fault::Cell(place, *change);
-            rows.push(row(
-                HASH_MISMATCH,
-                operations,
-                &format!("{kind}: {name}"),
-                fault,
-            ));
+            rows.push(row(HASH_MISMATCH, one(rows.len()), &name, fault));
         }
     }
     rows
@@ -58,9 +53,9 @@ fn passing_rows() -> Vec<Row> {
     let mut rows = Vec::new();
     for (kind, place) in PLACES {
         for (name, change) in PASSING {
-            let operations = one(rows.len());
+            let name = format!("{kind}: {name}");
             let fault = Fault::NewCell(place, change);
-            rows.push(row(0, operations, &format!("{kind}: {name}"), fault).made(AllBut(0)));
+            rows.push(row(0, one(rows.len()), &name, fault).made(AllBut(0)));
         }
         let name = format!("{kind}: type script of 513, data of 20,000");
         let fault = Fault::NewCell(place, |cell, prng| {
@@ -221,9 +216,8 @@ fn together_rows() -> Vec<Row> {
     let mut rows = Vec::new();
     for (later, fault) in LATER {
         for (name, hash) in hashes {
-            let operations = one(rows.len());
             let name = format!("{later}, and {name}");
-            rows.push(row(HASH_MISMATCH, operations, &name, fault).and(hash));
+            rows.push(row(HASH_MISMATCH, one(rows.len()), &name, fault).and(hash));
         }
     }
     let [(_, output), (_, dep)] = hashes;
