@@ -7,7 +7,7 @@ use blake2b::ckb_hash;
 use ckb_account_host::{AccountState, Proof};
 
 pub struct Plan {
-    /// Of the cell that holds the state.
+    /// The type script of the cell that holds the state. Its hash is the account's id.
     pub type_script: Vec<u8>,
     /// What verifiers' code hashes are the hashes of.
     pub programs: Vec<Vec<u8>>,
@@ -88,9 +88,9 @@ impl Plan {
         let mut successor = states::valid(prng, count);
         successor.sequence = state.sequence.wrapping_add(1);
         let later = [0, 1, prng.next()][prng.up_to(2)];
-        let args_len = prng.up_to(12);
+        let length = prng.up_to(12);
         Plan {
-            type_script: [&[9], &prng.bytes(args_len)[..]].concat(),
+            type_script: [&[9], &prng.bytes(length)[..]].concat(),
             programs,
             successor,
             verdicts: vec![0; proofs.len()],

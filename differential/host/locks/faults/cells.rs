@@ -27,7 +27,8 @@ pub fn state_cells<'a>(scene: &'a mut Scene, plan: &Plan) -> [Vec<&'a mut Cell>;
     ]
 }
 
-fn outputs<'a>(scene: &'a mut Scene, plan: &Plan) -> Vec<&'a mut Cell> {
+/// Those among outputs.
+pub fn outputs<'a>(scene: &'a mut Scene, plan: &Plan) -> Vec<&'a mut Cell> {
     let [_, outputs, _] = state_cells(scene, plan);
     outputs
 }
@@ -135,7 +136,6 @@ fn changing_rows() -> Vec<Row> {
 
 /// Another type script of the output is that of another account, whatever its length.
 fn type_script_rows() -> Vec<Row> {
-    let after = |change| Fault::Scene(change);
     vec![
         on_plan(0, CHANGING, "type scripts of 512", |plan, _| {
             script_of(plan, 512)
@@ -146,13 +146,13 @@ fn type_script_rows() -> Vec<Row> {
         on_plan(26, CHANGING, "type scripts of 513 and 512", |plan, _| {
             script_of(plan, 513)
         })
-        .and(after(|scene, plan, _| {
+        .and(Fault::Scene(|scene, plan, _| {
             set_type_scripts(outputs(scene, plan), &[9; 512]);
         })),
         on_plan(26, CHANGING, "type scripts of 512 and 513", |plan, _| {
             script_of(plan, 512)
         })
-        .and(after(|scene, plan, _| {
+        .and(Fault::Scene(|scene, plan, _| {
             set_type_scripts(outputs(scene, plan), &[9; 513]);
         })),
         on_scene(

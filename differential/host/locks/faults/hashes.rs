@@ -1,6 +1,6 @@
 //! The row of hashes: each cell's type hash, then its data hash where it has data. It comes before the script's.
 
-use super::cells::state_cells;
+use super::cells::{outputs, state_cells};
 use super::hash_changes::{any_byte, of, OF_DATA, OF_TYPE, PASSING};
 use super::parts::set;
 use super::proofs::is_verifier;
@@ -110,8 +110,7 @@ fn verifier_rows() -> Vec<Row> {
 
 /// Gives the output of the account another type script, the hash staying.
 fn set_output(scene: &mut Scene, plan: &Plan, script: &[u8]) {
-    let [_, outputs, _] = state_cells(scene, plan);
-    for cell in outputs {
+    for cell in outputs(scene, plan) {
         cell.type_script = Some(script.to_vec());
     }
 }
