@@ -32,6 +32,7 @@ pub mod number {
     pub const INVALID_OPERATION: u32 = 37;
     pub const UNSATISFIABLE_THRESHOLD: u32 = 38;
     pub const LENGTH_OVERFLOW: u32 = 39;
+    pub const HASH_MISMATCH: u32 = 40;
 }
 
 /// Sizes of buffers, as `include/fowlcredenza.h` has them.

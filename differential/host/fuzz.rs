@@ -1,5 +1,5 @@
-//! Recorded scenes, changed at random: the port beside the original, for some time. The smallest scene on which they
-//! differ is made as small as it can be and saved.
+//! Recorded scenes, changed at random: the port beside what it is measured by, for some time. The smallest scene on which
+//! they differ is made as small as it can be and saved.
 
 use crate::changes;
 use crate::lent::Lent;
@@ -11,7 +11,7 @@ use crate::scene::{self, ENTRIES};
 use crate::scene_text;
 use crate::scenes::damage;
 use crate::scenes::readings::{read, Reading};
-use crate::{original, scene_exports};
+use crate::{measure, scene_exports, true_hashes};
 use std::time::{Duration, Instant, SystemTime, UNIX_EPOCH};
 use std::{fs, io, panic};
 
@@ -79,7 +79,7 @@ fn of_port(text: &[u8]) -> Seen {
 
 fn expected(text: &[u8]) -> Seen {
     let reading = read(scene::read, text, text.len() / 2, ENTRIES, 0x5a);
-    let outcome = || original::lock(&Lent::read(text).scene());
+    let outcome = || measure::lock(&Lent::read(text).scene());
     let answer = (reading.number == 0).then(|| Answer::expected(&outcome(), ENOUGH));
     Seen { answer, reading }
 }
@@ -135,6 +135,15 @@ fn change_bytes(prng: &mut Prng, text: &mut Vec<u8>) {
     }
 }
 
+/// Gives the cells their hashes, where the reader accepts the scene.
+fn make_true(text: &mut Vec<u8>) {
+    if read(scene::read, text, text.len() / 2, ENTRIES, 0).number == 0 {
+        let mut scene = Lent::read(text).scene();
+        true_hashes::of_scene(&mut scene);
+        *text = scene_text::text(&scene);
+    }
+}
+
 fn kind(line: &[u8]) -> &[u8] {
     let end = line.iter().position(|byte| *byte == b',');
     &line[..end.unwrap_or(0)]
@@ -175,7 +184,7 @@ impl<'a> Fuzz<'a> {
         }
     }
 
-    /// A recorded scene with up to three changes.
+    /// A recorded scene with up to three changes. In most the hashes are then made true, so that later rows are met.
     fn text(&mut self) -> Vec<u8> {
         let place = self.any();
         let mut text = self.recorded[place].text.clone();
@@ -186,6 +195,9 @@ impl<'a> Fuzz<'a> {
                 1 => take_line(&mut self.prng, &mut text, &self.recorded[other].text),
                 _ => change_bytes(&mut self.prng, &mut text),
             }
+        }
+        if self.prng.up_to(7) > 0 {
+            make_true(&mut text);
         }
         text
     }

@@ -1,9 +1,12 @@
-//! Runs the port beside the original and compares. A comparison is a module with a function `run`.
+//! Runs the port beside the original and compares. A comparison is a module with a function `run`. The lock is measured by
+//! document 02's test of hashes first.
 //! `originals` is set where the original files are at hand; what needs none runs without them too.
 //! Without arguments all is compared; `--long` takes many more random scenes of the lock. `--record FILE` writes scenes
-//! with the original's answers into a file, and `--samples FOLDER` sample scenes into a folder. `--fuzz`, with limits
+//! with their answers into a file, and `--samples FOLDER` sample scenes into a folder. `--fuzz`, with limits
 //! behind it, compares recorded scenes that are changed at random, and nothing else.
 
+#[cfg(originals)]
+mod cell_hashes;
 #[cfg_attr(not(originals), allow(dead_code))]
 mod changes;
 #[cfg_attr(not(originals), allow(dead_code))]
@@ -27,6 +30,8 @@ mod lent_state;
 #[cfg(originals)]
 mod locks;
 #[cfg(originals)]
+mod measure;
+#[cfg(originals)]
 mod original;
 mod prng;
 mod report;
@@ -43,6 +48,8 @@ mod table;
 mod test_exports;
 #[cfg(originals)]
 mod transaction;
+#[cfg(originals)]
+mod true_hashes;
 mod vectors;
 
 use report::Report;

@@ -25,6 +25,8 @@ struct Entry {
 #[derive(Default)]
 pub struct Report {
     entries: Vec<Entry>,
+    /// How often each kind of input was met, by name.
+    met: BTreeMap<&'static str, usize>,
 }
 
 impl Report {
@@ -97,6 +99,22 @@ impl Report {
         self.compare("answers", 0, input, &seldom, &vec![]);
     }
 
+    /// Counts an input of this kind.
+    #[cfg(originals)]
+    pub fn meet(&mut self, kind: &'static str) {
+        *self.met.entry(kind).or_default() += 1;
+    }
+
+    /// Expects that inputs of each of these kinds were met so often at least.
+    #[cfg(originals)]
+    pub fn expect_met(&mut self, kinds: &[&'static str], least: usize) {
+        let count = |kind| self.met.get(kind).copied().unwrap_or_default();
+        let seldom = kinds.iter().filter(|kind| count(**kind) < least);
+        let seldom: Vec<&str> = seldom.copied().collect();
+        let input = || format!("kinds of input met less than {least} times");
+        self.compare("inputs", 0, input, &seldom, &vec![]);
+    }
+
     /// Prints a line for each name, mismatches below it, and the sum last. Returns whether all passed.
     pub fn print(&self) -> bool {
         for entry in &self.entries {
@@ -113,6 +131,9 @@ impl Report {
                     println!("    {}", line.chars().take(TEXT).collect::<String>());
                 }
             }
+        }
+        for (kind, count) in &self.met {
+            println!("{kind}: met {count} times");
         }
         let passed: usize = self.entries.iter().map(|entry| entry.passed).sum();
         let failed: usize = self.entries.iter().map(|entry| entry.failed).sum();

@@ -1,5 +1,7 @@
 //! A small account, and scenes in which one proof spends from it and recovers it; and the smallest accepted spend.
 
+use crate::true_hashes;
+use blake2b::ckb_hash;
 use ckb_account_host::{
     account_lock_args, encode_state, encode_witness, AccountState, Authenticator, Proof,
 };
@@ -10,11 +12,21 @@ use ckb_account_protocol::{
 use ckb_std::{Cell, Input, Scene};
 use ckb_types::molecule::{byte_vector, table};
 
-pub const ACCOUNT_ID: [u8; 32] = [0xac; 32];
 pub const SEQUENCE: u64 = 7;
 pub const RECOVERY_SINCE: u64 = 1000;
 pub const PROOF: &[u8] = b"proof";
-const VERIFIER: [u8; 32] = [0x22; 32];
+/// The data of the verifier's cell.
+const VERIFIER: &[u8] = b"verifier";
+/// The type script of the smallest spend's account.
+const SMALLEST_TYPE_SCRIPT: &[u8] = &[0x44];
+
+fn type_script() -> Vec<u8> {
+    table(&[&[0x55; 32], &[1], &byte_vector(&[])])
+}
+
+pub fn account_id() -> [u8; 32] {
+    ckb_hash(&type_script())
+}
 
 /// Its aux makes the state too long for the lock's first try to load it.
 pub fn authenticator() -> Authenticator {
@@ -25,7 +37,7 @@ pub fn authenticator() -> Authenticator {
         weight: 1,
         verifier_hash_type: 0,
         verifier_abi: VERIFIER_ABI_V1,
-        verifier_code_hash: VERIFIER,
+        verifier_code_hash: ckb_hash(VERIFIER),
         key_id: [0x33; 32],
         aux: vec![1; 300],
     }
@@ -46,7 +58,7 @@ pub fn state(sequence: u64) -> Vec<u8> {
 }
 
 fn script() -> Vec<u8> {
-    let args = byte_vector(&account_lock_args(&ACCOUNT_ID));
+    let args = byte_vector(&account_lock_args(&account_id()));
     table(&[&[0x44; 32], &[1], &args])
 }
 
@@ -68,21 +80,23 @@ fn plain_cell() -> Cell {
     }
 }
 
+fn cell(type_script: Option<Vec<u8>>, data: Vec<u8>) -> Cell {
+    let mut cell = Cell {
+        type_script,
+        data,
+        ..plain_cell()
+    };
+    true_hashes::of_cell(&mut cell);
+    cell
+}
+
 /// The cell that holds the account's state.
 pub fn state_cell(sequence: u64) -> Cell {
-    Cell {
-        type_hash: Some(ACCOUNT_ID),
-        type_script: Some(table(&[&[0x55; 32], &[1], &byte_vector(&[])])),
-        data: state(sequence),
-        ..plain_cell()
-    }
+    cell(Some(type_script()), state(sequence))
 }
 
 fn verifier_cell() -> Cell {
-    Cell {
-        data_hash: VERIFIER,
-        ..plain_cell()
-    }
+    cell(None, VERIFIER.to_vec())
 }
 
 pub fn input(group: bool, since: u64, cell: Cell) -> Input {
@@ -120,7 +134,7 @@ fn smallest_state() -> Vec<u8> {
     let only = Authenticator {
         capabilities: CAP_SPEND | CAP_ROTATE,
         verifier_hash_type: 1,
-        verifier_code_hash: ACCOUNT_ID,
+        verifier_code_hash: ckb_hash(SMALLEST_TYPE_SCRIPT),
         aux: vec![PROFILE_V1],
         ..authenticator()
     };
@@ -144,13 +158,8 @@ pub fn smallest_spend() -> Scene {
         bytes: vec![0xaa],
     };
     let lock = encode_witness(OP_SPEND, SEQUENCE, &[proof]).expect("a valid witness lock");
-    let args = account_lock_args(&ACCOUNT_ID);
-    let state = Cell {
-        type_hash: Some(ACCOUNT_ID),
-        data_hash: [0x55; 32],
-        type_script: Some(vec![0x44]),
-        data: smallest_state(),
-    };
+    let args = account_lock_args(&ckb_hash(SMALLEST_TYPE_SCRIPT));
+    let state = cell(Some(SMALLEST_TYPE_SCRIPT.to_vec()), smallest_state());
     Scene {
         script: table(&[&[], &[], &byte_vector(&args)]),
         inputs: vec![input(true, 0, plain_cell())],

@@ -1,5 +1,6 @@
-//! The originals over their stubs, on scenes whose answers are known.
+//! The originals over their stubs, and the test of hashes, on scenes whose answers are known.
 
+use crate::cell_hashes::{first_difference, Difference, Of, Place};
 use crate::hex::{hex, Hex};
 use crate::original::{self, Outcome};
 use crate::report::Report;
@@ -18,7 +19,7 @@ fn sighash(scene: &Scene) -> [u8; 32] {
 }
 
 fn digest(scene: &Scene, operation: u8) -> [u8; 32] {
-    let (id, sequence) = (samples::ACCOUNT_ID, samples::SEQUENCE);
+    let (id, sequence) = (samples::account_id(), samples::SEQUENCE);
     let state = samples::state(sequence);
     authorization_digest(operation, &id, sequence, &state, &sighash(scene)).expect("an operation")
 }
@@ -93,7 +94,7 @@ fn opened_functions(report: &mut Report) {
     let expected = Ok(sighash(&scene));
     report.compare(name, 0, || "sample's sighash".into(), &result, &expected);
     let args = opened::script_args(&scene.script);
-    let expected = ckb_account_host::account_lock_args(&samples::ACCOUNT_ID);
+    let expected = ckb_account_host::account_lock_args(&samples::account_id());
     report.compare(
         name,
         0,
@@ -113,10 +114,76 @@ fn host_hash(report: &mut Report) {
     }
 }
 
+/// Changes of a sample, each with the hash that differs first after it.
+type Edit = (&'static str, fn(&mut Scene), Option<(Place, Of)>);
+const EDITS: [Edit; 9] = [
+    ("no edit", |_| {}, None),
+    ("any hashes that are believed", believed, None),
+    (
+        "data of a foreign input",
+        |scene| scene.inputs[0].cell.data.push(1),
+        Some((Place::ForeignInput, Of::Data)),
+    ),
+    (
+        "data of an input of the group",
+        |scene| scene.inputs[1].cell.data.push(1),
+        Some((Place::GroupInput, Of::Data)),
+    ),
+    (
+        "data of an output",
+        |scene| scene.outputs[0].data.push(1),
+        Some((Place::Output, Of::Data)),
+    ),
+    (
+        "type script of the state's dep",
+        |scene| scene.deps[0].type_script = Some(vec![1]),
+        Some((Place::Dep, Of::Type)),
+    ),
+    (
+        "data of the verifier's dep",
+        |scene| scene.deps[1].data.push(1),
+        Some((Place::Dep, Of::Data)),
+    ),
+    (
+        "both hashes of the state's dep",
+        |scene| {
+            scene.deps[0].data_hash = [1; 32];
+            scene.deps[0].type_hash = Some([1; 32]);
+        },
+        Some((Place::Dep, Of::Type)),
+    ),
+    (
+        "a dep's type hash and an output's data",
+        |scene| {
+            scene.deps[0].type_hash = Some([1; 32]);
+            scene.outputs[0].data.push(1);
+        },
+        Some((Place::Output, Of::Data)),
+    ),
+];
+
+/// The transaction's hash, and data hashes of cells without data.
+fn believed(scene: &mut Scene) {
+    scene.tx_hash = [1; 32];
+    scene.inputs[0].cell.data_hash = [1; 32];
+    scene.outputs[0].data_hash = [1; 32];
+}
+
+fn differences(report: &mut Report) {
+    for (input, edit, found) in EDITS {
+        let mut scene = samples::spend();
+        edit(&mut scene);
+        let expected = found.map(|(place, of)| Difference { place, of });
+        let result = first_difference(&scene);
+        report.compare("test of hashes", 0, || input.into(), &result, &expected);
+    }
+}
+
 pub fn run(report: &mut Report) {
     verdicts(report);
     consumed(report);
     recovery(report);
     opened_functions(report);
     host_hash(report);
+    differences(report);
 }

@@ -1,4 +1,4 @@
-//! What a run of the lock leaves: by the original, and by the port.
+//! What a run of the lock leaves: by what it is measured by, and by the port.
 
 use crate::hex::Hex;
 use crate::lent::Lent;
@@ -46,7 +46,7 @@ pub fn fill(outcome: &Outcome, buffer: &mut [u8]) -> (u32, u64, u64) {
 }
 
 impl Answer {
-    /// What the original's run means for an answer buffer of this length.
+    /// What an outcome means for an answer buffer of this length.
     pub fn expected(outcome: &Outcome, buffer_len: usize) -> Self {
         let mut buffer = BEFORE[..buffer_len].to_vec();
         let (number, count, length) = fill(outcome, &mut buffer);

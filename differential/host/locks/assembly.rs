@@ -3,6 +3,8 @@
 use super::plan::Plan;
 use crate::formats::{states, witnesses};
 use crate::prng::Prng;
+use crate::true_hashes;
+use blake2b::ckb_hash;
 use ckb_std::{Cell, Input, Scene};
 use ckb_types::molecule::{byte_vector, table};
 
@@ -19,7 +21,7 @@ pub struct Bytes {
 
 pub fn bytes(plan: &Plan) -> Bytes {
     Bytes {
-        args: [&[1], &plan.id[..]].concat(),
+        args: [&[1], &plan.id()[..]].concat(),
         lock: witnesses::layout(&plan.lock),
         state: states::layout(&plan.state),
         successor: states::layout(&plan.successor),
@@ -38,21 +40,25 @@ fn some_bytes(prng: &mut Prng) -> Vec<u8> {
 /// A cell that plays no part, with a type script or without.
 pub fn plain_cell(prng: &mut Prng) -> Cell {
     let typed = prng.up_to(3) == 0;
-    Cell {
-        type_hash: typed.then(|| hash(prng)),
-        data_hash: hash(prng),
-        type_script: typed.then(|| prng.bytes(3)),
-        data: some_bytes(prng),
-    }
+    let script = typed.then(|| prng.bytes(3));
+    let data = some_bytes(prng);
+    cell(prng, script, data)
 }
 
-pub fn typed_cell(prng: &mut Prng, type_hash: [u8; 32], script: &[u8], data: Vec<u8>) -> Cell {
-    Cell {
-        type_hash: Some(type_hash),
+/// A cell with true hashes; without data, with any data hash.
+fn cell(prng: &mut Prng, type_script: Option<Vec<u8>>, data: Vec<u8>) -> Cell {
+    let mut cell = Cell {
+        type_hash: None,
         data_hash: hash(prng),
-        type_script: Some(script.to_vec()),
+        type_script,
         data,
-    }
+    };
+    true_hashes::of_cell(&mut cell);
+    cell
+}
+
+pub fn typed_cell(prng: &mut Prng, script: &[u8], data: Vec<u8>) -> Cell {
+    cell(prng, Some(script.to_vec()), data)
 }
 
 pub fn plain_input(prng: &mut Prng, group: bool) -> Input {
@@ -72,6 +78,23 @@ fn script(args: &[u8]) -> Vec<u8> {
     table(&[&[0x44; 32], &[1], &byte_vector(args)])
 }
 
+/// The dep that a name of a verifier finds: its program is the data, or the type script. A data hash of no program is that of
+/// a dep without data; a type hash of no program finds nothing.
+fn verifier(prng: &mut Prng, plan: &Plan, hash_type: u8, code_hash: [u8; 32]) -> Option<Cell> {
+    let mut programs = plan.programs.iter().chain([&plan.type_script]);
+    let program = programs.find(|program| ckb_hash(program) == code_hash);
+    if hash_type == 1 {
+        return program.map(|program| typed_cell(prng, program, vec![]));
+    }
+    let mut cell = Cell {
+        data_hash: code_hash,
+        data: program.cloned().unwrap_or_default(),
+        ..plain_cell(prng)
+    };
+    true_hashes::of_cell(&mut cell);
+    Some(cell)
+}
+
 /// A dep for each verifier that the state names, except its own cell.
 fn verifiers(prng: &mut Prng, plan: &Plan) -> Vec<Cell> {
     let entries = plan.state.authenticators.iter();
@@ -80,15 +103,9 @@ fn verifiers(prng: &mut Prng, plan: &Plan) -> Vec<Cell> {
         .collect();
     named.sort();
     named.dedup();
-    named.retain(|name| plan.lock.operation != 1 || *name != (1, plan.id));
-    let mut cell = |(hash_type, code_hash)| match hash_type {
-        0 => Cell {
-            data_hash: code_hash,
-            ..plain_cell(prng)
-        },
-        _ => typed_cell(prng, code_hash, &[7], vec![]),
-    };
-    named.into_iter().map(&mut cell).collect()
+    named.retain(|name| plan.lock.operation != 1 || *name != (1, plan.id()));
+    let cell = |(hash_type, code_hash)| verifier(prng, plan, hash_type, code_hash);
+    named.into_iter().filter_map(cell).collect()
 }
 
 /// An input of the group, and up to `most` others around it.
@@ -127,15 +144,14 @@ pub fn scene(prng: &mut Prng, plan: &Plan, bytes: Bytes) -> Scene {
     let mut inputs = inputs(prng, most);
     let mut outputs: Vec<Cell> = (0..prng.up_to(most)).map(|_| plain_cell(prng)).collect();
     let mut deps = verifiers(prng, plan);
-    let type_script = [&[9], &some_bytes(prng)[..]].concat();
-    let state = typed_cell(prng, plan.id, &type_script, bytes.state);
+    let state = typed_cell(prng, &plan.type_script, bytes.state);
     if plan.lock.operation == 1 {
         insert(prng, &mut deps, state);
     } else {
         let place = prng.up_to(inputs.len() - 1);
         inputs[place].cell = state;
         inputs[place].since = plan.since;
-        let successor = typed_cell(prng, plan.id, &type_script, bytes.successor);
+        let successor = typed_cell(prng, &plan.type_script, bytes.successor);
         insert(prng, &mut outputs, successor);
     }
     for _ in 0..prng.up_to(most) {

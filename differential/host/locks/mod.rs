@@ -1,4 +1,4 @@
-//! The lock beside the original's, over scenes that the reader accepts.
+//! The lock beside the test of hashes and the original's lock, over scenes that the reader accepts.
 
 pub mod answer;
 mod assembly;
@@ -10,9 +10,10 @@ mod runs;
 pub mod sample_files;
 mod tables;
 
+use crate::cell_hashes::Difference;
 use crate::prng::Prng;
 use crate::report::Report;
-use faults::{build, damage, rows, Fault, Row};
+use faults::{any_hash, build, damage, rows, Fault, Row};
 use plan::Plan;
 use runs::Runs;
 use std::collections::BTreeMap;
@@ -26,11 +27,11 @@ const LONG_TURNS: usize = 7;
 /// How often each number is met at least.
 const LEAST: usize = 20;
 /// The numbers that the lock can give.
-const NUMBERS: [u32; 21] = [
-    0, 5, 7, 20, 21, 22, 23, 24, 25, 26, 27, 28, 29, 30, 31, 32, 33, 34, 35, 38, 39,
+const NUMBERS: [u32; 22] = [
+    0, 5, 7, 20, 21, 22, 23, 24, 25, 26, 27, 28, 29, 30, 31, 32, 33, 34, 35, 38, 39, 40,
 ];
 
-/// Each row of document 01's table, on plans that are accepted without it.
+/// Each row of the documents' table, on plans that are accepted without it.
 fn each_row(runs: &mut Runs, rows: &[Row]) {
     for row in rows {
         let turns = if row.long { LONG_TURNS } else { TURNS };
@@ -105,6 +106,10 @@ fn short_buffers(runs: &mut Runs) {
         let plan = Plan::random(&mut runs.prng);
         let scene = build(&mut runs.prng, plan, &[]);
         runs.every_buffer(&scene);
+        let plan = Plan::random(&mut runs.prng);
+        let hash = any_hash(&mut runs.prng);
+        let scene = build(&mut runs.prng, plan, &[hash]);
+        runs.every_buffer(&scene);
     }
 }
 
@@ -119,4 +124,6 @@ pub fn run(report: &mut Report, long: bool) {
     tables::run(&mut runs);
     room::run(&mut runs);
     report.expect_each("lock", &NUMBERS, LEAST);
+    let differences: Vec<&str> = Difference::all().map(Difference::name).collect();
+    report.expect_met(&differences, LEAST);
 }

@@ -3,10 +3,14 @@
 use crate::formats::states;
 use crate::formats::witnesses::Witness;
 use crate::prng::Prng;
+use blake2b::ckb_hash;
 use ckb_account_host::{AccountState, Proof};
 
 pub struct Plan {
-    pub id: [u8; 32],
+    /// The type script of the cell that holds the state. Its hash is the account's id.
+    pub type_script: Vec<u8>,
+    /// What verifiers' code hashes are the hashes of.
+    pub programs: Vec<Vec<u8>>,
     pub state: AccountState,
     /// What a rotation or a recovery leaves.
     pub successor: AccountState,
@@ -43,6 +47,21 @@ fn share_verifiers(state: &mut AccountState) {
     }
 }
 
+/// Gives verifiers programs, made of the code hashes that are there, and the programs' hashes as code hashes. One of four
+/// that are found by data hash has none: any hash is believed of a dep without data.
+fn programs(state: &mut AccountState) -> Vec<Vec<u8>> {
+    let mut programs = Vec::new();
+    for auth in &mut state.authenticators {
+        let bytes = auth.verifier_code_hash;
+        if auth.verifier_hash_type == 1 || bytes[31] % 4 != 0 {
+            let program = bytes[..5 + usize::from(bytes[0] % 8)].to_vec();
+            auth.verifier_code_hash = ckb_hash(&program);
+            programs.push(program);
+        }
+    }
+    programs
+}
+
 /// Mostly one entry, at times up to 16.
 fn entries(prng: &mut Prng) -> usize {
     match prng.up_to(9) {
@@ -54,7 +73,8 @@ fn entries(prng: &mut Prng) -> usize {
 
 impl Plan {
     /// Every entry with the capability gives a proof, and each is approved.
-    pub fn of_state(prng: &mut Prng, operation: u8, state: AccountState) -> Self {
+    pub fn of_state(prng: &mut Prng, operation: u8, mut state: AccountState) -> Self {
+        let programs = programs(&mut state);
         let bit = capability(operation);
         let mut proofs = Vec::new();
         for auth in &state.authenticators {
@@ -68,8 +88,10 @@ impl Plan {
         let mut successor = states::valid(prng, count);
         successor.sequence = state.sequence.wrapping_add(1);
         let later = [0, 1, prng.next()][prng.up_to(2)];
+        let length = prng.up_to(12);
         Plan {
-            id: prng.bytes(32).try_into().expect("32 bytes"),
+            type_script: [&[9], &prng.bytes(length)[..]].concat(),
+            programs,
             successor,
             verdicts: vec![0; proofs.len()],
             lock: Witness {
@@ -80,6 +102,11 @@ impl Plan {
             since: state.recovery_since.saturating_add(later),
             state,
         }
+    }
+
+    /// The account's id.
+    pub fn id(&self) -> [u8; 32] {
+        ckb_hash(&self.type_script)
     }
 
     /// A plan that the lock accepts.

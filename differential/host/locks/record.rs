@@ -1,10 +1,11 @@
-//! A sample of scenes with the original's answers, for a program that replays them with no Rust at hand. Each record is
-//! the scene's length in decimal on a line of its own, the scene, and the answer line.
+//! A sample of scenes with the answers that the lock is measured by, for a program that replays them with no Rust at hand.
+//! Each record is the scene's length in decimal on a line of its own, the scene, and the answer line.
 
 use super::faults::{build, rows, Fault, Row};
 use super::plan::Plan;
 use super::{by_number, random_faults};
-use crate::original::{self, Outcome};
+use crate::measure;
+use crate::original::Outcome;
 use crate::prng::Prng;
 use crate::scene_text::text;
 use ckb_std::Scene;
@@ -39,7 +40,7 @@ pub fn answer_line(outcome: &Outcome) -> String {
     )
 }
 
-/// A scene, and the number and the line of the original's answer.
+/// A scene, and the number and the line of its answer.
 pub struct Record {
     pub text: Vec<u8>,
     pub number: i8,
@@ -48,7 +49,7 @@ pub struct Record {
 
 impl Record {
     fn new(scene: &Scene) -> Record {
-        let outcome = original::lock(scene);
+        let outcome = measure::lock(scene);
         Record {
             text: text(scene),
             number: outcome.number,

@@ -1,7 +1,7 @@
 //! The buffer for the lock's answer: too short for it, just as long, and longer.
 
 use super::answer::{Answer, ENOUGH};
-use super::faults::build;
+use super::faults::{any_hash, build};
 use super::plan::Plan;
 use super::runs::Runs;
 use crate::hex::Hex;
@@ -103,9 +103,11 @@ fn every_length(runs: &mut Runs, text: &[u8]) {
 }
 
 pub fn run(runs: &mut Runs) {
-    for _ in 0..SCENES {
+    for turn in 0..SCENES {
         let plan = Plan::random(&mut runs.prng);
-        let scene = build(&mut runs.prng, plan, &[]);
+        let hash = any_hash(&mut runs.prng);
+        let faults = if turn % 5 == 0 { &[hash][..] } else { &[] };
+        let scene = build(&mut runs.prng, plan, faults);
         every_length(runs, &text(&scene));
     }
 }

@@ -1,9 +1,11 @@
-//! Runs of the port's lock, compared with the original's.
+//! Runs of the port's lock, compared with what it is measured by.
 
 use super::answer::{Answer, ENOUGH};
+use crate::cell_hashes::first_difference;
 use crate::hex::Hex;
 use crate::lent::Lent;
-use crate::original::{self, Outcome};
+use crate::measure;
+use crate::original::Outcome;
 use crate::prng::Prng;
 use crate::report::Report;
 use crate::scene::ENTRIES;
@@ -58,14 +60,22 @@ impl Runs<'_> {
         lent
     }
 
-    /// A scene of which document 01 says the number, and maybe how many requests were made and whether there is a digest.
+    /// What the lock has to answer. A hash that differs is counted by its place.
+    fn measure(&mut self, scene: &Scene) -> Outcome {
+        if let Some(difference) = first_difference(scene) {
+            self.report.meet(difference.name());
+        }
+        measure::lock(scene)
+    }
+
+    /// A scene of which the documents say the number, and maybe how many requests were made and whether there is a digest.
     pub fn expect(&mut self, name: &str, scene: &Scene, number: i8, made: Option<(usize, bool)>) {
-        let outcome = original::lock(scene);
+        let outcome = self.measure(scene);
         let text = text(scene);
         let found = (outcome.requests.len(), outcome.digest.is_some());
         let result = (outcome.number, made.map(|_| found));
         let input = || format!("{name}, {}", describe(&text, ENOUGH));
-        let rows = "original by document 01's rows";
+        let rows = "measure by the documents' rows";
         self.report
             .compare(rows, text.len(), input, &result, &(number, made));
         let lent = self.read(&text);
@@ -94,7 +104,7 @@ impl Runs<'_> {
 
     /// A scene, with some answer buffer, and a store that may be longer than the scene's bytes.
     pub fn any(&mut self, scene: &Scene) {
-        let outcome = original::lock(scene);
+        let outcome = self.measure(scene);
         let text = text(scene);
         let mut lent = self.read(&text);
         let spare = [0, 0, 0, 40][self.prng.up_to(3)];
@@ -105,7 +115,7 @@ impl Runs<'_> {
 
     /// A scene, with answer buffers at and around the end of each request.
     pub fn every_buffer(&mut self, scene: &Scene) {
-        let outcome = original::lock(scene);
+        let outcome = self.measure(scene);
         let text = text(scene);
         let lent = self.read(&text);
         let mut end = 0;
@@ -119,10 +129,10 @@ impl Runs<'_> {
         }
     }
 
-    /// Any table and store: 7, or what the original says of the scene that they hold.
+    /// Any table and store: 7, or the answer to the scene that they hold.
     pub fn lent(&mut self, lent: &Lent) {
         let expected = match table::valid(&lent.table, lent.store.len()) {
-            true => Answer::expected(&original::lock(&lent.scene()), LENT),
+            true => Answer::expected(&self.measure(&lent.scene()), LENT),
             false => Answer::no_table(LENT),
         };
         let input = || format!("store of {}, table {:?}", lent.store.len(), lent.table);

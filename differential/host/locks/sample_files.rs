@@ -8,7 +8,7 @@ use super::record::answer_line;
 use crate::prng::Prng;
 use crate::samples::smallest_spend;
 use crate::scene::{self, ENTRIES};
-use crate::{original, scene_text};
+use crate::{measure, scene_text, true_hashes};
 use ckb_std::{Cell, Scene};
 use std::{fs, io};
 
@@ -19,7 +19,7 @@ const LONG_PROOF: usize = 31_000;
 
 /// Names, operations and rows.
 const ACCEPTED: [(&str, u8); 3] = [("spend_two_proofs", 1), ("rotation", 2), ("recovery", 3)];
-const REFUSED: [(&str, u8, &str); 17] = [
+const REFUSED: [(&str, u8, &str); 18] = [
     ("20_invalid_args", 1, "args of 32 bytes"),
     ("21_invalid_state", 1, "state has weight 0"),
     ("22_invalid_witness", 1, "second proof's zeros"),
@@ -41,6 +41,7 @@ const REFUSED: [(&str, u8, &str); 17] = [
         1,
         "state has spend threshold 0",
     ),
+    ("40_hash_mismatch", 1, "state's type script edited"),
 ];
 
 /// Makes the text just as long as the program reads, by the data of a dep that plays no part. A spend does not test the
@@ -59,6 +60,7 @@ fn fill(scene: &mut Scene) {
     }
     let rest = LONGEST - scene_text::text(scene).len();
     scene.deps.last_mut().expect("a dep").data = vec![0; rest / 2];
+    true_hashes::of_scene(scene);
 }
 
 struct Samples<'a> {
@@ -74,9 +76,9 @@ impl Samples<'_> {
         fs::write(format!("{}/{name}.scene", self.folder), text)
     }
 
-    /// A scene and the original's answer, which has this number.
+    /// A scene and its answer, which has this number.
     fn scene(&mut self, name: &str, scene: &Scene, number: i8) -> io::Result<()> {
-        let outcome = original::lock(scene);
+        let outcome = measure::lock(scene);
         assert_eq!(outcome.number, number, "{name}");
         self.write(name, &scene_text::text(scene), &answer_line(&outcome))
     }
@@ -89,7 +91,7 @@ impl Samples<'_> {
         self.scene(name, &scene, row.map_or(0, |row| row.number))
     }
 
-    /// A spend with a long proof that is as long as the program reads, and the original's answer.
+    /// A spend with a long proof that is as long as the program reads, and its answer.
     fn longest(&mut self) -> io::Result<()> {
         let mut plan = Plan::full(&mut self.prng, 1, 1);
         plan.lock.proofs[0].bytes = self.prng.bytes(LONG_PROOF);

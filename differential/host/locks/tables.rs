@@ -1,6 +1,6 @@
-//! The lock over damaged tables, short stores and other bytes.
+//! The lock over damaged tables, short stores and other bytes, some of them with a hash that differs too.
 
-use super::faults::build;
+use super::faults::{any_hash, build};
 use super::plan::Plan;
 use super::runs::Runs;
 use crate::changes;
@@ -8,6 +8,8 @@ use crate::lent::Lent;
 use crate::scene::ENTRIES;
 use crate::scene_text::text;
 use crate::scenes::tables::{any_counts, entries, other_values};
+use crate::table;
+use crate::true_hashes;
 
 /// How many scenes have their tables damaged in every entry.
 const TABLES: usize = 25;
@@ -36,13 +38,22 @@ fn shifted(runs: &mut Runs, lent: &Lent) {
     }
 }
 
-/// Any bytes of the store changed.
+/// Any bytes of the store changed, the hashes mostly being made true afterwards.
 fn bytes(runs: &mut Runs, lent: &Lent) {
     for _ in 0..400 {
         let mut copy = lent.clone();
         copy.store = changes::random(&mut runs.prng, &lent.store);
+        if runs.prng.up_to(7) > 0 {
+            copy = with_true_hashes(&copy);
+        }
         runs.lent(&copy);
     }
+}
+
+fn with_true_hashes(lent: &Lent) -> Lent {
+    let mut scene = lent.scene();
+    true_hashes::of_scene(&mut scene);
+    Lent::read(&text(&scene))
 }
 
 fn lengths(runs: &mut Runs, lent: &Lent) {
@@ -62,11 +73,17 @@ fn lengths(runs: &mut Runs, lent: &Lent) {
 pub fn run(runs: &mut Runs) {
     for (table, used) in any_counts() {
         let store = vec![0; used];
-        runs.lent(&Lent { store, table });
+        let lent = Lent { store, table };
+        runs.lent(&lent);
+        if table::valid(&lent.table, used) {
+            runs.lent(&with_true_hashes(&lent));
+        }
     }
-    for _ in 0..TABLES {
+    for turn in 0..TABLES {
         let plan = Plan::random(&mut runs.prng);
-        let scene = build(&mut runs.prng, plan, &[]);
+        let hash = any_hash(&mut runs.prng);
+        let faults = if turn % 5 == 0 { &[hash][..] } else { &[] };
+        let scene = build(&mut runs.prng, plan, faults);
         let lent = Lent::read(&text(&scene));
         damaged(runs, &lent);
         shifted(runs, &lent);

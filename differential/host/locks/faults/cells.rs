@@ -6,16 +6,18 @@ use crate::formats::states;
 use crate::locks::assembly::{fill, plain_input, typed_cell};
 use crate::locks::plan::Plan;
 use crate::prng::Prng;
+use crate::true_hashes;
 use ckb_std::{Cell, Input, Scene};
 
-const OTHER: [u8; 32] = [0xee; 32];
+/// A type script of another account.
+const OTHER: [u8; 5] = [0xee; 5];
 
 fn is_state(cell: &Cell, plan: &Plan) -> bool {
-    cell.type_hash == Some(plan.id)
+    cell.type_hash == Some(plan.id())
 }
 
 /// The cells with the account's type hash, among inputs, outputs and deps.
-fn state_cells<'a>(scene: &'a mut Scene, plan: &Plan) -> [Vec<&'a mut Cell>; 3] {
+pub fn state_cells<'a>(scene: &'a mut Scene, plan: &Plan) -> [Vec<&'a mut Cell>; 3] {
     let inputs = scene.inputs.iter_mut().map(|input| &mut input.cell);
     let keep = |cell: &&mut Cell| is_state(cell, plan);
     [
@@ -25,8 +27,14 @@ fn state_cells<'a>(scene: &'a mut Scene, plan: &Plan) -> [Vec<&'a mut Cell>; 3] 
     ]
 }
 
+/// Those among outputs.
+pub fn outputs<'a>(scene: &'a mut Scene, plan: &Plan) -> Vec<&'a mut Cell> {
+    let [_, outputs, _] = state_cells(scene, plan);
+    outputs
+}
+
 fn state_cell(plan: &Plan, prng: &mut Prng) -> Cell {
-    typed_cell(prng, plan.id, &[9], states::layout(&plan.state))
+    typed_cell(prng, &plan.type_script, states::layout(&plan.state))
 }
 
 fn push_input(scene: &mut Scene, plan: &Plan, prng: &mut Prng, group: bool) {
@@ -35,14 +43,17 @@ fn push_input(scene: &mut Scene, plan: &Plan, prng: &mut Prng, group: bool) {
     scene.inputs.push(Input { cell, ..input });
 }
 
-fn set_type_scripts(scene: &mut Scene, plan: &Plan, input: usize, output: usize) {
-    let [inputs, outputs, _] = state_cells(scene, plan);
-    for cell in inputs {
-        cell.type_script = Some(vec![9; input]);
+/// Other type scripts with their own hashes, so that the cells have not the account's.
+fn set_type_scripts(cells: Vec<&mut Cell>, script: &[u8]) {
+    for cell in cells {
+        cell.type_script = Some(script.to_vec());
+        true_hashes::of_cell(cell);
     }
-    for cell in outputs {
-        cell.type_script = Some(vec![9; output]);
-    }
+}
+
+/// A type script of this length.
+fn script_of(plan: &mut Plan, length: usize) {
+    plan.type_script = vec![9; length];
 }
 
 fn spend_rows() -> Vec<Row> {
@@ -72,8 +83,7 @@ fn spend_rows() -> Vec<Row> {
         }),
         on_scene(23, SPEND, "another account's dep", |scene, plan, _| {
             let [_, _, deps] = state_cells(scene, plan);
-            deps.into_iter()
-                .for_each(|cell| cell.type_hash = Some(OTHER));
+            set_type_scripts(deps, &OTHER);
         }),
         on_scene(24, SPEND, "two states among deps", |scene, plan, prng| {
             scene.deps.push(state_cell(plan, prng));
@@ -88,9 +98,7 @@ fn changing_rows() -> Vec<Row> {
     vec![
         on_scene(23, CHANGING, "no state among inputs", |scene, plan, _| {
             let [inputs, _, _] = state_cells(scene, plan);
-            inputs
-                .into_iter()
-                .for_each(|cell| cell.type_hash = Some(OTHER));
+            set_type_scripts(inputs, &OTHER);
         }),
         on_scene(
             24,
@@ -111,65 +119,50 @@ fn changing_rows() -> Vec<Row> {
                 scene.outputs.push(state_cell(plan, prng));
             },
         ),
-        on_scene(
+        on_plan(
             26,
             CHANGING,
             "no output, input's type script of 513",
-            |scene, plan, _| {
-                set_type_scripts(scene, plan, 513, 513);
-                scene.outputs.retain(|cell| !is_state(cell, plan));
-            },
-        ),
+            |plan, _| script_of(plan, 513),
+        )
+        .and(Fault::Scene(|scene, plan, _| {
+            scene.outputs.retain(|cell| !is_state(cell, plan));
+        })),
         on_scene(0, CHANGING, "id among deps", |scene, plan, prng| {
             scene.deps.push(state_cell(plan, prng));
         }),
     ]
 }
 
+/// Another type script of the output is that of another account, whatever its length.
 fn type_script_rows() -> Vec<Row> {
     vec![
-        on_scene(0, CHANGING, "type scripts of 512", |scene, plan, _| {
-            set_type_scripts(scene, plan, 512, 512);
+        on_plan(0, CHANGING, "type scripts of 512", |plan, _| {
+            script_of(plan, 512)
         }),
-        on_scene(21, CHANGING, "type scripts of 513", |scene, plan, _| {
-            set_type_scripts(scene, plan, 513, 513);
+        on_plan(21, CHANGING, "type scripts of 513", |plan, _| {
+            script_of(plan, 513)
         }),
-        on_scene(
-            21,
-            CHANGING,
-            "input's type script of 513",
-            |scene, plan, _| {
-                set_type_scripts(scene, plan, 513, 512);
-            },
-        ),
-        on_scene(
-            21,
-            CHANGING,
-            "output's type script of 513",
-            |scene, plan, _| {
-                set_type_scripts(scene, plan, 512, 513);
-            },
-        ),
-        on_scene(
-            26,
-            CHANGING,
-            "type scripts of 511 and 512",
-            |scene, plan, _| {
-                set_type_scripts(scene, plan, 511, 512);
-            },
-        ),
+        on_plan(26, CHANGING, "type scripts of 513 and 512", |plan, _| {
+            script_of(plan, 513)
+        })
+        .and(Fault::Scene(|scene, plan, _| {
+            set_type_scripts(outputs(scene, plan), &[9; 512]);
+        })),
+        on_plan(26, CHANGING, "type scripts of 512 and 513", |plan, _| {
+            script_of(plan, 512)
+        })
+        .and(Fault::Scene(|scene, plan, _| {
+            set_type_scripts(outputs(scene, plan), &[9; 513]);
+        })),
         on_scene(
             26,
             CHANGING,
             "type scripts differing in a byte",
             |scene, plan, _| {
-                set_type_scripts(scene, plan, 300, 300);
-                let [_, outputs, _] = state_cells(scene, plan);
-                for cell in outputs {
-                    cell.type_script
-                        .iter_mut()
-                        .for_each(|script| set(script, 299, 8));
-                }
+                let mut script = plan.type_script.clone();
+                set(&mut script, 0, 8);
+                set_type_scripts(outputs(scene, plan), &script);
             },
         ),
     ]

@@ -1,7 +1,9 @@
-//! Faults, and what document 01 says of each, row by row of its table "Where each refusal is raised". A row with
-//! number 0 is a limit that still passes.
+//! Faults, and what document 01 says of each, row by row of its table "Where each refusal is raised", with the row that
+//! change 1 of document 02 puts into it. A row with number 0 is a limit that still passes.
 
 mod cells;
+mod hash_changes;
+mod hashes;
 mod parts;
 mod proofs;
 mod requests;
@@ -10,11 +12,13 @@ mod states;
 mod transition;
 mod witness;
 
-use super::assembly::{self, first_group, Bytes};
+use super::assembly::{self, first_group, plain_cell, plain_input, Bytes};
 use super::plan::Plan;
+use crate::cell_hashes::Place;
 use crate::prng::Prng;
-use ckb_std::Scene;
+use ckb_std::{Cell, Scene};
 
+pub use hashes::any as any_hash;
 pub use parts::damage;
 
 /// A part of the scene that has bytes of its own.
@@ -31,12 +35,17 @@ pub enum Part {
 type OnPlan = fn(&mut Plan, &mut Prng);
 type OnBytes = fn(&mut Vec<u8>, &mut Prng);
 type OnScene = fn(&mut Scene, &Plan, &mut Prng);
+type OnCell = fn(&mut Cell, &mut Prng);
 
 #[derive(Clone, Copy)]
 pub enum Fault {
     Plan(OnPlan),
     Bytes(Part, OnBytes),
     Scene(OnScene),
+    /// Of any cell that stands there; a plain one is added where there is none.
+    Cell(Place, OnCell),
+    /// Of a plain cell that is added there.
+    NewCell(Place, OnCell),
 }
 
 /// Faults that are made together, and the lock's number for them.
@@ -122,6 +131,7 @@ pub fn rows() -> Vec<Row> {
     rows.extend(cells::rows());
     rows.extend(states::rows());
     rows.extend(transition::rows());
+    rows.extend(hashes::rows());
     // These come before the digest.
     for row in rows.iter_mut().filter(|row| row.number != 0) {
         row.made = Some(Made::Nothing);
@@ -152,6 +162,44 @@ fn scene_part(scene: &mut Scene, part: Part) -> Option<&mut Vec<u8>> {
     }
 }
 
+/// A plain cell, behind the others of its kind.
+fn new_cell<'a>(scene: &'a mut Scene, place: Place, prng: &mut Prng) -> &'a mut Cell {
+    let cells = match place {
+        Place::Output => &mut scene.outputs,
+        Place::Dep => &mut scene.deps,
+        Place::GroupInput | Place::ForeignInput => {
+            scene
+                .inputs
+                .push(plain_input(prng, place == Place::GroupInput));
+            let input = scene.inputs.last_mut().expect("an input");
+            return &mut input.cell;
+        }
+    };
+    cells.push(plain_cell(prng));
+    cells.last_mut().expect("a cell")
+}
+
+fn cells(scene: &mut Scene, place: Place) -> Vec<&mut Cell> {
+    let group = place == Place::GroupInput;
+    match place {
+        Place::Output => scene.outputs.iter_mut().collect(),
+        Place::Dep => scene.deps.iter_mut().collect(),
+        Place::GroupInput | Place::ForeignInput => {
+            let inputs = scene.inputs.iter_mut();
+            let there = inputs.filter(|input| input.group == group);
+            there.map(|input| &mut input.cell).collect()
+        }
+    }
+}
+
+fn any_cell<'a>(scene: &'a mut Scene, place: Place, prng: &mut Prng) -> &'a mut Cell {
+    if cells(scene, place).is_empty() {
+        new_cell(scene, place, prng);
+    }
+    let mut cells = cells(scene, place);
+    cells.swap_remove(prng.up_to(cells.len() - 1))
+}
+
 /// The scene of a plan, each fault made as soon as what it changes is there.
 pub fn build(prng: &mut Prng, mut plan: Plan, faults: &[Fault]) -> Scene {
     for fault in faults {
@@ -171,6 +219,8 @@ pub fn build(prng: &mut Prng, mut plan: Plan, faults: &[Fault]) -> Scene {
     for fault in faults {
         match fault {
             Fault::Plan(_) => {}
+            Fault::Cell(place, change) => change(any_cell(&mut scene, *place, prng), prng),
+            Fault::NewCell(place, change) => change(new_cell(&mut scene, *place, prng), prng),
             Fault::Bytes(part, change) => {
                 let part = scene_part(&mut scene, *part);
                 part.into_iter().for_each(|bytes| change(bytes, prng));

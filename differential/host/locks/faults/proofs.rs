@@ -5,8 +5,10 @@ use super::Made::{AllBut, Requests};
 use super::{on_plan, on_scene, row, Fault, Part, Row, ALL, SPEND};
 use crate::locks::assembly::fill;
 use crate::locks::plan::{capability, Plan};
+use crate::true_hashes;
 use ckb_account_host::Proof;
 use ckb_std::{Cell, Scene};
+use std::mem::take;
 
 const NO_SLOT: u16 = 65_535;
 
@@ -134,7 +136,7 @@ fn slot_rows() -> Vec<Row> {
 }
 
 /// Whether a dep is the first entry's verifier.
-fn is_verifier(cell: &Cell, plan: &Plan) -> bool {
+pub fn is_verifier(cell: &Cell, plan: &Plan) -> bool {
     let auth = &plan.state.authenticators[0];
     match auth.verifier_hash_type {
         0 => cell.data_hash == auth.verifier_code_hash,
@@ -147,13 +149,14 @@ fn verifier(scene: &Scene, plan: &Plan) -> Option<Cell> {
     cell.cloned()
 }
 
-/// The first entry's verifier, named by the other hash.
-fn swap_hashes(scene: &mut Scene, plan: &Plan) {
+/// The first entry's verifier, named by the other hash: its type script becomes its data, and its data its type script.
+fn swap_parts(scene: &mut Scene, plan: &Plan) {
     for cell in scene.deps.iter_mut().filter(|cell| is_verifier(cell, plan)) {
-        let data_hash = cell.data_hash;
-        cell.data_hash = cell.type_hash.unwrap_or([0xdd; 32]);
-        cell.type_hash = Some(data_hash);
-        cell.type_script = Some(vec![7]);
+        let data = take(&mut cell.data);
+        cell.data = cell.type_script.take().unwrap_or_default();
+        cell.type_script = (!data.is_empty()).then_some(data);
+        cell.data_hash = [0xdd; 32];
+        true_hashes::of_cell(cell);
     }
 }
 
@@ -175,7 +178,7 @@ fn verifier_rows() -> Vec<Row> {
             ALL,
             "verifier named by the other hash",
             |scene, plan, _| {
-                swap_hashes(scene, plan);
+                swap_parts(scene, plan);
             },
         )
         .made(Requests(0)),
@@ -206,9 +209,10 @@ fn verifier_rows() -> Vec<Row> {
         })
         .made(AllBut(0)),
         on_plan(0, SPEND, "the state's cell is its verifier", |plan, _| {
+            let id = plan.id();
             for auth in &mut plan.state.authenticators {
                 auth.verifier_hash_type = 1;
-                auth.verifier_code_hash = plan.id;
+                auth.verifier_code_hash = id;
             }
         })
         .made(AllBut(0)),

@@ -19,13 +19,13 @@ pub fn rows() -> Vec<Row> {
         .collect();
     rows.extend([
         on_scene(0, ALL, "script of 512 bytes", |scene, plan, _| {
-            scene.script = of_length(512, &plan.id);
+            scene.script = of_length(512, &plan.id());
         }),
         on_scene(20, ALL, "script of 513 bytes", |scene, plan, _| {
-            scene.script = of_length(513, &plan.id);
+            scene.script = of_length(513, &plan.id());
         }),
         on_scene(0, ALL, "script with two empty fields", |scene, plan, _| {
-            let args = byte_vector(&[&[1], &plan.id[..]].concat());
+            let args = byte_vector(&[&[1], &plan.id()[..]].concat());
             scene.script = table(&[&[], &[], &args]);
         }),
         on_scene(20, ALL, "args field of three bytes", |scene, _, _| {

@@ -103,7 +103,7 @@ fn recovery_rows() -> Vec<Row> {
         )
         .and(Fault::Scene(|scene, plan, _| {
             for input in &mut scene.inputs {
-                let state = input.cell.type_hash == Some(plan.id);
+                let state = input.cell.type_hash == Some(plan.id());
                 input.since = if state { 5 } else { 2_000 };
             }
         })),
@@ -112,7 +112,7 @@ fn recovery_rows() -> Vec<Row> {
         })
         .and(Fault::Scene(|scene, plan, _| {
             for input in &mut scene.inputs {
-                let state = input.cell.type_hash == Some(plan.id);
+                let state = input.cell.type_hash == Some(plan.id());
                 input.since = if state { 1_000 } else { 0 };
             }
         })),

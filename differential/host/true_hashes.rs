@@ -1,0 +1,17 @@
+//! Cells and scenes whose hashes are CKB's.
+
+use ckb_std::{Cell, Scene};
+
+/// Gives a cell the hashes of its type script and of its data. Without data its data hash stays: it may be any.
+pub fn of_cell(cell: &mut Cell) {
+    cell.type_hash = cell.type_script.as_deref().map(blake2b::ckb_hash);
+    if !cell.data.is_empty() {
+        cell.data_hash = blake2b::ckb_hash(&cell.data);
+    }
+}
+
+pub fn of_scene(scene: &mut Scene) {
+    let inputs = scene.inputs.iter_mut().map(|input| &mut input.cell);
+    let cells = inputs.chain(&mut scene.outputs).chain(&mut scene.deps);
+    cells.for_each(of_cell);
+}
