@@ -7,3 +7,4 @@ pub mod Numbers
 pub mod AnswerRoom
 pub mod Unsatisfied
 pub mod Real
+pub mod HashNumber

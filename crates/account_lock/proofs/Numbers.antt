@@ -16,7 +16,7 @@ use Rattle.protocol.specs.declared.error.ProtocolError.{ProtocolError}
 use Rattle.protocol.specs.declared.error.ProtocolError.the-variants.{BufferTooShort, SlicesDisagree, InvalidWitness, ThresholdUnsatisfied, InvalidCapability, InvalidVerifierRef, VerifierFailure, InvalidRequest, LengthOverflow}
 use Rattle.protocol.specs.declared.check.Check.{Check}
 use Rattle.protocol.specs.declared.check.Check.the-variants.{Passed, Failed}
-use Rattle.protocol.proofs.Each.{Each, Refuses, each-append, each-cond, each-refuses, each-failed}
+use Rattle.protocol.proofs.Each.{Each, Refuses, each-append, each-cond, each-more, each-refuses, each-failed}
 use Rattle.molecule.specs.Table3.{tableRows}
 use Rattle.molecule.specs.Bytes as molecule
 use Rattle.account_state.specs.Fields.{recoveryEnabled, entryLengthOf, entrySlotOf, entryCountOf}
@@ -37,119 +37,142 @@ use Rattle.decision.specs.Walk.{WalkOutcome, walkOutcome, verdict, approvedWeig
 use Rattle.account_lock.specs.Lock as lock
 use Rattle.account_lock.specs.Decides.{LockNumber}
 
--- a refusal behind the table's test, but for the lock's own 5. 01: "Error numbers are 20 to 39"; 02, change 1: 40
+-- 01: "Error numbers are 20 to 39": a refusal of the original
+abbrev pub Original : ProtocolError → Type 0
+Original e = (20 ≤ errorNumber e) × (errorNumber e ≤ 39)
+
+-- 02, change 1: "40 where a hash differs"
+abbrev pub Differs : ProtocolError → Type 0
+Differs e = errorNumber e ≡ 40
+
+-- either: a refusal behind the table's test, but for the lock's own 5
 abbrev pub Numbered : ProtocolError → Type 0
 Numbered e = (20 ≤ errorNumber e) × (errorNumber e ≤ 40)
 
--- ---- the rows before the proofs: each refusal is such, and none is 28
+-- ---- the rows before the proofs: those of the hashes give 40, each of the others a refusal of the original, and none 28
+
+abbrev pub Behind : ProtocolError → Type 0
+Behind e = Original e × (errorNumber e ≢ 28)
 
 abbrev pub Early : ProtocolError → Type 0
 Early e = Numbered e × (errorNumber e ≢ 28)
 
+behind-early : (e : ProtocolError) → Behind e → Early e
+behind-early e h = ((h .0 .0, omega (arith, h .0 .1)), h .1)
+
+differs-early : (e : ProtocolError) → Differs e → Early e
+differs-early e h = ((omega arith, omega arith), λ q. absurd (omega arith))
+
 -- a state's header
-head-early : (s : List ℕ) → Each Early (state.stateHeaderRows s)
+head-early : (s : List ℕ) → Each Behind (state.stateHeaderRows s)
 unfolding state.stateHeaderRows
 head-early s = search arith depth 20
 
 -- one of its entries
-entry-early : (e : List ℕ) (least : ℕ) → Each Early (state.entryRows e least)
+entry-early : (e : List ℕ) (least : ℕ) → Each Behind (state.entryRows e least)
 unfolding state.entryRows state.entryLayoutRows state.entryFieldRows
 entry-early e least = search arith depth 20
 
 -- its entries
-entries-early : (n : ℕ) (e : List ℕ) (least : ℕ) → Each Early (state.entriesRows n e least)
+entries-early : (n : ℕ) (e : List ℕ) (least : ℕ) → Each Behind (state.entriesRows n e least)
 unfolding state.entriesRows
 entries-early zero e least = tt
 entries-early (suc n) e least =
-    each-append Early (state.entryRows e least) _ (entry-early e least) (entries-early n (drop (entryLengthOf e) e) (entrySlotOf e + 1))
+    each-append Behind (state.entryRows e least) _ (entry-early e least) (entries-early n (drop (entryLengthOf e) e) (entrySlotOf e + 1))
 
 -- its recovery
-recovery-early : (flags threshold since weight : ℕ) → Each Early (state.recoveryThresholdRows flags threshold since weight)
+recovery-early : (flags threshold since weight : ℕ) → Each Behind (state.recoveryThresholdRows flags threshold since weight)
 unfolding state.recoveryThresholdRows
-recovery-early flags threshold since weight = each-cond Early (recoveryEnabled flags) _ _ (search arith) (search arith)
+recovery-early flags threshold since weight = each-cond Behind (recoveryEnabled flags) _ _ (search arith) (search arith)
 
 -- what follows its entries
-tail-early : (s : List ℕ) (n : ℕ) (e : List ℕ) → Each Early (state.stateTailRows s n e)
+tail-early : (s : List ℕ) (n : ℕ) (e : List ℕ) → Each Behind (state.stateTailRows s n e)
 unfolding state.stateTailRows state.stateEndRows state.thresholdRows
 tail-early s n e = search (arith, recovery-early) depth 12
 
 -- the whole state
-state-early : (s : List ℕ) → Each Early (state.stateRows s)
+state-early : (s : List ℕ) → Each Behind (state.stateRows s)
 unfolding state.stateRows
 state-early s =
-    each-append Early (state.stateHeaderRows s) _ (head-early s)
-    (each-append Early (state.entriesRows (entryCountOf s) (drop 32 s) 0) _ (entries-early _ _ 0) (tail-early s _ _))
+    each-append Behind (state.stateHeaderRows s) _ (head-early s)
+    (each-append Behind (state.entriesRows (entryCountOf s) (drop 32 s) 0) _ (entries-early _ _ 0) (tail-early s _ _))
 
 -- the script
-script-early : (script : List ℕ) → Each Early (lock.scriptRows script)
+script-early : (script : List ℕ) → Each Behind (lock.scriptRows script)
 unfolding lock.scriptRows molecule.scriptArgsRows tableRows molecule.bytesRows argsRows
 script-early script = search arith depth 20
 
 -- the first witness of the group
-group-early : (s : Scene) → Each Early (groupRows s)
+group-early : (s : Scene) → Each Behind (groupRows s)
 unfolding groupRows firstWitnessRows molecule.witnessLockRows tableRows molecule.bytesRows witnessHeaderRows countRows
 group-early s = search arith depth 30
 
 -- the other hashed witnesses
-other-early : (s : Scene) → Each Early (otherRows s)
+other-early : (s : Scene) → Each Behind (otherRows s)
 unfolding otherRows
 other-early s = search arith
 
 -- the cells of the state
-resolve-early : (operation : ℕ) (id : List ℕ) (s : Scene) → Each Early (resolve.resolveRows operation id s)
+resolve-early : (operation : ℕ) (id : List ℕ) (s : Scene) → Each Behind (resolve.resolveRows operation id s)
 unfolding resolve.resolveRows resolve.spendRows resolve.changeRows resolve.typeRows
 resolve-early operation id s =
-    each-cond Early (eqb operation 1) (resolve.spendRows id s) (resolve.changeRows id s) (search arith depth 12) (search arith depth 12)
+    each-cond Behind (eqb operation 1) (resolve.spendRows id s) (resolve.changeRows id s) (search arith depth 12) (search arith depth 12)
 
 -- the data of the current state and of its successor
-data-early : (current successor : List ℕ) → Each Early (transition.dataRows current successor)
+data-early : (current successor : List ℕ) → Each Behind (transition.dataRows current successor)
 unfolding transition.dataRows
 data-early current successor = search arith
 
 -- the current state and the witness sequence
-current-early : (sequence : ℕ) (current : List ℕ) → Each Early (transition.currentRows sequence current)
+current-early : (sequence : ℕ) (current : List ℕ) → Each Behind (transition.currentRows sequence current)
 unfolding transition.currentRows
-current-early sequence current = each-append Early (state.stateRows current) _ (state-early current) (search arith)
+current-early sequence current = each-append Behind (state.stateRows current) _ (state-early current) (search arith)
 
 -- the successor and the recovery
-change-early : (operation since : ℕ) (current successor : List ℕ) → Each Early (transition.successionRows operation since current successor)
+change-early : (operation since : ℕ) (current successor : List ℕ) → Each Behind (transition.successionRows operation since current successor)
 unfolding transition.successionRows transition.successorRows transition.recoveryRows
 change-early operation since current successor =
-    each-append Early (transition.successorRows current successor) _
-    (each-append Early (state.stateRows successor) _ (state-early successor) (search arith))
-    (each-cond Early (eqb operation 3) (transition.recoveryRows since current) [] (search arith) tt)
+    each-append Behind (transition.successorRows current successor) _
+    (each-append Behind (state.stateRows successor) _ (state-early successor) (search arith))
+    (each-cond Behind (eqb operation 3) (transition.recoveryRows since current) [] (search arith) tt)
 
 -- both states
 transition-early : (operation sequence since : ℕ) (current successor : List ℕ)
-    → Each Early (transition.transitionRows operation sequence since current successor)
+    → Each Behind (transition.transitionRows operation sequence since current successor)
 unfolding transition.transitionRows
 transition-early operation sequence since current successor =
-    each-append Early (transition.currentRows sequence current) _ (current-early sequence current)
-    (each-cond Early (eqb operation 1) [] (transition.successionRows operation since current successor) tt (change-early operation since current successor))
+    each-append Behind (transition.currentRows sequence current) _ (current-early sequence current)
+    (each-cond Behind (eqb operation 1) [] (transition.successionRows operation since current successor) tt (change-early operation since current successor))
+
+-- every row behind the hashes and before the proofs
+pub behind-each : (s : Scene) → Each Behind (lock.scriptRows (s .script) ++ (groupRows s ++ lock.lateRows s))
+unfolding lock.lateRows lock.statesRows
+behind-each s =
+    each-append Behind (lock.scriptRows (s .script)) _ (script-early (s .script))
+    (each-append Behind (groupRows s) _ (group-early s)
+    (each-append Behind (resolve.resolveRows (lock.operation s) (lock.account s) s) _ (resolve-early _ _ s)
+    (each-append Behind (lock.statesRows s) _
+    (each-append Behind (transition.dataRows (lock.current s) (lock.successor s)) _ (data-early _ _) (transition-early _ _ _ _ _))
+    (other-early s))))
 
 -- the hashes of the cells
-cells-early : (cells : List Cell) → Each Early (cellsHashRows cells)
+cells-differ : (cells : List Cell) → Each Differs (cellsHashRows cells)
 unfolding cellsHashRows cellHashRows
-cells-early [] = tt
-cells-early (c ∷ cs) = each-append Early (cellHashRows c) (cellsHashRows cs) (search arith depth 12) (cells-early cs)
+cells-differ [] = tt
+cells-differ (c ∷ cs) = (refl, (refl, cells-differ cs))
 
-hash-early : (s : Scene) → Each Early (hashRows s)
+pub hashes-differ : (s : Scene) → Each Differs (hashRows s)
 unfolding hashRows
-hash-early s =
-    each-append Early (cellsHashRows (cellsOf source.Input s)) _ (cells-early _)
-    (each-append Early (cellsHashRows (cellsOf source.Output s)) (cellsHashRows (cellsOf source.CellDep s)) (cells-early _) (cells-early _))
+hashes-differ s =
+    each-append Differs (cellsHashRows (cellsOf source.Input s)) _ (cells-differ _)
+    (each-append Differs (cellsHashRows (cellsOf source.Output s)) (cellsHashRows (cellsOf source.CellDep s)) (cells-differ _) (cells-differ _))
 
 -- every row before the proofs
 pub early-each : (s : Scene) → Each Early (lock.earlyRows s)
-unfolding lock.earlyRows lock.lateRows lock.statesRows
+unfolding lock.earlyRows
 early-each s =
-    each-append Early (hashRows s) _ (hash-early s)
-    (each-append Early (lock.scriptRows (s .script)) _ (script-early (s .script))
-    (each-append Early (groupRows s) _ (group-early s)
-    (each-append Early (resolve.resolveRows (lock.operation s) (lock.account s) s) _ (resolve-early _ _ s)
-    (each-append Early (lock.statesRows s) _
-    (each-append Early (transition.dataRows (lock.current s) (lock.successor s)) _ (data-early _ _) (transition-early _ _ _ _ _))
-    (other-early s)))))
+    each-append Early (hashRows s) _ (each-more Differs Early differs-early (hashRows s) (hashes-differ s))
+    (each-more Behind Early behind-early (lock.scriptRows (s .script) ++ (groupRows s ++ lock.lateRows s)) (behind-each s))
 
 -- a refusal before the proofs is such
 pub early-number : (s : Scene) (e : ProtocolError) → decide Passed (lock.earlyRows s) ≡ Failed e → Early e
@@ -157,49 +180,58 @@ early-number s e f = each-failed Early (lock.earlyRows s) e (early-each s) f
 
 -- ---- the proofs
 
--- a refusal behind the table's test: the lock's own 5, or one of the others
-abbrev LockRefusal : ProtocolError → Type 0
-LockRefusal e = (errorNumber e ≡ 5) ⊎ Numbered e
+-- a refusal in the walk: the lock's own 5, or one of the original
+abbrev pub WalkRefusal : ProtocolError → Type 0
+WalkRefusal e = (errorNumber e ≡ 5) ⊎ Original e
 
-numbered-refusal : (e : ProtocolError) → Numbered e → LockRefusal e
-numbered-refusal e h = inr h
+original-refusal : (e : ProtocolError) → Original e → WalkRefusal e
+original-refusal e h = inr h
 
 -- one proof's rows
-proof-refusal : (c : Context) (used : ℕ) (p : ProofReading) → Each LockRefusal (proofRows c used p)
+proof-refusal : (c : Context) (used : ℕ) (p : ProofReading) → Each WalkRefusal (proofRows c used p)
 unfolding proofRows authenticatorRows requestLimitRows
 proof-refusal c used p =
-    let witness = numbered-refusal InvalidWitness (search arith) in
-    let capability = numbered-refusal InvalidCapability (search arith) in
-    let verifier = numbered-refusal InvalidVerifierRef (search arith) in
-    let request = numbered-refusal InvalidRequest (search arith) in
-    let overflow = numbered-refusal LengthOverflow (search arith) in
-    let room : LockRefusal BufferTooShort = inl refl in
+    let witness = original-refusal InvalidWitness (search arith) in
+    let capability = original-refusal InvalidCapability (search arith) in
+    let verifier = original-refusal InvalidVerifierRef (search arith) in
+    let request = original-refusal InvalidRequest (search arith) in
+    let overflow = original-refusal LengthOverflow (search arith) in
+    let room : WalkRefusal BufferTooShort = inl refl in
     search depth 12
 
 -- behind the last proof
-end-refusal : (clean : Bool) (weight threshold : ℕ) → Each LockRefusal (lastRows clean weight threshold)
+end-refusal : (clean : Bool) (weight threshold : ℕ) → Each WalkRefusal (lastRows clean weight threshold)
 unfolding lastRows
 end-refusal clean weight threshold =
-    let witness = numbered-refusal InvalidWitness (search arith) in
-    let unsatisfied = numbered-refusal ThresholdUnsatisfied (search arith) in
+    let witness = original-refusal InvalidWitness (search arith) in
+    let unsatisfied = original-refusal ThresholdUnsatisfied (search arith) in
     search depth 12
 
 -- one proof, and those behind it
-walk-refusal : (c : Context) (clean : Bool) (i weight : ℕ) (made : List ℕ) (ps : List ProofReading)
-    → Refuses LockRefusal (walkFrom c clean i weight made ps .found)
+pub walk-refusal : (c : Context) (clean : Bool) (i weight : ℕ) (made : List ℕ) (ps : List ProofReading)
+    → Refuses WalkRefusal (walkFrom c clean i weight made ps .found)
 unfolding walkFrom unlessFailed
-walk-refusal c clean i weight made [] = each-refuses LockRefusal _ (end-refusal clean weight (c .threshold))
+walk-refusal c clean i weight made [] = each-refuses WalkRefusal _ (end-refusal clean weight (c .threshold))
 walk-refusal c clean i weight made (p ∷ ps) =
-    go (decide Passed (proofRows c (length made) p)) (each-refuses LockRefusal _ (proof-refusal c (length made) p)) (eqb (verdict c i) 2)
+    go (decide Passed (proofRows c (length made) p)) (each-refuses WalkRefusal _ (proof-refusal c (length made) p)) (eqb (verdict c i) 2)
     (walkFrom c clean (i + 1) (weight + approvedWeight c i p) (made ++ requestOf c p) ps) (walk-refusal c clean (i + 1) _ _ ps)
   where
-    go : (k : Check) → Refuses LockRefusal k → (b : Bool) (onward : WalkOutcome) → Refuses LockRefusal (onward .found)
-        → Refuses LockRefusal (unlessFailed k i made (cond b (walkOutcome (Failed VerifierFailure) (i + 1) (made ++ requestOf c p)) onward) .found)
+    go : (k : Check) → Refuses WalkRefusal k → (b : Bool) (onward : WalkOutcome) → Refuses WalkRefusal (onward .found)
+        → Refuses WalkRefusal (unlessFailed k i made (cond b (walkOutcome (Failed VerifierFailure) (i + 1) (made ++ requestOf c p)) onward) .found)
     go (Failed e) h b onward f = h
-    go Passed h true onward f = numbered-refusal VerifierFailure (search arith)
+    go Passed h true onward f = original-refusal VerifierFailure (search arith)
     go Passed h false onward f = f
 
 -- ---- the lock
+
+-- a refusal behind the table's test
+abbrev LockRefusal : ProtocolError → Type 0
+LockRefusal e = (errorNumber e ≡ 5) ⊎ Numbered e
+
+walk-lock : (k : Check) → Refuses WalkRefusal k → Refuses LockRefusal k
+walk-lock Passed h = tt
+walk-lock (Failed e) (inl h) = inl h
+walk-lock (Failed e) (inr h) = inr (h .0, omega (arith, h .1))
 
 -- over a scene
 scene-refusal : (s : Scene) (room : ℕ) → Refuses LockRefusal (lock.lockScene s room .found)
@@ -207,8 +239,8 @@ unfolding lock.lockScene lock.orWalked lock.refused lock.walkResult lock.walked 
 scene-refusal s room = go (decide Passed (lock.earlyRows s)) (each-refuses Early _ (early-each s))
   where
     go : (k : Check) → Refuses Early k → Refuses LockRefusal (lock.orWalked k (lock.walkResult s room) .found)
-    go Passed h = walk-refusal _ _ 0 0 [] _
-    go (Failed e) h = numbered-refusal e (h .0)
+    go Passed h = walk-lock (walkLock (lock.contextOf s room) (lock.witnessLock s) .found) (walk-refusal _ _ 0 0 [] _)
+    go (Failed e) h = inr (h .0)
 
 -- the number of what it finds there
 scene-number : (k : Check) → Refuses LockRefusal k → LockNumber (checkNumber k)

@@ -23,15 +23,15 @@ use Rattle.account_witness.specs.Reading.{ProofReading, witnessProofs}
 use Rattle.scene_table.specs.Scene.{Cell, Scene}
 use Rattle.scene_table.specs.Lent.{sceneIn, hashLength}
 use Rattle.scene_table.specs.Valid.{validTable}
-use Rattle.scene_table.proofs.Shape.{Whole}
+use Rattle.scene_table.proofs.Shape.{WholeCell}
 use Rattle.cell_search.specs.declared.cells.Source.{Source}
 use Rattle.cell_search.specs.declared.cells.Source.the-variants as source
 use Rattle.cell_search.specs.declared.cells.CellField.{CellField}
 use Rattle.cell_search.specs.declared.cells.CellField.the-variants as field
 use Rattle.cell_search.specs.Search.{cellsOf, cellHash, matches, cellSearch, indexOf, cellAt}
-use Rattle.cell_search.proofs.Found.{Found, found-one, cell-whole}
-use Rattle.cell_hashes.specs.Hashes.{hashRows, Hashed}
-use Rattle.cell_hashes.proofs.HashesTheorem.{hashes-hold}
+use Rattle.cell_search.proofs.Found.{FoundCell, found-one, cell-whole}
+use Rattle.cell_hashes.specs.Hashes.{hashRows, TrueHashes}
+use Rattle.cell_hashes.proofs.HashesTheorem.{hashes-true}
 use Rattle.state_transition.specs.Resolve.{stateIndices, stateIndex, stateCell, stateSource, spendRows, changeRows, resolveRows, currentState}
 use Rattle.decision.specs.Proofs.{contextFor, knownSlot, entryFor, verifierField, verifiers, authenticatorRows, proofRows}
 use Rattle.decision.specs.Decision.{EachPasses}
@@ -80,7 +80,7 @@ module _ (s : Scene) (h : AllPass (earlyRows s)) where
   unfolding lateRows
   resolved = all-pass-split (resolveRows (operation s) (account s) s) _ (late s h .1) .0
 
-  state-found : Found field.TypeHash (account s) (cellsOf (stateSource (operation s)) s) (stateIndex (stateSource (operation s)) (account s) s)
+  state-found : FoundCell field.TypeHash (account s) (cellsOf (stateSource (operation s)) s) (stateIndex (stateSource (operation s)) (account s) s)
   unfolding stateIndex stateIndices stateSource resolveRows spendRows changeRows
   state-found = found-one field.TypeHash (account s) (cellsOf (stateSource (operation s)) s) (go (eqb (operation s) 1) resolved)
     where
@@ -98,21 +98,21 @@ module _ (s : Scene) (h : AllPass (earlyRows s)) where
 
 module _ (table store : List ℕ) (valid : validTable table (length store) ≡ true) (pass : AllPass (hashRows (sceneIn table store))) where
   -- a cell that is found by its type hash has a type script with that hash
-  type-real : (from : Source) (id : List ℕ) (i : ℕ) → length id ≡ 32 → Found field.TypeHash id (cellsOf from (sceneIn table store)) i
+  type-real : (from : Source) (id : List ℕ) (i : ℕ) → length id ≡ 32 → FoundCell field.TypeHash id (cellsOf from (sceneIn table store)) i
       → ckbHash (cellAt (cellsOf from (sceneIn table store)) i .typeScript) ≡ id
   unfolding cellHash hashLength
   type-real from id i l f =
       go (cellAt (cellsOf from (sceneIn table store)) i) (cell-whole from table store i valid (f .inList)) (f .holds)
-      (hashes-hold (sceneIn table store) .0 pass from i (f .inList) .type)
+      (hashes-true (sceneIn table store) .0 pass from i (f .inList) .type)
     where
-      go : (c : Cell) → Whole c → c .typeHash ≡ id → (c .typeScript ≡ []) ⊎ (c .typeHash ≡ ckbHash (c .typeScript)) → ckbHash (c .typeScript) ≡ id
-      go c w e (inl none) = absurd (let z = rw (none, e, l) at (w .typed) in omega arith)
+      go : (c : Cell) → WholeCell c → c .typeHash ≡ id → (c .typeScript ≡ []) ⊎ (c .typeHash ≡ ckbHash (c .typeScript)) → ckbHash (c .typeScript) ≡ id
+      go c w e (inl none) = absurd (let z = rw (none, e, l) at (w .typeHash) in omega arith)
       go c w e (inr h) = sym h ∙ e
 
   -- so two cells with one type hash, as the input and the output with the account's id, have type scripts with one hash: where they
   -- differ, they collide
   pub type-scripts-collide : (from to : Source) (id : List ℕ) (i j : ℕ) → length id ≡ 32
-      → Found field.TypeHash id (cellsOf from (sceneIn table store)) i → Found field.TypeHash id (cellsOf to (sceneIn table store)) j
+      → FoundCell field.TypeHash id (cellsOf from (sceneIn table store)) i → FoundCell field.TypeHash id (cellsOf to (sceneIn table store)) j
       → ckbHash (cellAt (cellsOf from (sceneIn table store)) i .typeScript) ≡ ckbHash (cellAt (cellsOf to (sceneIn table store)) j .typeScript)
   type-scripts-collide from to id i j l f g = type-real from id i l f ∙ sym (type-real to id j l g)
 
@@ -120,11 +120,11 @@ module _ (table store : List ℕ) (room : ℕ) (pass : EarlierPass table store r
   cells-pass : AllPass (hashRows (sceneIn table store))
   cells-pass = hashes-pass (sceneIn table store) (pass .early)
 
-  cell-hashed : (from : Source) (i : ℕ) → i < length (cellsOf from (sceneIn table store)) → Hashed (cellAt (cellsOf from (sceneIn table store)) i)
-  cell-hashed = hashes-hold (sceneIn table store) .0 cells-pass
+  cell-hashed : (from : Source) (i : ℕ) → i < length (cellsOf from (sceneIn table store)) → TrueHashes (cellAt (cellsOf from (sceneIn table store)) i)
+  cell-hashed = hashes-true (sceneIn table store) .0 cells-pass
 
   -- a dep that is found by its data hash has data with that hash, or none
-  data-real : (e : EntryReading) (i : ℕ) → verifierField (e .hashType) ≡ field.DataHash → Found field.DataHash (e .codeHash) (sceneIn table store .deps) i
+  data-real : (e : EntryReading) (i : ℕ) → verifierField (e .hashType) ≡ field.DataHash → FoundCell field.DataHash (e .codeHash) (sceneIn table store .deps) i
       → RealVerifier e (cellAt (sceneIn table store .deps) i)
   unfolding cellHash cellsOf
   data-real e i q f = go (cellAt (sceneIn table store .deps) i) (f .holds) (cell-hashed source.CellDep i (f .inList) .content)
@@ -140,7 +140,7 @@ module _ (table store : List ℕ) (room : ℕ) (pass : EarlierPass table store r
       go (verifierField (e .hashType)) refl (found-one (verifierField (e .hashType)) (e .codeHash) (sceneIn table store .deps) one)
     where
       go : (f : CellField) → verifierField (e .hashType) ≡ f
-          → Found f (e .codeHash) (sceneIn table store .deps) (indexOf (cellSearch (verifierField (e .hashType)) (e .codeHash) (sceneIn table store .deps)))
+          → FoundCell f (e .codeHash) (sceneIn table store .deps) (indexOf (cellSearch (verifierField (e .hashType)) (e .codeHash) (sceneIn table store .deps)))
           → RealVerifier e (cellAt (sceneIn table store .deps) (indexOf (cellSearch (verifierField (e .hashType)) (e .codeHash) (sceneIn table store .deps))))
       go field.TypeHash q found = byType q (type-real table store (pass .valid) cells-pass source.CellDep (e .codeHash) _ l found)
       go field.DataHash q found = data-real e _ q found
@@ -178,7 +178,7 @@ module _ (table store : List ℕ) (room : ℕ) (pass : EarlierPass table store r
         state = refl;
         account =
             type-real table store (pass .valid) cells-pass (stateSource (operation s)) (account s) _ (account-long s (pass .early)) (state-found s (pass .early));
-        hashed = state-hashed;
+        dataHash = state-hashed;
         verifiers = verifiers-real 0 0 (witnessProofs (witnessLock s)) (pass .proofs .each);
       }
 

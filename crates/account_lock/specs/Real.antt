@@ -40,5 +40,5 @@ pub record RealCells (table store : List ℕ) (room : ℕ) : Type 0 where
   pub state : currentCell (sceneIn table store) .content ≡ current (sceneIn table store)
   pub account : ckbHash (currentCell (sceneIn table store) .typeScript) ≡ account (sceneIn table store)
   -- and its data hash is that of the current state
-  pub hashed : currentCell (sceneIn table store) .dataHash ≡ ckbHash (current (sceneIn table store))
+  pub dataHash : currentCell (sceneIn table store) .dataHash ≡ ckbHash (current (sceneIn table store))
   pub verifiers : RealVerifiers (contextOf (sceneIn table store) room) (witnessProofs (witnessLock (sceneIn table store)))

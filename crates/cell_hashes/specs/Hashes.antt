@@ -16,14 +16,14 @@ use Rattle.cell_search.specs.declared.cells.Source.the-variants as source
 use Rattle.cell_search.specs.Search.{cellsOf}
 
 -- there are no bytes, or the hash is CKB's hash of them; a cell without a type script has no byte of one
-unfoldable pub hashHolds : List ℕ → List ℕ → Bool
-hashHolds hash bytes = eqb (length bytes) 0 || same hash (ckbHash bytes)
+unfoldable pub hashAgrees : List ℕ → List ℕ → Bool
+hashAgrees hash bytes = eqb (length bytes) 0 || same hash (ckbHash bytes)
 
 -- "type before data"
 unfoldable pub cellHashRows : Cell → List Row
 cellHashRows c =
-    row (hashHolds (c .typeHash) (c .typeScript)) HashMismatch
-    ∷ row (hashHolds (c .dataHash) (c .content)) HashMismatch
+    row (hashAgrees (c .typeHash) (c .typeScript)) HashMismatch
+    ∷ row (hashAgrees (c .dataHash) (c .content)) HashMismatch
     ∷ []
 
 unfoldable pub cellsHashRows : List Cell → List Row
@@ -36,6 +36,6 @@ hashRows s =
     cellsHashRows (cellsOf source.Input s) ++ (cellsHashRows (cellsOf source.Output s) ++ cellsHashRows (cellsOf source.CellDep s))
 
 -- what the rows of a cell say: each of its hashes is CKB's hash of what it is the hash of, where there is any
-pub record Hashed (c : Cell) : Type 0 where
+pub record TrueHashes (c : Cell) : Type 0 where
   pub type : (c .typeScript ≡ []) ⊎ (c .typeHash ≡ ckbHash (c .typeScript))
   pub content : (c .content ≡ []) ⊎ (c .dataHash ≡ ckbHash (c .content))

@@ -13,11 +13,11 @@ ghost use Rattle.protocol.specs.Rows.{decide};
 ghost use Rattle.scene_table.specs.Lent.{sceneIn};
 ghost use Rattle.scene_table.specs.Places.{cellIn};
 ghost use Rattle.cell_search.specs.Search.{cellsOf};
-ghost use Rattle.cell_hashes.specs.Hashes.{hashHolds, cellHashRows, cellsHashRows, hashRows};
+ghost use Rattle.cell_hashes.specs.Hashes.{hashAgrees, cellHashRows, cellsHashRows, hashRows};
 
 // Whether there are no bytes, or the hash is CKB's hash of them.
-fn hash_holds(hash: &[u8], bytes: &[u8]) -> bool
-    ensures { λ r. ⌜ r ≡ hashHolds (now (hash .entry)) (now (bytes .entry)) ⌝ }
+fn hash_agrees(hash: &[u8], bytes: &[u8]) -> bool
+    ensures { λ r. ⌜ r ≡ hashAgrees (now (hash .entry)) (now (bytes .entry)) ⌝ }
 {
     if bytes.len() == 0 {
         return true;
@@ -30,14 +30,14 @@ fn hash_holds(hash: &[u8], bytes: &[u8]) -> bool
 fn check_cell(store: &[u8], cell: CellPlaces) -> Check
     ensures { λ r. ⌜ r ≡ decide Check.Passed (cellHashRows (cellIn (now (store .entry)) cell)) ⌝ }
 {
-    let typed = hash_holds(
+    let type_agrees = hash_agrees(
         part_at(store, cell.type_hash),
         part_at(store, cell.type_script),
     );
-    let held = hash_holds(part_at(store, cell.data_hash), part_at(store, cell.content));
+    let data_agrees = hash_agrees(part_at(store, cell.data_hash), part_at(store, cell.content));
     Check::Passed
-        .require(typed, ProtocolError::HashMismatch)
-        .require(held, ProtocolError::HashMismatch)
+        .require(type_agrees, ProtocolError::HashMismatch)
+        .require(data_agrees, ProtocolError::HashMismatch)
 }
 
 // The hashes of the cells of a list, up to the first that differs.

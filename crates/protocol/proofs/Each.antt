@@ -43,3 +43,8 @@ module _ (P : ProtocolError → Type 0) where
   -- so has the refusal that they give
   pub each-failed : (rs : List Row) (e : ProtocolError) → Each P rs → decide Passed rs ≡ Failed e → P e
   each-failed rs e h f = subst (Refuses P) f (each-refuses rs h)
+
+-- a property that follows from another
+pub each-more : (P Q : ProtocolError → Type 0) → ((e : ProtocolError) → P e → Q e) → (rs : List Row) → Each P rs → Each Q rs
+each-more P Q f [] h = tt
+each-more P Q f (r ∷ rs) h = (f (r .error) (h .0), each-more P Q f rs (h .1))

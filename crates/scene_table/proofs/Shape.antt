@@ -23,15 +23,15 @@ use Rattle.scene_table.proofs.SceneBack.{Sayable, sayable, scene-back}
 use Rattle.scene_table.proofs.ValidTheorem.{zeroed, zeroed-ok, passes-scene}
 
 -- a cell with all of its bytes
-pub record Whole (c : Cell) : Type 0 where
-  pub typed : hashLength (length (c .typeScript)) ≡ length (c .typeHash)
-  pub hashed : length (c .dataHash) ≡ 32
+pub record WholeCell (c : Cell) : Type 0 where
+  pub typeHash : hashLength (length (c .typeScript)) ≡ length (c .typeHash)
+  pub dataHash : length (c .dataHash) ≡ 32
 
 -- the cells of a table and a store
 pub record CellsWhole (table store : List ℕ) : Type 0 where
-  pub inputs : (i : ℕ) → i < inputCount table → Whole (cellIn store (inputPlaces table i))
-  pub outputs : (i : ℕ) → i < outputCount table → Whole (cellIn store (outputPlaces table i))
-  pub deps : (i : ℕ) → i < depCount table → Whole (cellIn store (depPlaces table i))
+  pub inputs : (i : ℕ) → i < inputCount table → WholeCell (cellIn store (inputPlaces table i))
+  pub outputs : (i : ℕ) → i < outputCount table → WholeCell (cellIn store (outputPlaces table i))
+  pub deps : (i : ℕ) → i < depCount table → WholeCell (cellIn store (depPlaces table i))
 
 -- the cell of an input
 input-cell : (i : Input) → inputOk i ≡ true → cellOk (i .cell) ≡ true
@@ -53,13 +53,13 @@ module _ (store : List ℕ) where
       rw (there, lq)
 
   -- a cell whose zeros are a cell's is whole
-  zeros-whole : (p : CellPlaces) → cellOk (cellFrom zerosIn p) ≡ true → Whole (cellIn store p)
+  zeros-whole : (p : CellPlaces) → cellOk (cellFrom zerosIn p) ≡ true → WholeCell (cellIn store p)
   unfolding cellFrom
   zeros-whole p ok =
       let l = cell-hashes (cellFrom zerosIn p) ok in
       record {
-        typed = simp length-replicate at (l .0);
-        hashed = simp length-replicate at (l .1);
+        typeHash = simp length-replicate at (l .0);
+        dataHash = simp length-replicate at (l .1);
       }
 
 module _ (table store : List ℕ) (valid : validTable table (length store) ≡ true) where

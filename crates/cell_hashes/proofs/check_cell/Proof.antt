@@ -13,10 +13,10 @@ returns c =
     rw (
       c .require2 .ensures,
       c .before .require .ensures,
-      c .before .before .hash-holds2 .ensures,
+      c .before .before .hash-agrees2 .ensures,
       c .before .before .before .part-at4 .ensures,
       c .before .before .before .before .part-at3 .ensures,
-      typed .hash-holds .ensures,
+      typed .hash-agrees .ensures,
       typed .before .part-at2 .ensures,
       typed .before .before .part-at .ensures,
     )
