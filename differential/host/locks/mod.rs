@@ -19,7 +19,7 @@ use runs::Runs;
 use std::collections::BTreeMap;
 
 /// Scenes with random faults in one run, and in a long one.
-const RANDOM: usize = 130_000;
+const RANDOM: usize = 140_000;
 const LONG: usize = 30 * RANDOM;
 /// How often each row is met, for each operation: short scenes and long ones.
 const TURNS: usize = 20;
