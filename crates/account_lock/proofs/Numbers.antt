@@ -11,7 +11,7 @@ use lib.Dec.{eqb}
 use lib.ListN.{length, drop}
 use Rattle.protocol.specs.Args.{argsRows}
 use Rattle.protocol.specs.Errors.{errorNumber}
-use Rattle.protocol.specs.Rows.{decide, checkNumber}
+use Rattle.protocol.specs.Rows.{Row, decide, checkNumber}
 use Rattle.protocol.specs.declared.error.ProtocolError.{ProtocolError}
 use Rattle.protocol.specs.declared.error.ProtocolError.the-variants.{BufferTooShort, SlicesDisagree, InvalidWitness, ThresholdUnsatisfied, InvalidCapability, InvalidVerifierRef, VerifierFailure, InvalidRequest, LengthOverflow}
 use Rattle.protocol.specs.declared.check.Check.{Check}
@@ -145,7 +145,10 @@ transition-early operation sequence since current successor =
     (each-cond Behind (eqb operation 1) [] (transition.successionRows operation since current successor) tt (change-early operation since current successor))
 
 -- every row behind the hashes and before the proofs
-pub behind-each : (s : Scene) → Each Behind (lock.scriptRows (s .script) ++ (groupRows s ++ lock.lateRows s))
+abbrev pub behindRows : Scene → List Row
+behindRows s = lock.scriptRows (s .script) ++ (groupRows s ++ lock.lateRows s)
+
+pub behind-each : (s : Scene) → Each Behind (behindRows s)
 unfolding lock.lateRows lock.statesRows
 behind-each s =
     each-append Behind (lock.scriptRows (s .script)) _ (script-early (s .script))
@@ -172,7 +175,7 @@ pub early-each : (s : Scene) → Each Early (lock.earlyRows s)
 unfolding lock.earlyRows
 early-each s =
     each-append Early (hashRows s) _ (each-more Differs Early differs-early (hashRows s) (hashes-differ s))
-    (each-more Behind Early behind-early (lock.scriptRows (s .script) ++ (groupRows s ++ lock.lateRows s)) (behind-each s))
+    (each-more Behind Early behind-early (behindRows s) (behind-each s))
 
 -- a refusal before the proofs is such
 pub early-number : (s : Scene) (e : ProtocolError) → decide Passed (lock.earlyRows s) ≡ Failed e → Early e

@@ -1,6 +1,6 @@
 -- The rows of a list's cells, one by one.
 -- Assumes nothing.
-use mathlib.Core.Path.{_≡_, _∙_}
+use mathlib.Core.Path.{_≡_}
 use mathlib.Core.List.{List}
 use Prim.Native.Nat.{ℕ, _+_, _≤_, _<_}
 use lib.ListN.{drop}
@@ -8,7 +8,7 @@ use Rattle.protocol.specs.Rows.{decide, _then_}
 use Rattle.protocol.specs.declared.error.ProtocolError.{ProtocolError}
 use Rattle.protocol.specs.declared.check.Check.{Check}
 use Rattle.protocol.specs.declared.check.Check.the-variants.{Passed, Failed}
-use Rattle.protocol.proofs.AllPass.{decide-append, decide-failed, decide-both, then-assoc}
+use Rattle.protocol.proofs.AllPass.{decide-both, then-assoc}
 use Rattle.scene_table.specs.Scene.{Cell, Scene}
 use Rattle.scene_table.proofs.Records.{Listed}
 use Rattle.cell_search.specs.declared.cells.Source.the-variants as source
@@ -22,13 +22,13 @@ foundFrom cells k = decide Passed (cellsHashRows (drop k cells))
 module _ {cells : List Cell} {n : ℕ} {g : ℕ → Cell} (l : Listed cells n g) (k : ℕ) where
   -- the first that differs decides,
   pub found-stops : (e : ProtocolError) → k < n → decide Passed (cellHashRows (g k)) ≡ Failed e → foundFrom cells k ≡ Failed e
-  unfolding foundFrom cellsHashRows
-  found-stops e h f = rw (l .turn k h) (decide-append Passed (cellHashRows (g k)) _ ∙ rw f (decide-failed _ e))
+  unfolding foundFrom cellsHashRows _then_
+  found-stops e h f = rw (l .turn k h, decide-both (cellHashRows (g k)), f)
 
   -- else the cells behind it do,
   pub found-goes : k < n → decide Passed (cellHashRows (g k)) ≡ Passed → foundFrom cells k ≡ foundFrom cells (k + 1)
-  unfolding foundFrom cellsHashRows
-  found-goes h f = rw (l .turn k h) (decide-append Passed (cellHashRows (g k)) _ ∙ rw f)
+  unfolding foundFrom cellsHashRows _then_
+  found-goes h f = rw (l .turn k h, decide-both (cellHashRows (g k)), f)
 
   -- and behind the last nothing is found
   pub found-end : n ≤ k → foundFrom cells k ≡ Passed
