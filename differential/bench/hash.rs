@@ -5,8 +5,15 @@ use crate::test_exports;
 use std::time::{Duration, Instant};
 
 const LENGTH: usize = 1 << 20;
-const PART: usize = 1 << 16;
 const ROUNDS: usize = 200;
+/// How many bytes are fed at a time.
+const FEEDS: [(&str, usize); 5] = [
+    ("one feed of 1 MiB", LENGTH),
+    ("16 feeds of 64 KiB", 1 << 16),
+    ("feeds of 127 bytes", 127),
+    ("feeds of 128 bytes", 128),
+    ("feeds of 129 bytes", 129),
+];
 
 type Digest = [u8; 32];
 type Hash = fn(&[u8], usize) -> Digest;
@@ -66,6 +73,7 @@ pub fn run() {
     println!("CKB's hash of the same 1,048,576 bytes, best of {ROUNDS} in turn, in MB/s of 1,000,000 bytes.");
     println!("Buffers are warm and not cleared. A ratio is of speeds: above 1 the port is faster.");
     println!("                            C     Rust   Rattle   Rattle/C  Rattle/Rust");
-    print_row("one feed of 1 MiB", &data, LENGTH);
-    print_row("16 feeds of 64 KiB", &data, PART);
+    for (name, step) in FEEDS {
+        print_row(name, &data, step);
+    }
 }

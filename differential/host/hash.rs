@@ -11,6 +11,10 @@ const OUT: [usize; 6] = [0, 1, 31, 32, 33, 64];
 /// Bytes behind the buffer that is lent, to see that they stay.
 const BEHIND: usize = 16;
 const RANDOM_CASES: usize = 3000;
+/// The longest data that is fed in two parts, cut at every place.
+const SPLIT: usize = 400;
+/// Feeds about one block and two blocks long.
+const STEPS: [usize; 6] = [127, 128, 129, 255, 256, 257];
 /// The numbers of a buffer that is too short, and of a first part that is longer than the data.
 const TOO_SHORT: u32 = 5;
 const DISAGREE: u32 = 7;
@@ -86,6 +90,31 @@ fn every_short_length(report: &mut Report, prng: &mut Prng) {
     }
 }
 
+/// Every length up to 400 in two parts, cut at every place, the ends too.
+fn every_split(report: &mut Report, prng: &mut Prng) {
+    for length in 0..=SPLIT {
+        let data = prng.bytes(length);
+        for first in 0..=length {
+            compare(report, prng, &data, Some((first, 0)), 32);
+        }
+    }
+}
+
+/// Data that ends at a feed's end and beside it, behind a first part that ends at a block's border, beside it, or is empty.
+fn feeds_about_a_block(report: &mut Report, prng: &mut Prng) {
+    for step in STEPS {
+        for length in [step - 1, step, step + 1, 2 * step, 2 * step + 1, 10 * step] {
+            let data = prng.bytes(length);
+            for first in [0, 1, 127, 128, 129]
+                .into_iter()
+                .filter(|first| *first <= length)
+            {
+                compare(report, prng, &data, Some((first, step)), 32);
+            }
+        }
+    }
+}
+
 fn random_lengths(report: &mut Report, prng: &mut Prng) {
     for _ in 0..RANDOM_CASES {
         let length = prng.up_to(5000);
@@ -100,6 +129,8 @@ fn random_lengths(report: &mut Report, prng: &mut Prng) {
 pub fn run(report: &mut Report) {
     let mut prng = Prng::new(1);
     every_short_length(report, &mut prng);
+    every_split(report, &mut prng);
+    feeds_about_a_block(report, &mut prng);
     random_lengths(report, &mut prng);
     let data = prng.bytes(1000);
     compare(report, &mut prng, &data, Some((usize::MAX, usize::MAX)), 32);

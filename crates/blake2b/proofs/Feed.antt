@@ -1,17 +1,17 @@
--- Feeding: one list after another, and a run within one block.
+-- Feeding: one list after another, a run within one block, and the bytes that fill up a waiting part.
 -- Assumes nothing.
-use mathlib.Core.Path.{_≡_, refl, sym, _∙_}
+use mathlib.Core.Path.{_≡_, refl, sym, ap, _∙_}
 use mathlib.Core.List.{List, [], _∷_, _++_}
-use Prim.Native.Nat.{ℕ, suc, _+_, _-_, _%_, _^_, _≤_, _<_}
-use native.Mathlib.Nat.{mod-add-mod, not-suc-le-zero}
+use Prim.Native.Nat.{ℕ, zero, suc, _+_, _-_, _%_, _^_, _≤_, _<_}
+use native.Mathlib.Nat.{add-zero, sub-zero, mod-add-mod, mod-eq-of-lt, not-suc-le-zero}
 use native.Mathlib.Omega.{arith}
-use borrow.Author.Tests.{ne-eqb}
-use lib.ListN.{length, take, drop}
+use borrow.Author.Tests.{eq-eqb, ne-eqb}
+use lib.ListN.{length, take, drop, replicate}
 use lib.Seq.{sets, take-add}
 use Rattle.octets.specs.Lists.{joined}
 use Rattle.octets.proofs.Parts.{part-length}
 use Rattle.blake2b.specs.declared.Blake2b.{Blake2b}
-use Rattle.blake2b.specs.State.{waiting, flushedWords, flushed, stored, fedAll, fedParts}
+use Rattle.blake2b.specs.State.{waiting, flushedWords, flushed, nextBlock, stored, fedAll, fedParts}
 
 -- one list after another is fed as the joined list
 pub fed-append : (s : Blake2b) (xs ys : List ℕ) → fedAll (fedAll s xs) ys ≡ fedAll s (xs ++ ys)
@@ -26,17 +26,30 @@ fed-parts s (part ∷ parts) = fed-parts (fedAll s part) parts ∙ fed-append s 
 
 -- a run is stored at the next places
 unfoldable storedRun : Blake2b → List ℕ → Blake2b
-storedRun s run = record { h = s .h; block = sets (s .block) (s .fed % 128) run; fed = (s .fed + length run) % 2 ^ 64 }
+storedRun s run = record { h = s .h; block = sets (nextBlock s) (s .fed % 128) run; fed = (s .fed + length run) % 2 ^ 64 }
 
 -- a block that is not full is not compressed
 pub flushed-room : (s : Blake2b) → (waiting (s .fed) ≡ 128 → ⊥) → flushed s ≡ s
 unfolding flushed flushedWords
 flushed-room s e = rw (ne-eqb (waiting (s .fed)) 128 e)
 
+flushed-words : (s : Blake2b) → flushedWords (s .h) (s .block) (s .fed) ≡ flushed s .h
+unfolding flushed
+flushed-words s = refl
+
 -- within a block
 flushed-within : (s : Blake2b) → 0 < s .fed % 128 → flushed s ≡ s
 unfolding waiting
 flushed-within s h = flushed-room s (λ e. omega arith)
+
+pub next-within : (s : Blake2b) → 0 < s .fed % 128 → nextBlock s ≡ s .block
+unfolding nextBlock
+next-within s h = rw (ne-eqb (s .fed % 128) 0 (λ e. omega arith))
+
+-- at a block's border
+pub next-border : (s : Blake2b) → s .fed % 128 ≡ 0 → nextBlock s ≡ replicate 128 0
+unfolding nextBlock
+next-border s e = rw (eq-eqb (s .fed % 128) 0 e)
 
 module _ (s : Blake2b) (b : ℕ) (small : s .fed < 2 ^ 64) where
   stored-run : (bs : List ℕ) → s .fed % 128 + 1 + length bs ≤ 128 → 0 < length bs → storedRun (stored s b) bs ≡ storedRun s (b ∷ bs)
@@ -44,7 +57,7 @@ module _ (s : Blake2b) (b : ℕ) (small : s .fed < 2 ^ 64) where
   stored-run bs h pos =
       let e : (s .fed + 1) % 2 ^ 64 % 128 ≡ suc (s .fed % 128) = omega arith in
       let f : s .fed + 1 + length bs ≡ s .fed + suc (length bs) = omega arith in
-      rw (e, mod-add-mod, f)
+      rw (next-within (stored s b) (omega arith), e, mod-add-mod, f)
 
 run-fed : (bs : List ℕ) (s : Blake2b) (b : ℕ) → s .fed < 2 ^ 64 → s .fed % 128 + 1 + length bs ≤ 128
     → fedAll (stored s b) bs ≡ storedRun s (b ∷ bs)
@@ -59,17 +72,27 @@ unfolding fedAll flushed
 run-stored s [] small pos h = absurd (not-suc-le-zero pos)
 run-stored s (b ∷ bs) small pos h = sym (run-fed bs (flushed s) b small (omega arith))
 
--- a turn of the loop that feeds xs to s₀: a full block is compressed, and the bytes from `at` to `end`, within one block, are stored
-pub feed-turn : (s₀ s : Blake2b) (xs : List ℕ) (at end : ℕ) → s .fed < 2 ^ 64 → at < end → end ≤ length xs → s .fed % 128 + (end - at) ≤ 128
+-- the bytes from `at` to `end`, within one block, are fed behind those before `at`
+pub feed-run : (s₀ s : Blake2b) (xs : List ℕ) (at end : ℕ) → s .fed < 2 ^ 64 → at < end → end ≤ length xs → s .fed % 128 + (end - at) ≤ 128
     → s ≡ fedAll s₀ (take at xs)
     → record {
       h = flushedWords (s .h) (s .block) (s .fed);
-      block = sets (s .block) (s .fed % 128) (take (end - at) (drop at xs));
+      block = sets (nextBlock s) (s .fed % 128) (take (end - at) (drop at xs));
       fed = (s .fed + (end - at)) % 2 ^ 64;
     } ≡ fedAll s₀ (take end xs)
-unfolding storedRun flushed
-feed-turn s₀ s xs at end small a b h w =
+unfolding storedRun flushed nextBlock
+feed-run s₀ s xs at end small a b h w =
     let run = take (end - at) (drop at xs) in
     let n : length run ≡ end - at = part-length xs at (end - at) (omega arith) in
     let e : at + (end - at) ≡ end = omega arith in
     rw n at (run-stored s run small (omega arith) (omega arith)) ∙ rw (w, fed-append, ← take-add, e)
+
+-- the bytes that fill up a waiting part, or none
+pub feed-fill : (s : Blake2b) (xs : List ℕ) (n : ℕ) → s .fed < 2 ^ 64 → n ≤ length xs → n ≤ (128 - s .fed % 128) % 128
+    → record { h = s .h; block = sets (s .block) (s .fed % 128) (take n xs); fed = (s .fed + n) % 2 ^ 64 } ≡ fedAll s (take n xs)
+unfolding fedAll
+feed-fill s xs zero small n h = rw (add-zero, mod-eq-of-lt small)
+feed-fill s xs (suc n) small k h =
+    let e : flushed s ≡ s = flushed-within s (omega arith) in
+    let f : flushedWords (s .h) (s .block) (s .fed) ≡ s .h = flushed-words s ∙ ap (λ (t : Blake2b). t .h) e in
+    rw (f, next-within s (omega arith), sub-zero) at (feed-run s s xs 0 (suc n) small (omega arith) k (omega arith) refl)

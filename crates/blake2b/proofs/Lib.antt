@@ -1,6 +1,6 @@
 pub mod Table
 pub mod Bytes
-pub mod Padding
 pub mod Feed
+pub mod Border
 pub mod Whole
 pub mod Chain

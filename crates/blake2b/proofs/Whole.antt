@@ -1,20 +1,20 @@
 -- Feeding a byte list in any parts and finishing gives the hash of the whole list.
 -- Assumes nothing.
-use mathlib.Core.Path.{_≡_, refl, ap, _∙_}
+use mathlib.Core.Path.{_≡_, refl, sym, ap, _∙_}
 use mathlib.Core.Bool.{false}
 use mathlib.Core.List.{List, [], _∷_, _++_, append-nil, append-assoc}
 use mathlib.Core.Logic.{⊎-elim}
-use Prim.Native.Nat.{ℕ, zero, suc, _+_, _-_, _*_, _%_, _^_, _≤_, _<_}
+use Prim.Native.Nat.{ℕ, zero, suc, _+_, _-_, _*_, _%_, _^_, _≤_, _<_, zero-le}
 use native.Mathlib.Nat.{mod-eq-of-lt, eq-or-lt-of-le}
 use native.Mathlib.Omega.{arith}
 use borrow.Author.Tests.{eq-eqb}
-use lib.ListN.{length, take, drop, set, length-append, length-drop, length-set}
-use lib.Seq.{take-all, take-append-le, drop-append-le, drop-append-seam, take-suc-set, take-take}
+use lib.ListN.{length, take, drop, set, length-append, length-drop, drop-of-length-le}
+use lib.Seq.{take-all, take-append-le, drop-append-le, drop-append-seam, set-append-seam}
 use Rattle.octets.specs.Lists.{joined}
 use Rattle.blake2b.specs.declared.Blake2b.{Blake2b}
 use Rattle.blake2b.specs.Rfc7693.{wordsOf, bytesOf, F, startWords, zeroPadded, blockOf, lastOf, chained, hashWords, hashOf}
-use Rattle.blake2b.specs.State.{begun, waiting, flushedWords, flushed, stored, fedAll, fedParts, padded, finished}
-use Rattle.blake2b.proofs.Feed.{flushed-room, fed-parts}
+use Rattle.blake2b.specs.State.{begun, waiting, flushedWords, flushed, nextBlock, stored, fedAll, fedParts, finished}
+use Rattle.blake2b.proofs.Feed.{flushed-room, next-within, next-border, fed-parts}
 
 -- bytes that come later change no whole block
 block-more : (xs ys : List ℕ) (i : ℕ) → (i + 1) * 128 ≤ length xs → blockOf (xs ++ ys) i ≡ blockOf xs i
@@ -33,28 +33,36 @@ chained-more h xs ys (suc i) k = rw (chained-more h xs ys i (omega arith), block
 record After (p xs : List ℕ) (s : Blake2b) : Type 0 where
   count : s .fed ≡ length xs
   words : s .h ≡ chained (startWords p) xs (lastOf xs)
-  long : length (s .block) ≡ 128
-  rest : take (waiting (length xs)) (s .block) ≡ drop (128 * lastOf xs) xs
+  last : s .block ≡ blockOf xs (lastOf xs)
 
 flushed-full : (s : Blake2b) → waiting (s .fed) ≡ 128
     → flushed s ≡ record { h = F (s .h) (wordsOf 16 (s .block)) (s .fed) false; block = s .block; fed = s .fed }
 unfolding flushed flushedWords
 flushed-full s e = rw (eq-eqb (waiting (s .fed)) 128 e)
 
--- a block that is whole needs no zeros
-whole : (l : List ℕ) → length l ≡ 128 → zeroPadded (take 128 l) ≡ l
+-- a byte behind those of a block takes the place of a zero
+padded-more : (d : List ℕ) (b : ℕ) → length d < 128 → set (zeroPadded d) (length d) b ≡ zeroPadded (d ++ (b ∷ []))
 unfolding zeroPadded
-whole l e =
-    let k : length l ≤ 128 = omega arith in
-    rw (take-all 128 l k, e, append-nil)
+padded-more d b h =
+    let n : length (d ++ (b ∷ [])) ≡ length d + 1 = length-append d (b ∷ []) in
+    let e : 128 - length d ≡ suc (128 - length (d ++ (b ∷ []))) = omega arith in
+    rw (e, set-append-seam, append-assoc)
 
-waits : (xs : List ℕ) → length xs - 128 * lastOf xs ≡ waiting (length xs)
+waits : (xs : List ℕ) → length (drop (128 * lastOf xs) xs) ≡ waiting (length xs)
 unfolding lastOf waiting
-waits xs = refl
+waits xs = length-drop (128 * lastOf xs) xs
 
 waits-le : (n : ℕ) → waiting n ≤ 128
 unfolding waiting
 waits-le n = omega arith
+
+-- the last block: the bytes that wait, and zeros
+last-padded : (xs : List ℕ) → blockOf xs (lastOf xs) ≡ zeroPadded (drop (128 * lastOf xs) xs)
+unfolding blockOf
+last-padded xs =
+    let d = drop (128 * lastOf xs) xs in
+    let k : length d ≤ 128 = omega (arith, waits xs, waits-le (length xs)) in
+    rw (take-all 128 d k)
 
 module _ (p xs : List ℕ) (b : ℕ) (s : Blake2b) (w : After p xs s) (small : length xs + 1 < 2 ^ 64) where
   abbrev ys : List ℕ
@@ -66,9 +74,6 @@ module _ (p xs : List ℕ) (b : ℕ) (s : Blake2b) (w : After p xs s) (small : l
   count-ys : (s .fed + 1) % 2 ^ 64 ≡ length ys
   count-ys = rw (w .count, mod-eq-of-lt small, long-ys)
 
-  long-set : length (set (s .block) (s .fed % 128) b) ≡ 128
-  long-set = length-set (s .block) (s .fed % 128) b ∙ w .long
-
   -- the block is full: it is compressed, and the byte begins the next one
   module _ (e : waiting (length xs) ≡ 128) where
     times : (lastOf xs + 1) * 128 ≡ length xs
@@ -79,35 +84,25 @@ module _ (p xs : List ℕ) (b : ℕ) (s : Blake2b) (w : After p xs s) (small : l
     unfolding lastOf waiting
     last-full = let h = long-ys in omega arith
 
-    block-full : blockOf ys (lastOf xs) ≡ s .block
-    unfolding blockOf
-    block-full =
-        let h = times in
-        block-more xs (b ∷ []) (lastOf xs) (omega arith)
-        ∙ rw (← w .rest, e, take-take 128 128 (s .block) (omega arith)) (whole (s .block) (w .long))
-
     words-full : F (s .h) (wordsOf 16 (s .block)) (s .fed) false ≡ chained (startWords p) ys (lastOf ys)
     unfolding chained
     words-full =
         let h = times in
-        rw (last-full, chained-more (startWords p) xs (b ∷ []) (lastOf xs) (omega arith), block-full, times, ← w .words, w .count)
+        rw (last-full, chained-more (startWords p) xs (b ∷ []) (lastOf xs) (omega arith), block-more xs (b ∷ []) (lastOf xs) (omega arith), times, ← w .words, ← w .last, w .count)
 
-    next-full : waiting (length ys) ≡ 1
-    unfolding waiting
-    next-full = let h = long-ys in omega arith
-
-    rest-full : take (waiting (length ys)) (set (s .block) (s .fed % 128) b) ≡ drop (128 * lastOf ys) ys
-    rest-full =
-        let h = times in let l = long-ys in let f = last-full in let n = w .count in let k = w .long in
+    block-full : set (nextBlock s) (s .fed % 128) b ≡ blockOf ys (lastOf ys)
+    unfolding zeroPadded
+    block-full =
+        let h = times in let l = long-ys in let f = last-full in let n = w .count in
         let at : s .fed % 128 ≡ 0 = omega arith in
         let end : 128 * lastOf ys ≡ length xs = omega arith in
-        rw (next-full, at, end, take-suc-set (s .block) 0 b (omega arith), drop-append-seam)
+        rw (next-border s at, at, last-padded ys, end, drop-append-seam) (padded-more [] b (omega arith))
 
     full : After p ys (stored (flushed s) b)
-    unfolding stored
+    unfolding nextBlock stored
     full =
         rw (flushed-full s (ap waiting (w .count) ∙ e))
-        (record { count = count-ys; words = words-full; long = long-set; rest = rest-full })
+        (record { count = count-ys; words = words-full; last = block-full })
 
   -- the block has room
   module _ (r : waiting (length xs) < 128) where
@@ -123,14 +118,24 @@ module _ (p xs : List ℕ) (b : ℕ) (s : Blake2b) (w : After p xs s) (small : l
     unfolding waiting
     place-room = omega arith
 
-    next-room : waiting (length ys) ≡ suc (waiting (length xs))
-    unfolding waiting
-    next-room = let h = long-ys in omega arith
+    -- where nothing waits, the block is of zeros
+    next-none : waiting (length xs) ≡ 0 → nextBlock s ≡ s .block
+    unfolding zeroPadded
+    next-none e =
+        let n = w .count in let q = place-room in let h = waits xs in
+        let at : s .fed % 128 ≡ 0 = omega arith in
+        let end : length xs ≤ 128 * lastOf xs = omega (arith, length-drop (128 * lastOf xs) xs) in
+        rw (next-border s at, w .last, last-padded xs, drop-of-length-le xs end)
 
-    rest-room : take (waiting (length ys)) (set (s .block) (s .fed % 128) b) ≡ drop (128 * lastOf ys) ys
-    rest-room =
-        let k = w .long in
-        rw (next-room, w .count, place-room, take-suc-set (s .block) (waiting (length xs)) b (omega arith), w .rest, last-room, drop-append-le (128 * lastOf xs) xs (b ∷ []) start-room)
+    next-room : nextBlock s ≡ s .block
+    next-room =
+        ⊎-elim (λ e. next-none (sym e)) (λ h. next-within s (omega (arith, w .count, place-room))) (eq-or-lt-of-le zero-le)
+
+    block-room : set (nextBlock s) (s .fed % 128) b ≡ blockOf ys (lastOf ys)
+    block-room =
+        let d = drop (128 * lastOf xs) xs in
+        let k : length d < 128 = omega (arith, waits xs, r) in
+        rw (next-room, w .last, w .count, place-room, ← waits xs, last-padded xs, padded-more d b k, last-padded ys, last-room, drop-append-le (128 * lastOf xs) xs (b ∷ []) start-room)
 
     room : After p ys (stored (flushed s) b)
     unfolding stored
@@ -139,8 +144,7 @@ module _ (p xs : List ℕ) (b : ℕ) (s : Blake2b) (w : After p xs s) (small : l
         (record {
           count = count-ys;
           words = rw (last-room, chained-more (startWords p) xs (b ∷ []) (lastOf xs) start-room) (w .words);
-          long = long-set;
-          rest = rest-room;
+          last = block-room;
         })
 
   after-byte : After p ys (stored (flushed s) b)
@@ -156,24 +160,15 @@ after-all p (y ∷ ys) xs s w h =
     rw (append-assoc xs (y ∷ []) ys) at (after-all p ys (xs ++ (y ∷ [])) (stored (flushed s) y) (after-byte p xs y s w (omega arith)) e)
 
 after-none : (p : List ℕ) → After p [] (begun p)
-unfolding begun chained lastOf waiting
-after-none p = record { count = refl; words = refl; long = refl; rest = refl }
-
--- the padded block of the state is the last block of the data
-last-block : (p xs : List ℕ) (s : Blake2b) → After p xs s → padded s ≡ blockOf xs (lastOf xs)
-unfolding padded blockOf zeroPadded
-last-block p xs s w =
-    let d = drop (128 * lastOf xs) xs in
-    let e : length d ≡ waiting (length xs) = length-drop (128 * lastOf xs) xs ∙ waits xs in
-    let k : length d ≤ 128 = omega (arith, waits-le (length xs)) in
-    rw (w .count, w .rest, take-all 128 d k, e)
+unfolding begun chained lastOf blockOf zeroPadded
+after-none p = record { count = refl; words = refl; last = refl }
 
 -- the words of a finished state are those of the hash
 pub hash-words : (p xs : List ℕ) → length xs < 2 ^ 64 → finished (fedAll (begun p) xs) .h ≡ hashWords p xs
 unfolding finished hashWords
 hash-words p xs h =
     let w = after-all p xs [] (begun p) (after-none p) h in
-    rw (last-block p xs (fedAll (begun p) xs) w, w .words, w .count)
+    rw (w .last, w .words, w .count)
 
 -- the bytes of a finished state are those of the hash
 pub hash-fed : (p xs : List ℕ) (n : ℕ) → length xs < 2 ^ 64 → take n (bytesOf (finished (fedAll (begun p) xs) .h)) ≡ hashOf p xs n

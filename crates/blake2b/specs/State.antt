@@ -1,11 +1,12 @@
 -- The hash state: the chained words, the block that is being filled, and the number of bytes fed, modulo 2 ^ 64.
--- The next byte goes to place `fed % 128` of the block. A full block is compressed when a further byte comes, since the last block
--- is compressed with a flag (RFC 7693, section 3.3). Every value of the type is a state.
+-- The next byte goes to place `fed % 128` of the block. A block is begun with zeros, so that the last one is padded as it stands. A
+-- full block is compressed when a further byte comes, since the last block is compressed with a flag (RFC 7693, section 3.3). Every
+-- value of the type is a state.
 use Prim.Native.Nat.{ℕ, _+_, _-_, _*_, _/_, _%_, _^_}
 use mathlib.Core.Bool.{true, false, cond}
 use mathlib.Core.List.{List, [], _∷_, _++_}
 use lib.Dec.{eqb}
-use lib.ListN.{set, take, replicate}
+use lib.ListN.{set, replicate}
 use Rattle.blake2b.specs.Rfc7693.{wordsOf, F, startWords, hashOf}
 use Rattle.blake2b.specs.declared.Blake2b.{Blake2b}
 
@@ -25,9 +26,13 @@ flushedWords h block fed = cond (eqb (waiting fed) 128) (F h (wordsOf 16 block) 
 unfoldable pub flushed : Blake2b → Blake2b
 flushed s = record { h = flushedWords (s .h) (s .block) (s .fed); block = s .block; fed = s .fed }
 
+-- the block that the next byte goes to: one of zeros for a block's first byte, else the one that is being filled
+unfoldable pub nextBlock : Blake2b → List ℕ
+nextBlock s = cond (eqb (s .fed % 128) 0) (replicate 128 0) (s .block)
+
 -- a byte is stored at the next place
 unfoldable pub stored : Blake2b → ℕ → Blake2b
-stored s b = record { h = s .h; block = set (s .block) (s .fed % 128) b; fed = (s .fed + 1) % 2 ^ 64 }
+stored s b = record { h = s .h; block = set (nextBlock s) (s .fed % 128) b; fed = (s .fed + 1) % 2 ^ 64 }
 
 -- bytes are fed
 unfoldable pub fedAll : Blake2b → List ℕ → Blake2b
@@ -39,13 +44,9 @@ unfoldable pub fedParts : Blake2b → List (List ℕ) → Blake2b
 fedParts s [] = s
 fedParts s (part ∷ parts) = fedParts (fedAll s part) parts
 
--- the waiting bytes, and zeros
-unfoldable pub padded : Blake2b → List ℕ
-padded s = take (waiting (s .fed)) (s .block) ++ replicate (128 - waiting (s .fed)) 0
-
 -- the last block is compressed
 unfoldable pub finished : Blake2b → Blake2b
-finished s = record { h = F (s .h) (wordsOf 16 (padded s)) (s .fed) true; block = padded s; fed = s .fed }
+finished s = record { h = F (s .h) (wordsOf 16 (s .block)) (s .fed) true; block = s .block; fed = s .fed }
 
 -- document 01: the parameter block of CKB's hash, with 32 bytes out, no key, fanout and depth 1, and the 16 personal bytes
 -- `ckb-default-hash` at its bytes 48 to 63

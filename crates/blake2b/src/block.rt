@@ -1,9 +1,9 @@
-// The block that is being filled: its next place, how full it is, where a run of bytes ends, and the words once a full one is compressed.
+// The block that is being filled: its next place, how full it is, how many bytes fill it up, and the words once a full one is compressed.
 use super::Blake2b;
 use super::compression::compress;
 use super::compression::message_words;
 ghost use mathlib.Core.Path.{_≡_};
-ghost use Prim.Native.Nat.{_+_, _-_, _%_, _≤_, _<_};
+ghost use Prim.Native.Nat.{_-_, _%_, _≤_, min};
 ghost use Rattle.blake2b.specs.State.{waiting, flushedWords};
 
 // The place of the next byte.
@@ -23,13 +23,12 @@ pub(crate) fn waiting_bytes(fed: u64) -> usize
     (fed - 1) as usize % Blake2b::BLOCK + 1
 }
 
-// Where the run that starts at `at` ends: with the data, or with the block.
-pub(crate) fn run_end(fed: u64, at: usize, len: usize) -> usize
-    requires { ⌜ at < len ⌝ }
-    ensures { λ r. ⌜ (at < r) × ((r ≤ len) × (fed % 128 + (r - at) ≤ 128)) ⌝ }
+// How many of `len` bytes fill up the block that waits with a part.
+pub(crate) fn fill_bytes(fed: u64, len: usize) -> usize
+    ensures { λ r. ⌜ r ≡ min len ((128 - fed % 128) % 128) ⌝ }
 {
-    let room = Blake2b::BLOCK - next_place(fed);
-    if len - at < room { len } else { at + room }
+    let room = (Blake2b::BLOCK - next_place(fed)) % Blake2b::BLOCK;
+    if len < room { len } else { room }
 }
 
 // The words once a full block is compressed.

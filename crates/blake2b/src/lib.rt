@@ -2,10 +2,9 @@
 mod compression; // compression.rt
 mod block; // block.rt
 
+use self::block::fill_bytes;
 use self::block::flush;
 use self::block::next_place;
-use self::block::run_end;
-use self::block::waiting_bytes;
 use self::compression::compress;
 use self::compression::message_words;
 ghost use mathlib.Core.Path.{_≡_};
@@ -86,21 +85,30 @@ impl Blake2b {
         Self::with_parameters(p)
     }
 
-    // All of the data is fed. The loop works on locals, so that the state is not copied at each block.
+    // All of the data is fed. A waiting part is filled up first. A whole block with a further byte behind it is compressed from the data
+    // itself, without a copy. What is left begins a block. The loop works on locals, so that the state is not copied at each block.
     pub fn update(mut self, data: &[u8]) -> Self
         ensures { λ r. ⌜ r ≡ fedAll self (now («data» .entry)) ⌝ }
     {
         let mut h = self.h;
         let mut block = self.block;
         let mut fed = self.fed;
-        let mut at: usize = 0;
-        while at < data.len() {
-            let next = flush(h, &block, fed);
-            h = next;
-            let end = run_end(fed, at, data.len());
-            octets::store_bytes(&mut block, next_place(fed), &data[at..end]);
-            fed = std::num::wrapping_add_u64(fed, (end - at) as u64);
-            at = end;
+        let mut at = fill_bytes(fed, data.len());
+        octets::store_bytes(&mut block, next_place(fed), &data[0..at]);
+        fed = std::num::wrapping_add_u64(fed, at as u64);
+        if at < data.len() {
+            let first = flush(h, &block, fed);
+            h = first;
+            while Self::BLOCK < data.len() - at {
+                let end = at + Self::BLOCK;
+                fed = std::num::wrapping_add_u64(fed, Self::BLOCK as u64);
+                let next = flush(h, &data[at..end], fed);
+                h = next;
+                at = end;
+            }
+            block = [0; Self::BLOCK];
+            octets::store_bytes(&mut block, 0, &data[at..]);
+            fed = std::num::wrapping_add_u64(fed, (data.len() - at) as u64);
         }
         self.h = h;
         self.block = block;
@@ -108,17 +116,14 @@ impl Blake2b {
         self
     }
 
-    // The last block is filled up with zeros and compressed.
+    // The last block is compressed.
     pub fn finish(mut self) -> Self
         ensures { λ r. ⌜ r ≡ finished self ⌝ }
     {
         let h = self.h;
-        let mut block = self.block;
-        let fed = self.fed;
-        octets::store_bytes(&mut block, waiting_bytes(fed), &[0u8; Self::BLOCK]);
-        let next = compress(h, message_words(&block), fed, true);
+        let block = self.block;
+        let next = compress(h, message_words(&block), self.fed, true);
         self.h = next;
-        self.block = block;
         self
     }
 

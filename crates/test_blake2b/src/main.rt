@@ -1,4 +1,9 @@
-// Writes digests: RFC 7693's Appendix A, and CKB's hash of inputs about a block's length, whole and fed in two parts.
+// Writes digests: RFC 7693's Appendix A, and CKB's hash of inputs about a block's length, whole and fed in parts.
+mod splits; // splits.rt
+
+use self::splits::print_splits;
+use self::splits::steps_hash;
+use self::splits::two_hash;
 use blake2b::Blake2b;
 ghost use Prim.Native.Nat.{_≤_};
 
@@ -23,11 +28,14 @@ const LENGTHS: [usize; 14] = [
 // Where an input is cut.
 const CUTS: [usize; 4] = [1, 63, 128, 129];
 
+// How many bytes are fed at a time.
+const STEPS: [usize; 6] = [127, 128, 129, 255, 256, 257];
+
 fn wide(x: u8) -> u64 {
     x as u64
 }
 
-fn print_digest(digest: &[u8]) {
+pub(crate) fn print_digest(digest: &[u8]) {
     let mut i: usize = 0;
     while i < digest.len() {
         io::print_hex(1, wide(digest[i]), 2);
@@ -65,20 +73,10 @@ fn print_whole(data: &[u8]) {
 }
 
 // The least of the two.
-fn least(a: usize, b: usize) -> usize
+pub(crate) fn least(a: usize, b: usize) -> usize
     ensures { λ r. ⌜ (r ≤ a) × (r ≤ b) ⌝ }
 {
     if a <= b { a } else { b }
-}
-
-// The hash of the data, fed as the first `at` bytes, as far as there are as many, and the rest.
-fn cut_hash(data: &[u8], at: usize) -> [u8; 32] {
-    let k = least(at, data.len());
-    Blake2b::new()
-        .update(&data[0..k])
-        .update(&data[k..])
-        .finish()
-        .digest()
 }
 
 fn print_cut(data: &[u8], at: usize) {
@@ -87,7 +85,7 @@ fn print_cut(data: &[u8], at: usize) {
     io::write_all(1, b" cut ");
     io::print_decimal(1, at as u64);
     io::write_all(1, b" ");
-    print_digest(&cut_hash(data, at));
+    print_digest(&two_hash(data, least(at, data.len())));
 }
 
 fn print_cuts(data: &[u8]) {
@@ -99,9 +97,28 @@ fn print_cuts(data: &[u8]) {
     }
 }
 
+fn print_step(data: &[u8], step: usize) {
+    io::write_all(1, b"ckb ");
+    io::print_decimal(1, data.len() as u64);
+    io::write_all(1, b" feeds of ");
+    io::print_decimal(1, step as u64);
+    io::write_all(1, b" ");
+    print_digest(&steps_hash(data, step));
+}
+
+fn print_steps(data: &[u8]) {
+    let steps = STEPS;
+    let mut i: usize = 0;
+    while i < 6 {
+        print_step(data, steps[i]);
+        i += 1;
+    }
+}
+
 fn print_input(data: &[u8]) {
     print_whole(data);
     print_cuts(data);
+    print_steps(data);
 }
 
 fn print_lengths(data: &[u8]) {
@@ -116,5 +133,7 @@ fn print_lengths(data: &[u8]) {
 
 fn main() {
     print_appendix_a();
-    print_lengths(&pattern());
+    let data = pattern();
+    print_lengths(&data);
+    print_splits(&data);
 }
