@@ -33,10 +33,6 @@ pub flushed-room : (s : Blake2b) → (waiting (s .fed) ≡ 128 → ⊥) → flus
 unfolding flushed flushedWords
 flushed-room s e = rw (ne-eqb (waiting (s .fed)) 128 e)
 
-flushed-words : (s : Blake2b) → flushedWords (s .h) (s .block) (s .fed) ≡ flushed s .h
-unfolding flushed
-flushed-words s = refl
-
 -- within a block
 flushed-within : (s : Blake2b) → 0 < s .fed % 128 → flushed s ≡ s
 unfolding waiting
@@ -90,9 +86,8 @@ feed-run s₀ s xs at end small a b h w =
 -- the bytes that fill up a waiting part, or none
 pub feed-fill : (s : Blake2b) (xs : List ℕ) (n : ℕ) → s .fed < 2 ^ 64 → n ≤ length xs → n ≤ (128 - s .fed % 128) % 128
     → record { h = s .h; block = sets (s .block) (s .fed % 128) (take n xs); fed = (s .fed + n) % 2 ^ 64 } ≡ fedAll s (take n xs)
-unfolding fedAll
+unfolding fedAll flushed
 feed-fill s xs zero small n h = rw (add-zero, mod-eq-of-lt small)
 feed-fill s xs (suc n) small k h =
-    let e : flushed s ≡ s = flushed-within s (omega arith) in
-    let f : flushedWords (s .h) (s .block) (s .fed) ≡ s .h = flushed-words s ∙ ap (λ (t : Blake2b). t .h) e in
+    let f : flushedWords (s .h) (s .block) (s .fed) ≡ s .h = ap (λ (t : Blake2b). t .h) (flushed-within s (omega arith)) in
     rw (f, next-within s (omega arith), sub-zero) at (feed-run s s xs 0 (suc n) small (omega arith) k (omega arith) refl)

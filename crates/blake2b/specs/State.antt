@@ -26,7 +26,8 @@ flushedWords h block fed = cond (eqb (waiting fed) 128) (F h (wordsOf 16 block) 
 unfoldable pub flushed : Blake2b → Blake2b
 flushed s = record { h = flushedWords (s .h) (s .block) (s .fed); block = s .block; fed = s .fed }
 
--- the block that the next byte goes to: one of zeros for a block's first byte, else the one that is being filled
+-- the block that the next byte goes to: one of zeros for a block's first byte, else the one that is being filled. RFC 7693, section
+-- 3.3, pads the last block with zeros
 unfoldable pub nextBlock : Blake2b → List ℕ
 nextBlock s = cond (eqb (s .fed % 128) 0) (replicate 128 0) (s .block)
 
@@ -44,7 +45,7 @@ unfoldable pub fedParts : Blake2b → List (List ℕ) → Blake2b
 fedParts s [] = s
 fedParts s (part ∷ parts) = fedParts (fedAll s part) parts
 
--- the last block is compressed
+-- RFC 7693, section 3.3, of the last block: h := F( h, d[dd - 1], ll, TRUE )
 unfoldable pub finished : Blake2b → Blake2b
 finished s = record { h = F (s .h) (wordsOf 16 (s .block)) (s .fed) true; block = s .block; fed = s .fed }
 

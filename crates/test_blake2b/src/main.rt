@@ -5,7 +5,8 @@ use self::splits::print_splits;
 use self::splits::steps_hash;
 use self::splits::two_hash;
 use blake2b::Blake2b;
-ghost use Prim.Native.Nat.{_≤_};
+ghost use mathlib.Core.Path.{_≡_};
+ghost use Prim.Native.Nat.{_<_, min};
 
 // How many bytes of the pattern are hashed.
 const LENGTHS: [usize; 14] = [
@@ -74,7 +75,7 @@ fn print_whole(data: &[u8]) {
 
 // The least of the two.
 pub(crate) fn least(a: usize, b: usize) -> usize
-    ensures { λ r. ⌜ (r ≤ a) × (r ≤ b) ⌝ }
+    ensures { λ r. ⌜ r ≡ min a b ⌝ }
 {
     if a <= b { a } else { b }
 }
@@ -97,7 +98,9 @@ fn print_cuts(data: &[u8]) {
     }
 }
 
-fn print_step(data: &[u8], step: usize) {
+fn print_step(data: &[u8], step: usize)
+    requires { ⌜ 0 < step ⌝ }
+{
     io::write_all(1, b"ckb ");
     io::print_decimal(1, data.len() as u64);
     io::write_all(1, b" feeds of ");

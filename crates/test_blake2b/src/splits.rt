@@ -114,23 +114,14 @@ pub(crate) fn print_splits(data: &[u8]) {
     }
 }
 
-// Where the feed of `step` bytes that starts at `at` ends. A step of 0 takes the rest.
-fn step_end(at: usize, step: usize, len: usize) -> usize
-    requires { ⌜ at < len ⌝ }
-    ensures { λ r. ⌜ (at < r) × (r ≤ len) ⌝ }
-{
-    if step == 0 {
-        return len;
-    }
-    if len - at <= step { len } else { at + step }
-}
-
 // The hash of the data, fed `step` bytes at a time, with an empty feed before each of them and behind the last.
-pub(crate) fn steps_hash(data: &[u8], step: usize) -> [u8; 32] {
+pub(crate) fn steps_hash(data: &[u8], step: usize) -> [u8; 32]
+    requires { ⌜ 0 < step ⌝ }
+{
     let mut state = Blake2b::new();
     let mut at: usize = 0;
     while at < data.len() {
-        let end = step_end(at, step, data.len());
+        let end = at + least(step, data.len() - at);
         state = state.update(&data[0..0]).update(&data[at..end]);
         at = end;
     }

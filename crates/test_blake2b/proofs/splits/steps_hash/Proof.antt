@@ -21,7 +21,9 @@ steps-hash-spec =
     μ-loop
     (λ c κs. search needs)
     (λ c. omega arith)
+    (λ c. omega arith)
     (λ c κs. search needs)
+    (λ c. omega arith)
     (λ c. omega arith)
     (λ c. omega arith)
     (λ c. omega arith)
