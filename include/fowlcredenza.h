@@ -52,7 +52,8 @@ enum fowlcredenza_number {
     FOWLCREDENZA_INVALID_OPERATION = 37,
     FOWLCREDENZA_UNSATISFIABLE_THRESHOLD = 38,
     FOWLCREDENZA_LENGTH_OVERFLOW = 39,
-    FOWLCREDENZA_HASH_MISMATCH = 40
+    FOWLCREDENZA_HASH_MISMATCH = 40,
+    FOWLCREDENZA_AUX_TOO_LONG = 44
 };
 
 /* Sizes of buffers, in bytes; of a table, in entries. */
@@ -65,10 +66,11 @@ enum fowlcredenza_size {
     FOWLCREDENZA_PROGRAM_STORE_LEN = 65536,
     FOWLCREDENZA_TABLE_LEN = 2048,
     FOWLCREDENZA_ANSWER_LEN = 148992,
-    /* At their longest: args, a state, a witness lock, a request, its aux and its proof, a public-key proof; a witness that the
-     * lock takes, and its canonical form, which has at most four bytes more than it; a hash. */
+    /* At their longest: args, a state, an aux in it, a witness lock, a request, its aux and its proof, a public-key proof; a
+     * witness that the lock takes, and its canonical form, which has at most four bytes more than it; a hash. */
     FOWLCREDENZA_ACCOUNT_LOCK_ARGS_LEN = 33,
     FOWLCREDENZA_ACCOUNT_STATE_MAX_LEN = 16384,
+    FOWLCREDENZA_ACCOUNT_STATE_MAX_AUX_LEN = 2593,
     FOWLCREDENZA_ACCOUNT_WITNESS_MAX_LOCK_LEN = 131072,
     FOWLCREDENZA_VERIFIER_MAX_REQUEST_LEN = 69728,
     FOWLCREDENZA_VERIFIER_MAX_AUX_LEN = 4096,
@@ -116,12 +118,14 @@ uint32_t fowlcredenza_parse_args(const uint8_t *args, size_t args_len, uint8_t *
 uint32_t fowlcredenza_parse_state_header(const uint8_t *state, size_t state_len, uint8_t *out,
                                          size_t out_len);
 
-/* The same, then the weights of the holders of spend, rotate and recovery. */
+/* The same, then the weights of the holders of spend, rotate and recovery. An aux above 2,593 bytes is 44, after
+ * the other faults of its entry and before those behind it. */
 uint32_t fowlcredenza_validate_state(const uint8_t *state, size_t state_len, uint8_t *out,
                                      size_t out_len);
 
 /* Slot, algorithm, capabilities, weight, hash type, ABI, place of the code hash, place and length of key and of aux,
- * offset and least slot of the next entry. The first entry has offset 32 and least slot 0. */
+ * offset and least slot of the next entry. The first entry has offset 32 and least slot 0. An aux above 2,593 bytes is 44,
+ * after the other faults of its entry. */
 uint32_t fowlcredenza_next_entry(const uint8_t *state, size_t state_len, size_t offset,
                                  uint32_t least, uint8_t *out, size_t out_len);
 
@@ -151,6 +155,7 @@ uint32_t fowlcredenza_parse_public_key_proof(const uint8_t *proof, size_t proof_
 uint32_t fowlcredenza_account_lock_args(const uint8_t *account, size_t account_len, uint8_t *out,
                                         size_t out_len, size_t *len);
 
+/* An aux above 2,593 bytes is 44, after every other refusal but 5. */
 uint32_t fowlcredenza_encode_state(uint8_t flags, uint64_t sequence, uint16_t spend,
                                    uint16_t rotate, uint16_t recovery, uint64_t since,
                                    const uint16_t *fields, size_t fields_len, const uint8_t *bytes,

@@ -33,6 +33,7 @@ pub mod number {
     pub const UNSATISFIABLE_THRESHOLD: u32 = 38;
     pub const LENGTH_OVERFLOW: u32 = 39;
     pub const HASH_MISMATCH: u32 = 40;
+    pub const AUX_TOO_LONG: u32 = 44;
 }
 
 /// Sizes of buffers, as `include/fowlcredenza.h` has them.
@@ -46,6 +47,7 @@ pub mod size {
     pub const ANSWER_LEN: usize = 148_992;
     pub const ACCOUNT_LOCK_ARGS_LEN: usize = 33;
     pub const ACCOUNT_STATE_MAX_LEN: usize = 16_384;
+    pub const ACCOUNT_STATE_MAX_AUX_LEN: usize = 2_593;
     pub const ACCOUNT_WITNESS_MAX_LOCK_LEN: usize = 131_072;
     pub const VERIFIER_MAX_REQUEST_LEN: usize = 69_728;
     pub const VERIFIER_MAX_AUX_LEN: usize = 4_096;

@@ -3,6 +3,7 @@
 
 use crate::changes;
 use crate::lent::Lent;
+use crate::locks::about_limit;
 use crate::locks::answer::{Answer, ENOUGH};
 use crate::locks::record::{records, Record};
 use crate::prng::Prng;
@@ -12,6 +13,7 @@ use crate::scene_text;
 use crate::scenes::damage;
 use crate::scenes::readings::{read, Reading};
 use crate::{measure, scene_exports, true_hashes};
+use ckb_std::{Cell, Scene};
 use std::time::{Duration, Instant, SystemTime, UNIX_EPOCH};
 use std::{fs, io, panic};
 
@@ -135,13 +137,25 @@ fn change_bytes(prng: &mut Prng, text: &mut Vec<u8>) {
     }
 }
 
-/// Gives the cells their hashes, where the reader accepts the scene.
-fn make_true(text: &mut Vec<u8>) {
+/// Changes a scene that the reader accepts.
+fn change_scene(text: &mut Vec<u8>, change: impl FnOnce(&mut Scene)) {
     if read(scene::read, text, text.len() / 2, ENTRIES, 0).number == 0 {
         let mut scene = Lent::read(text).scene();
-        true_hashes::of_scene(&mut scene);
+        change(&mut scene);
         *text = scene_text::text(&scene);
     }
+}
+
+/// An aux about its limit in a cell, if its data is a state.
+fn change_aux(prng: &mut Prng, text: &mut Vec<u8>) {
+    change_scene(text, |scene| {
+        let typed = |cell: &&mut Cell| cell.type_script.is_some();
+        let mut cells: Vec<&mut Cell> = true_hashes::cells_mut(scene).filter(typed).collect();
+        if !cells.is_empty() {
+            let place = prng.up_to(cells.len() - 1);
+            about_limit(&mut cells[place].data, prng);
+        }
+    });
 }
 
 fn kind(line: &[u8]) -> &[u8] {
@@ -193,11 +207,12 @@ impl<'a> Fuzz<'a> {
             match self.prng.up_to(9) {
                 0 => damage::change(&mut text, &mut self.prng),
                 1 => take_line(&mut self.prng, &mut text, &self.recorded[other].text),
+                2 => change_aux(&mut self.prng, &mut text),
                 _ => change_bytes(&mut self.prng, &mut text),
             }
         }
         if self.prng.up_to(7) > 0 {
-            make_true(&mut text);
+            change_scene(&mut text, true_hashes::of_scene);
         }
         text
     }

@@ -1,10 +1,12 @@
 //! Runs the port beside the original and compares. A comparison is a module with a function `run`. The lock is measured by
-//! document 02's test of hashes first.
+//! document 02's test of hashes first, and states by its limit of an aux.
 //! `originals` is set where the original files are at hand; what needs none runs without them too.
 //! Without arguments all is compared; `--long` takes many more random scenes of the lock. `--record FILE` writes scenes
 //! with their answers into a file, and `--samples FOLDER` sample scenes into a folder. `--fuzz`, with limits
 //! behind it, compares recorded scenes that are changed at random, and nothing else.
 
+#[cfg(originals)]
+mod aux_limit;
 #[cfg(originals)]
 mod cell_hashes;
 #[cfg_attr(not(originals), allow(dead_code))]

@@ -11,7 +11,10 @@ pub fn of_cell(cell: &mut Cell) {
 }
 
 pub fn of_scene(scene: &mut Scene) {
+    cells_mut(scene).for_each(of_cell);
+}
+
+pub fn cells_mut(scene: &mut Scene) -> impl Iterator<Item = &mut Cell> {
     let inputs = scene.inputs.iter_mut().map(|input| &mut input.cell);
-    let cells = inputs.chain(&mut scene.outputs).chain(&mut scene.deps);
-    cells.for_each(of_cell);
+    inputs.chain(&mut scene.outputs).chain(&mut scene.deps)
 }

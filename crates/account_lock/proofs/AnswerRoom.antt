@@ -24,7 +24,7 @@ use Rattle.account_lock.specs.Lock.{witnessLock, current, digest, earlyR
 use Rattle.account_lock.proofs.LockLaws.{group-length, group-count}
 use Rattle.account_lock.proofs.LockTheorem.{late, state-passes}
 use Rattle.account_lock.proofs.DigestTheorem.{length-hash}
-use Rattle.account_lock.proofs.Numbers.{early-number}
+use Rattle.account_lock.proofs.Numbers.{early-high, early-number}
 
 -- where the early rows pass, the walk has room for every request
 early-room : (s : Scene) (room : ℕ) → answerBufferLength ≤ room → AllPass (earlyRows s) → checkNumber (walkResult s room .found) ≢ 5
@@ -40,7 +40,7 @@ scene-never-five s room r = go (decide Passed (earlyRows s)) refl
   where
     go : (k : Check) → decide Passed (earlyRows s) ≡ k → checkNumber (orWalked k (walkResult s room) .found) ≢ 5
     go Passed h = early-room s room r (passed-all-pass (earlyRows s) h)
-    go (Failed e) h = λ z. omega (arith, early-number s e h .0 .0)
+    go (Failed e) h = λ z. omega (arith, early-high e (early-number s e h))
 
 -- nor is any table and store: an invalid table is 7
 pub lock-never-five : (table store : List ℕ) (room : ℕ) → answerBufferLength ≤ room → checkNumber (lockOf table store room .found) ≢ 5

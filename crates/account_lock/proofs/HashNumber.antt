@@ -11,7 +11,7 @@ use Rattle.protocol.specs.Rows.{AllPass, decide, _then_, checkNumber}
 use Rattle.protocol.specs.declared.error.ProtocolError.the-variants.{SlicesDisagree}
 use Rattle.protocol.specs.declared.check.Check.{Check}
 use Rattle.protocol.specs.declared.check.Check.the-variants.{Passed, Failed}
-use Rattle.protocol.proofs.AllPass.{decide-both, passed-all-pass, all-pass-passed}
+use Rattle.protocol.proofs.AllPass.{decide-both, passed-all-pass, all-pass-passed, all-pass-append}
 use Rattle.protocol.proofs.Each.{Refuses, each-refuses}
 use Rattle.scene_table.specs.Scene.{Scene}
 use Rattle.scene_table.specs.Lent.{sceneIn}
@@ -19,7 +19,8 @@ use Rattle.scene_table.specs.Valid.{validTable}
 use Rattle.cell_hashes.specs.Hashes.{hashRows}
 use Rattle.decision.specs.Walk.{walkList, walkLock}
 use Rattle.account_lock.specs.Lock as lock
-use Rattle.account_lock.proofs.Numbers.{Differs, Behind, WalkRefusal, behindRows, hashes-differ, behind-each, walk-refusal}
+use Rattle.account_lock.proofs.LongRequest.{entries-within}
+use Rattle.account_lock.proofs.Numbers.{Differs, Behind, behind-not-40, WalkRefusal, behindRows, hashes-differ, behind-each, walk-refusal}
 
 module _ (s : Scene) (room : ℕ) where
   -- the rows behind the hashes count where these agree
@@ -33,12 +34,14 @@ module _ (s : Scene) (room : ℕ) where
   walk-not-40 (Failed e) (inr h) q = absurd (omega (arith, h .1))
 
   scene-not-40 : AllPass (hashRows s) → checkNumber (lock.lockScene s room .found) ≢ 40
-  unfolding lock.lockScene lock.orWalked lock.refused lock.walkResult lock.walked walkLock walkList _then_
-  scene-not-40 h = rw (early-both, all-pass-passed (hashRows s) h) (go (decide Passed (behindRows s)) (each-refuses Behind (behindRows s) (behind-each s)))
+  unfolding lock.earlyRows lock.lockScene lock.orWalked lock.refused lock.walkResult lock.walked walkLock walkList _then_
+  scene-not-40 h = rw (early-both, all-pass-passed (hashRows s) h) (go (decide Passed (behindRows s)) refl (each-refuses Behind (behindRows s) (behind-each s)))
     where
-      go : (k : Check) → Refuses Behind k → checkNumber (lock.orWalked k (lock.walkResult s room) .found) ≢ 40
-      go Passed r q = walk-not-40 (walkLock (lock.contextOf s room) (lock.witnessLock s) .found) (walk-refusal _ _ 0 0 [] _) q
-      go (Failed e) r q = absurd (omega (arith, r .0 .1))
+      go : (k : Check) → decide Passed (behindRows s) ≡ k → Refuses Behind k → checkNumber (lock.orWalked k (lock.walkResult s room) .found) ≢ 40
+      go Passed e r q =
+          let w = entries-within s room (all-pass-append (hashRows s) (behindRows s) h (passed-all-pass (behindRows s) e)) in
+          walk-not-40 (walkLock (lock.contextOf s room) (lock.witnessLock s) .found) (walk-refusal _ w _ 0 0 [] _) q
+      go (Failed e) p r q = absurd (behind-not-40 e r q)
 
   scene-40 : ¬ AllPass (hashRows s) → checkNumber (lock.lockScene s room .found) ≡ 40
   unfolding lock.lockScene lock.orWalked lock.refused _then_

@@ -3,6 +3,7 @@ pub mod LockLaws
 pub mod LockTheorem
 pub mod DigestTheorem
 pub mod AnswerTheorem
+pub mod LongRequest
 pub mod Numbers
 pub mod AnswerRoom
 pub mod Unsatisfied

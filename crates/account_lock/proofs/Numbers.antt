@@ -1,9 +1,9 @@
--- The numbers that the lock gives, for every table, store and answer buffer: 0, its own 5 and 7, the original's 20 to 39, and 40.
--- So it never gives 6, and 7 only where the table fails its test.
+-- The numbers that the lock gives, for every table, store and answer buffer: 0, its own 5 and 7, the original's 20 to 38, 40 and 44.
+-- So it never gives 6 or 39, and 7 only where the table fails its test.
 -- Assumes nothing.
-use mathlib.Core.Path.{_≡_, refl}
+use mathlib.Core.Path.{_≡_, refl, sym, _∙_}
 use mathlib.Core.Logic.{_≢_, _⊎_, inl, inr, _↔_}
-use mathlib.Core.Bool.{Bool, true, false, cond}
+use mathlib.Core.Bool.{Bool, true, false, cond, true≢false}
 use mathlib.Core.List.{List, [], _∷_, _++_}
 use Prim.Native.Nat.{ℕ, zero, suc, _+_, _≤_}
 use native.Mathlib.Omega.{arith}
@@ -13,13 +13,15 @@ use Rattle.protocol.specs.Args.{argsRows}
 use Rattle.protocol.specs.Errors.{errorNumber}
 use Rattle.protocol.specs.Rows.{Row, decide, checkNumber}
 use Rattle.protocol.specs.declared.error.ProtocolError.{ProtocolError}
-use Rattle.protocol.specs.declared.error.ProtocolError.the-variants.{BufferTooShort, SlicesDisagree, InvalidWitness, ThresholdUnsatisfied, InvalidCapability, InvalidVerifierRef, VerifierFailure, InvalidRequest, LengthOverflow}
+use Rattle.protocol.specs.declared.error.ProtocolError.the-variants.{SlicesDisagree, InvalidWitness, ThresholdUnsatisfied, InvalidCapability, InvalidVerifierRef, VerifierFailure, InvalidRequest}
 use Rattle.protocol.specs.declared.check.Check.{Check}
 use Rattle.protocol.specs.declared.check.Check.the-variants.{Passed, Failed}
-use Rattle.protocol.proofs.Each.{Each, Refuses, each-append, each-cond, each-more, each-refuses, each-failed}
+use Rattle.protocol.proofs.AllPass.{passed-all-pass}
+use Rattle.protocol.proofs.Each.{Each, Refuses, each-append, each-cond, each-more, each-refuses, each-failed, failing-refuses}
 use Rattle.molecule.specs.Table3.{tableRows}
 use Rattle.molecule.specs.Bytes as molecule
-use Rattle.account_state.specs.Fields.{recoveryEnabled, entryLengthOf, entrySlotOf, entryCountOf}
+use Rattle.account_state.specs.Fields.{recoveryEnabled, auxLengthOf, entryLengthOf, entrySlotOf, entryCountOf}
+use Rattle.account_state.specs.Reading.{AuxWithin}
 use Rattle.account_state.specs.State as state
 use Rattle.account_witness.specs.Header.{witnessHeaderRows}
 use Rattle.account_witness.specs.Reading.{ProofReading}
@@ -33,45 +35,70 @@ use Rattle.group_sighash.specs.Witnesses.{countRows, firstWitnessRows, groupRow
 use Rattle.state_transition.specs.Resolve as resolve
 use Rattle.state_transition.specs.Transition as transition
 use Rattle.decision.specs.Proofs.{Context, requestLimitRows, authenticatorRows, proofRows, requestOf}
+use Rattle.decision.proofs.LongRequest.{within-limits}
 use Rattle.decision.specs.Walk.{WalkOutcome, walkOutcome, verdict, approvedWeight, lastRows, unlessFailed, walkFrom, walkList, walkLock}
 use Rattle.account_lock.specs.Lock as lock
 use Rattle.account_lock.specs.Decides.{LockNumber}
+use Rattle.account_lock.proofs.LongRequest.{entries-within}
 
--- 01: "Error numbers are 20 to 39": a refusal of the original
+-- 01: "Error numbers are 20 to 39": a refusal of the original, but for 39
 abbrev pub Original : ProtocolError → Type 0
-Original e = (20 ≤ errorNumber e) × (errorNumber e ≤ 39)
+Original e = (20 ≤ errorNumber e) × (errorNumber e ≤ 38)
 
 -- 02, change 1: "40 where a hash differs"
 abbrev pub Differs : ProtocolError → Type 0
 Differs e = errorNumber e ≡ 40
 
--- either: a refusal behind the table's test, but for the lock's own 5
-abbrev pub Numbered : ProtocolError → Type 0
-Numbered e = (20 ≤ errorNumber e) × (errorNumber e ≤ 40)
+-- 02, change 6: an aux above the limit is 44
+abbrev pub Limits : ProtocolError → Type 0
+Limits e = errorNumber e ≡ 44
 
--- ---- the rows before the proofs: those of the hashes give 40, each of the others a refusal of the original, and none 28
+-- ---- the rows before the proofs: those of the hashes give 40, those of the limit 44, each of the others a refusal of the original,
+-- and none 28
+
+abbrev Plain : ProtocolError → Type 0
+Plain e = Original e × (errorNumber e ≢ 28)
 
 abbrev pub Behind : ProtocolError → Type 0
-Behind e = Original e × (errorNumber e ≢ 28)
+Behind e = Plain e ⊎ Limits e
 
 abbrev pub Early : ProtocolError → Type 0
-Early e = Numbered e × (errorNumber e ≢ 28)
+Early e = Behind e ⊎ Differs e
 
-behind-early : (e : ProtocolError) → Behind e → Early e
-behind-early e h = ((h .0 .0, omega (arith, h .0 .1)), h .1)
+plain-behind : (rs : List Row) → Each Plain rs → Each Behind rs
+plain-behind = each-more Plain Behind (λ e h. inl h)
 
-differs-early : (e : ProtocolError) → Differs e → Early e
-differs-early e h = ((omega arith, omega arith), λ q. absurd (omega arith))
+-- none is below 20,
+pub early-high : (e : ProtocolError) → Early e → 20 ≤ errorNumber e
+early-high e (inl (inl h)) = h .0 .0
+early-high e (inl (inr h)) = omega arith
+early-high e (inr h) = omega arith
+
+-- none 28, and none behind the hashes 40
+pub early-not-28 : (e : ProtocolError) → Early e → errorNumber e ≢ 28
+early-not-28 e (inl (inl h)) = h .1
+early-not-28 e (inl (inr h)) = λ q. omega arith
+early-not-28 e (inr h) = λ q. omega arith
+
+pub behind-not-40 : (e : ProtocolError) → Behind e → errorNumber e ≢ 40
+behind-not-40 e (inl h) = λ q. omega (arith, h .0 .1)
+behind-not-40 e (inr h) = λ q. omega arith
 
 -- a state's header
 head-early : (s : List ℕ) → Each Behind (state.stateHeaderRows s)
 unfolding state.stateHeaderRows
-head-early s = search arith depth 20
+head-early s = plain-behind (state.stateHeaderRows s) (search arith depth 20)
 
 -- one of its entries
+original-early : (e : List ℕ) (least : ℕ) → Each Plain (state.originalEntryRows e least)
+unfolding state.originalEntryRows state.entryLayoutRows state.entryFieldRows
+original-early e least = search arith depth 20
+
 entry-early : (e : List ℕ) (least : ℕ) → Each Behind (state.entryRows e least)
-unfolding state.entryRows state.entryLayoutRows state.entryFieldRows
-entry-early e least = search arith depth 20
+unfolding state.entryRows
+entry-early e least =
+    each-append Behind (state.originalEntryRows e least) (state.auxLimitRow (auxLengthOf e) ∷ []) (plain-behind (state.originalEntryRows e least) (original-early e least))
+    (inr refl, tt)
 
 -- its entries
 entries-early : (n : ℕ) (e : List ℕ) (least : ℕ) → Each Behind (state.entriesRows n e least)
@@ -81,14 +108,14 @@ entries-early (suc n) e least =
     each-append Behind (state.entryRows e least) _ (entry-early e least) (entries-early n (drop (entryLengthOf e) e) (entrySlotOf e + 1))
 
 -- its recovery
-recovery-early : (flags threshold since weight : ℕ) → Each Behind (state.recoveryThresholdRows flags threshold since weight)
+recovery-early : (flags threshold since weight : ℕ) → Each Plain (state.recoveryThresholdRows flags threshold since weight)
 unfolding state.recoveryThresholdRows
-recovery-early flags threshold since weight = each-cond Behind (recoveryEnabled flags) _ _ (search arith) (search arith)
+recovery-early flags threshold since weight = each-cond Plain (recoveryEnabled flags) _ _ (search arith) (search arith)
 
 -- what follows its entries
 tail-early : (s : List ℕ) (n : ℕ) (e : List ℕ) → Each Behind (state.stateTailRows s n e)
 unfolding state.stateTailRows state.stateEndRows state.thresholdRows
-tail-early s n e = search (arith, recovery-early) depth 12
+tail-early s n e = plain-behind (state.stateTailRows s n e) (search (arith, recovery-early) depth 12)
 
 -- the whole state
 state-early : (s : List ℕ) → Each Behind (state.stateRows s)
@@ -100,41 +127,42 @@ state-early s =
 -- the script
 script-early : (script : List ℕ) → Each Behind (lock.scriptRows script)
 unfolding lock.scriptRows molecule.scriptArgsRows tableRows molecule.bytesRows argsRows
-script-early script = search arith depth 20
+script-early script = plain-behind (lock.scriptRows script) (search arith depth 20)
 
 -- the first witness of the group
 group-early : (s : Scene) → Each Behind (groupRows s)
 unfolding groupRows firstWitnessRows molecule.witnessLockRows tableRows molecule.bytesRows witnessHeaderRows countRows
-group-early s = search arith depth 30
+group-early s = plain-behind (groupRows s) (search arith depth 30)
 
 -- the other hashed witnesses
 other-early : (s : Scene) → Each Behind (otherRows s)
 unfolding otherRows
-other-early s = search arith
+other-early s = plain-behind (otherRows s) (search arith)
 
 -- the cells of the state
 resolve-early : (operation : ℕ) (id : List ℕ) (s : Scene) → Each Behind (resolve.resolveRows operation id s)
 unfolding resolve.resolveRows resolve.spendRows resolve.changeRows resolve.typeRows
 resolve-early operation id s =
-    each-cond Behind (eqb operation 1) (resolve.spendRows id s) (resolve.changeRows id s) (search arith depth 12) (search arith depth 12)
+    plain-behind (resolve.resolveRows operation id s)
+    (each-cond Plain (eqb operation 1) (resolve.spendRows id s) (resolve.changeRows id s) (search arith depth 12) (search arith depth 12))
 
 -- the data of the current state and of its successor
 data-early : (current successor : List ℕ) → Each Behind (transition.dataRows current successor)
 unfolding transition.dataRows
-data-early current successor = search arith
+data-early current successor = plain-behind (transition.dataRows current successor) (search arith)
 
 -- the current state and the witness sequence
 current-early : (sequence : ℕ) (current : List ℕ) → Each Behind (transition.currentRows sequence current)
 unfolding transition.currentRows
-current-early sequence current = each-append Behind (state.stateRows current) _ (state-early current) (search arith)
+current-early sequence current = each-append Behind (state.stateRows current) _ (state-early current) (inl (search arith), tt)
 
 -- the successor and the recovery
 change-early : (operation since : ℕ) (current successor : List ℕ) → Each Behind (transition.successionRows operation since current successor)
 unfolding transition.successionRows transition.successorRows transition.recoveryRows
 change-early operation since current successor =
     each-append Behind (transition.successorRows current successor) _
-    (each-append Behind (state.stateRows successor) _ (state-early successor) (search arith))
-    (each-cond Behind (eqb operation 3) (transition.recoveryRows since current) [] (search arith) tt)
+    (each-append Behind (state.stateRows successor) _ (state-early successor) (inl (search arith), tt))
+    (each-cond Behind (eqb operation 3) (transition.recoveryRows since current) [] (plain-behind (transition.recoveryRows since current) (search arith)) tt)
 
 -- both states
 transition-early : (operation sequence since : ℕ) (current successor : List ℕ)
@@ -174,8 +202,8 @@ hashes-differ s =
 pub early-each : (s : Scene) → Each Early (lock.earlyRows s)
 unfolding lock.earlyRows
 early-each s =
-    each-append Early (hashRows s) _ (each-more Differs Early differs-early (hashRows s) (hashes-differ s))
-    (each-more Behind Early behind-early (behindRows s) (behind-each s))
+    each-append Early (hashRows s) _ (each-more Differs Early (λ e h. inr h) (hashRows s) (hashes-differ s))
+    (each-more Behind Early (λ e h. inl h) (behindRows s) (behind-each s))
 
 -- a refusal before the proofs is such
 pub early-number : (s : Scene) (e : ProtocolError) → decide Passed (lock.earlyRows s) ≡ Failed e → Early e
@@ -190,17 +218,16 @@ WalkRefusal e = (errorNumber e ≡ 5) ⊎ Original e
 original-refusal : (e : ProtocolError) → Original e → WalkRefusal e
 original-refusal e h = inr h
 
--- one proof's rows
-proof-refusal : (c : Context) (used : ℕ) (p : ProofReading) → Each WalkRefusal (proofRows c used p)
+-- one proof's rows, where no aux is above the limit
+proof-refusal : (c : Context) (used : ℕ) (p : ProofReading) → AuxWithin (c .entries) → Refuses WalkRefusal (decide Passed (proofRows c used p))
 unfolding proofRows authenticatorRows requestLimitRows
-proof-refusal c used p =
+proof-refusal c used p w =
     let witness = original-refusal InvalidWitness (search arith) in
     let capability = original-refusal InvalidCapability (search arith) in
     let verifier = original-refusal InvalidVerifierRef (search arith) in
     let request = original-refusal InvalidRequest (search arith) in
-    let overflow = original-refusal LengthOverflow (search arith) in
-    let room : WalkRefusal BufferTooShort = inl refl in
-    search depth 12
+    failing-refuses WalkRefusal (proofRows c used p)
+    (λ _. witness, λ _. (λ _. capability, λ _. (λ _. verifier, λ _. (λ _. request, λ short. (λ long. absurd (true≢false (sym (within-limits c p w short .request) ∙ long)), λ _. (λ _. request, λ _. (λ _. inl refl, λ _. tt)))))))
 
 -- behind the last proof
 end-refusal : (clean : Bool) (weight threshold : ℕ) → Each WalkRefusal (lastRows clean weight threshold)
@@ -211,13 +238,13 @@ end-refusal clean weight threshold =
     search depth 12
 
 -- one proof, and those behind it
-pub walk-refusal : (c : Context) (clean : Bool) (i weight : ℕ) (made : List ℕ) (ps : List ProofReading)
+pub walk-refusal : (c : Context) → AuxWithin (c .entries) → (clean : Bool) (i weight : ℕ) (made : List ℕ) (ps : List ProofReading)
     → Refuses WalkRefusal (walkFrom c clean i weight made ps .found)
 unfolding walkFrom unlessFailed
-walk-refusal c clean i weight made [] = each-refuses WalkRefusal _ (end-refusal clean weight (c .threshold))
-walk-refusal c clean i weight made (p ∷ ps) =
-    go (decide Passed (proofRows c (length made) p)) (each-refuses WalkRefusal _ (proof-refusal c (length made) p)) (eqb (verdict c i) 2)
-    (walkFrom c clean (i + 1) (weight + approvedWeight c i p) (made ++ requestOf c p) ps) (walk-refusal c clean (i + 1) _ _ ps)
+walk-refusal c w clean i weight made [] = each-refuses WalkRefusal _ (end-refusal clean weight (c .threshold))
+walk-refusal c w clean i weight made (p ∷ ps) =
+    go (decide Passed (proofRows c (length made) p)) (proof-refusal c (length made) p w) (eqb (verdict c i) 2)
+    (walkFrom c clean (i + 1) (weight + approvedWeight c i p) (made ++ requestOf c p) ps) (walk-refusal c w clean (i + 1) _ _ ps)
   where
     go : (k : Check) → Refuses WalkRefusal k → (b : Bool) (onward : WalkOutcome) → Refuses WalkRefusal (onward .found)
         → Refuses WalkRefusal (unlessFailed k i made (cond b (walkOutcome (Failed VerifierFailure) (i + 1) (made ++ requestOf c p)) onward) .found)
@@ -229,35 +256,40 @@ walk-refusal c clean i weight made (p ∷ ps) =
 
 -- a refusal behind the table's test
 abbrev LockRefusal : ProtocolError → Type 0
-LockRefusal e = (errorNumber e ≡ 5) ⊎ Numbered e
-
-walk-lock : (k : Check) → Refuses WalkRefusal k → Refuses LockRefusal k
-walk-lock Passed h = tt
-walk-lock (Failed e) (inl h) = inl h
-walk-lock (Failed e) (inr h) = inr (h .0, omega (arith, h .1))
+LockRefusal e = WalkRefusal e ⊎ Early e
 
 -- over a scene
 scene-refusal : (s : Scene) (room : ℕ) → Refuses LockRefusal (lock.lockScene s room .found)
 unfolding lock.lockScene lock.orWalked lock.refused lock.walkResult lock.walked walkLock walkList
-scene-refusal s room = go (decide Passed (lock.earlyRows s)) (each-refuses Early _ (early-each s))
+scene-refusal s room = go (decide Passed (lock.earlyRows s)) refl (each-refuses Early _ (early-each s))
   where
-    go : (k : Check) → Refuses Early k → Refuses LockRefusal (lock.orWalked k (lock.walkResult s room) .found)
-    go Passed h = walk-lock (walkLock (lock.contextOf s room) (lock.witnessLock s) .found) (walk-refusal _ _ 0 0 [] _)
-    go (Failed e) h = inr (h .0)
+    walk-lock : (k : Check) → Refuses WalkRefusal k → Refuses LockRefusal k
+    walk-lock Passed h = tt
+    walk-lock (Failed e) h = inl h
+
+    go : (k : Check) → decide Passed (lock.earlyRows s) ≡ k → Refuses Early k → Refuses LockRefusal (lock.orWalked k (lock.walkResult s room) .found)
+    go Passed q h =
+        let w = entries-within s room (passed-all-pass (lock.earlyRows s) q) in
+        walk-lock (walkLock (lock.contextOf s room) (lock.witnessLock s) .found) (walk-refusal _ w _ 0 0 [] _)
+    go (Failed e) q h = inr h
 
 -- the number of what it finds there
 scene-number : (k : Check) → Refuses LockRefusal k → LockNumber (checkNumber k)
 scene-number Passed h = inl refl
-scene-number (Failed e) (inl h) = inr (inl h)
-scene-number (Failed e) (inr h) = inr (inr (inr h))
+scene-number (Failed e) (inl (inl h)) = inr (inl h)
+scene-number (Failed e) (inl (inr h)) = inr (inr (inr (inl h)))
+scene-number (Failed e) (inr (inl (inl h))) = inr (inr (inr (inl (h .0))))
+scene-number (Failed e) (inr (inl (inr h))) = inr (inr (inr (inr (inr h))))
+scene-number (Failed e) (inr (inr h)) = inr (inr (inr (inr (inl h))))
 
 not-seven : (k : Check) → Refuses LockRefusal k → checkNumber k ≢ 7
 not-seven Passed h q = absurd (omega arith)
-not-seven (Failed e) (inl h) q = absurd (omega arith)
-not-seven (Failed e) (inr h) q = absurd (omega (arith, h .0))
+not-seven (Failed e) (inl (inl h)) q = absurd (omega arith)
+not-seven (Failed e) (inl (inr h)) q = absurd (omega (arith, h .0))
+not-seven (Failed e) (inr h) q = absurd (omega (arith, early-high e h))
 
 module _ (table store : List ℕ) (room : ℕ) where
-  -- every number that the lock gives is 0, 5, 7, or 20 to 40
+  -- every number that the lock gives is 0, 5, 7, 20 to 38, 40 or 44
   pub lock-numbers : LockNumber (checkNumber (lock.lockOf table store room .found))
   unfolding lock.lockOf lock.refused
   lock-numbers = go (validTable table (length store))
@@ -284,7 +316,9 @@ not-six : (n : ℕ) → LockNumber n → n ≢ 6
 not-six n (inl h) q = absurd (omega arith)
 not-six n (inr (inl h)) q = absurd (omega arith)
 not-six n (inr (inr (inl h))) q = absurd (omega arith)
-not-six n (inr (inr (inr h))) q = absurd (omega (arith, h .0))
+not-six n (inr (inr (inr (inl h)))) q = absurd (omega (arith, h .0))
+not-six n (inr (inr (inr (inr (inl h))))) q = absurd (omega arith)
+not-six n (inr (inr (inr (inr (inr h))))) q = absurd (omega arith)
 
 -- the lock never gives 6
 pub lock-never-six : (table store : List ℕ) (room : ℕ) → checkNumber (lock.lockOf table store room .found) ≢ 6

@@ -23,7 +23,7 @@ use Rattle.account_lock.specs.Lock.{witnessLock, earlyRows, contextOf, R
 use Rattle.account_lock.specs.Decides.{EarlierPass, LockQuorum}
 use Rattle.account_lock.proofs.LockTheorem.{lock-decision}
 use Rattle.account_lock.proofs.DigestTheorem.{early-walked}
-use Rattle.account_lock.proofs.Numbers.{Early, early-each}
+use Rattle.account_lock.proofs.Numbers.{Early, early-not-28, early-each}
 
 -- no row before the proofs gives 0 or 28
 early-last : (k : Check) (w : Result) → Refuses Early k → ZeroOr28 (checkNumber (orWalked k w .found))
@@ -31,7 +31,7 @@ early-last : (k : Check) (w : Result) → Refuses Early k → ZeroOr28 (checkNum
 unfolding orWalked refused
 early-last Passed w r h = (refl, h)
 early-last (Failed e) w r (inl h) = absurd (not-0 e h)
-early-last (Failed e) w r (inr h) = absurd (r .1 h)
+early-last (Failed e) w r (inr h) = absurd (early-not-28 e r h)
 
 module _ (table store : List ℕ) (room : ℕ) where
   -- the lock's number is 0 or 28 exactly where every earlier row passes

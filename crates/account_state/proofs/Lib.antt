@@ -7,4 +7,5 @@ pub mod Accepted
 pub mod Steps
 pub mod StateGiven
 pub mod Slots
+pub mod AuxLimit
 pub mod Smallest

@@ -8,9 +8,9 @@ use borrow.Author.Tests.{leb-true, eqb-true}
 use lib.ListN.{length}
 use Rattle.protocol.specs.Rows.{AllPass}
 use Rattle.protocol.proofs.AllPass.{all-pass-split}
-use Rattle.account_state.specs.Fields.{auxLengthOf, entryBytesOf, entryCountOf, entryLengthOf, entrySlotOf, keyLengthOf, stateHeaderLengthOf, stateMagicOf, stateReservedOf, stateVersionOf}
+use Rattle.account_state.specs.Fields.{auxLengthOf, entryBytesOf, entryCountOf, entryLengthOf, entrySlotOf, keyLengthOf, auxMaxLength, stateHeaderLengthOf, stateMagicOf, stateReservedOf, stateVersionOf}
 use Rattle.account_state.specs.Reading.{stateMagic}
-use Rattle.account_state.specs.State.{stateHeaderRows, entryLayoutRows, entryFieldRows, entryFieldsOf, entryRows, entriesRows, behindEntries, stateEndRows, stateTailRows, stateRows}
+use Rattle.account_state.specs.State.{stateHeaderRows, entryLayoutRows, entryFieldRows, entryFieldsOf, originalEntryRows, auxLimitRow, entryRows, entriesRows, behindEntries, stateEndRows, stateTailRows, stateRows}
 
 -- a header
 pub record HeaderPassed (s : List ℕ) : Type 0 where
@@ -37,7 +37,8 @@ header-passed s h =
       count = leb-true _ _ (h .1 .1 .1 .1 .1 .1 .1 .1 .0);
     }
 
--- an entry: it is present, its length is that of its parts and stays inside, its slot is above its predecessor's
+-- an entry: it is present, its length is that of its parts and stays inside, its slot is above its predecessor's, its aux is neither
+-- empty nor above the limit
 pub record EntryPassed (e : List ℕ) (least : ℕ) : Type 0 where
   pub present : 48 ≤ length e
   pub sum : entryLengthOf e ≡ 48 + keyLengthOf e + auxLengthOf e
@@ -45,11 +46,13 @@ pub record EntryPassed (e : List ℕ) (least : ℕ) : Type 0 where
   pub slot : least ≤ entrySlotOf e
   pub key : keyLengthOf e ≡ 32
   pub aux : 1 ≤ auxLengthOf e
+  pub limit : auxLengthOf e ≤ auxMaxLength
 
 pub entry-passed : (e : List ℕ) (least : ℕ) → AllPass (entryRows e least) → EntryPassed e least
-unfolding entryRows entryLayoutRows entryFieldRows
+unfolding entryRows originalEntryRows entryLayoutRows entryFieldRows
 entry-passed e least h =
-    let z = all-pass-split (entryLayoutRows e least) (entryFieldRows (entryFieldsOf e)) h in
+    let y = all-pass-split (originalEntryRows e least) (auxLimitRow (auxLengthOf e) ∷ []) h in
+    let z = all-pass-split (entryLayoutRows e least) (entryFieldRows (entryFieldsOf e)) (y .0) in
     record {
       present = leb-true _ _ (z .0 .0);
       sum = eqb-true _ _ (z .0 .1 .0);
@@ -57,6 +60,7 @@ entry-passed e least h =
       slot = leb-true _ _ (z .0 .1 .1 .1 .0);
       key = eqb-true _ _ (z .1 .1 .1 .1 .1 .1 .0);
       aux = leb-true _ _ (z .1 .1 .1 .1 .1 .1 .1 .0);
+      limit = leb-true _ _ (y .1 .0);
     }
 
 nothing : (l : List ℕ) → length l ≡ 0 → l ≡ []

@@ -92,6 +92,11 @@ keyLengthOf e = numberAt e 44 2
 abbrev pub auxLengthOf : List ℕ → ℕ
 auxLengthOf e = numberAt e 46 2
 
+-- 02, change 6: "The longest aux in any of our accounts has 2,593 bytes, a profile byte and an ML-DSA-87 public key. The state
+-- reader takes that as its limit"
+abbrev pub auxMaxLength : ℕ
+auxMaxLength = 2593
+
 abbrev pub keyOf : List ℕ → List ℕ
 keyOf e = take (keyLengthOf e) (drop keyOffset e)
 

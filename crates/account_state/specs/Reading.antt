@@ -1,12 +1,12 @@
 -- The reading of an account state: every field but fixed bytes, lengths and the count; and its written form.
 use mathlib.Core.Path.{_≡_}
-use Prim.Native.Nat.{ℕ, zero, suc, _+_, _^_, _<_}
+use Prim.Native.Nat.{ℕ, zero, suc, _+_, _^_, _≤_, _<_}
 use mathlib.Core.Bool.{cond}
 use mathlib.Core.List.{List, [], _∷_, _++_}
 use lib.ListN.{length, drop}
 use Rattle.octets.specs.Layout.{Field, layoutBytes}
 use Rattle.protocol.specs.Policy.{hasCapability}
-use Rattle.account_state.specs.Fields.{flagsOf, sequenceOf, spendThresholdOf, rotateThresholdOf, recoveryThresholdOf, entryCountOf, recoverySinceOf, entryLengthOf, entrySlotOf, algorithmOf, capabilitiesOf, weightOf, hashTypeOf, abiOf, entryBytesOf, codeHashOf, keyOf, auxOf}
+use Rattle.account_state.specs.Fields.{flagsOf, sequenceOf, spendThresholdOf, rotateThresholdOf, recoveryThresholdOf, entryCountOf, recoverySinceOf, entryLengthOf, entrySlotOf, algorithmOf, capabilitiesOf, weightOf, hashTypeOf, abiOf, auxMaxLength, entryBytesOf, codeHashOf, keyOf, auxOf}
 
 pub record EntryReading : Type 0 where
   pub slot : ℕ
@@ -144,6 +144,11 @@ pub record EntryTyped (e : EntryReading) : Type 0 where
 abbrev pub EntriesTyped : List EntryReading → Type 0
 EntriesTyped [] = Unit {0}
 EntriesTyped (e ∷ es) = EntryTyped e × EntriesTyped es
+
+-- 02, change 6: the reader takes 2,593 bytes "as its limit .. and says so to all above it": no aux is longer
+abbrev pub AuxWithin : List EntryReading → Type 0
+AuxWithin [] = Unit {0}
+AuxWithin (e ∷ es) = (length (e .aux) ≤ auxMaxLength) × AuxWithin es
 
 -- the header's numbers
 pub record StateNumbersTyped (r : StateReading) : Type 0 where

@@ -1,6 +1,6 @@
 -- The checks of an account state, in document 01's order, and what its readers give.
 use mathlib.Core.Path.{_≡_}
-use Prim.Native.Nat.{ℕ, zero, suc, _+_, _<_}
+use Prim.Native.Nat.{ℕ, zero, suc, _+_, _≤_, _<_}
 use mathlib.Core.Bool.{cond}
 use mathlib.Core.List.{List, [], _∷_, _++_}
 use lib.ListN.{length, take, drop, getD}
@@ -8,10 +8,10 @@ use lib.Dec.{leb, eqb}
 use Rattle.protocol.specs.Errors.{errorNumber}
 use Rattle.protocol.specs.Policy.{isSupportedAlgorithm}
 use Rattle.protocol.specs.Rows.{Row, row, decide}
-use Rattle.protocol.specs.declared.error.ProtocolError.the-variants.{InvalidState, InvalidVerifierRef, UnsupportedVersion, UnsupportedAlgorithm, UnsatisfiableThreshold}
+use Rattle.protocol.specs.declared.error.ProtocolError.the-variants.{InvalidState, InvalidVerifierRef, UnsupportedVersion, UnsupportedAlgorithm, UnsatisfiableThreshold, AuxTooLong}
 use Rattle.protocol.specs.declared.check.Check.{Check}
 use Rattle.protocol.specs.declared.check.Check.the-variants.{Passed, Failed}
-use Rattle.account_state.specs.Fields.{stateMagicOf, stateVersionOf, flagsOf, recoveryEnabled, stateHeaderLengthOf, sequenceOf, spendThresholdOf, rotateThresholdOf, recoveryThresholdOf, entryCountOf, stateReservedOf, recoverySinceOf, entryLengthOf, entrySlotOf, algorithmOf, capabilitiesOf, weightOf, hashTypeOf, abiOf, codeHashOffset, keyOffset, keyLengthOf, auxLengthOf, entryBytesOf}
+use Rattle.account_state.specs.Fields.{stateMagicOf, stateVersionOf, flagsOf, recoveryEnabled, stateHeaderLengthOf, sequenceOf, spendThresholdOf, rotateThresholdOf, recoveryThresholdOf, entryCountOf, stateReservedOf, recoverySinceOf, entryLengthOf, entrySlotOf, algorithmOf, capabilitiesOf, weightOf, hashTypeOf, abiOf, codeHashOffset, keyOffset, keyLengthOf, auxLengthOf, auxMaxLength, entryBytesOf}
 use Rattle.account_state.specs.Reading.{EntryReading, stateMagic, entriesOf, stateEntries, stateReading, capableWeight}
 use Rattle.account_state.specs.declared.header.StateHeader.{StateHeader}
 use Rattle.account_state.specs.declared.header.StateHeaderAnswer.{StateHeaderAnswer}
@@ -78,8 +78,17 @@ entryFieldsOf e =
       «aux_len» = auxLengthOf e;
     }
 
+-- the rows of an entry that document 01 has, as the original does
+unfoldable pub originalEntryRows : List ℕ → ℕ → List Row
+originalEntryRows e least = entryLayoutRows e least ++ entryFieldRows (entryFieldsOf e)
+
+-- an aux above the limit
+abbrev pub auxLimitRow : ℕ → Row
+auxLimitRow aux = row (leb aux auxMaxLength) AuxTooLong
+
+-- 02, change 6: "44 in each entry, after the empty-aux check"
 unfoldable pub entryRows : List ℕ → ℕ → List Row
-entryRows e least = entryLayoutRows e least ++ entryFieldRows (entryFieldsOf e)
+entryRows e least = originalEntryRows e least ++ (auxLimitRow (auxLengthOf e) ∷ [])
 
 unfoldable pub entriesRows : ℕ → List ℕ → ℕ → List Row
 entriesRows zero e least = []
@@ -188,6 +197,11 @@ entryStepAnswer (Failed x) e c = step.Refused x
 unfoldable pub entryStep : List ℕ → EntryCursor → EntryStep
 entryStep s c =
     entryStepAnswer (decide Passed (entryRows (drop (c .offset) s) (c .least))) (entryAt s (c .offset)) (entryCursorBehind s (c .offset))
+
+-- 02, change 6: what a step hands out keeps the limit
+abbrev pub StepWithin : EntryStep → Type 0
+StepWithin (Entry e c) = e .«aux_len» ≤ auxMaxLength
+StepWithin (step.Refused x) = Unit {0}
 
 -- the reading of an entry that a step hands out: its numbers, and the bytes at its places; 01: "a place in the input counting as the
 -- bytes there"

@@ -12,6 +12,7 @@ use crate::fields::key_length_of;
 use crate::fields::weight_of;
 use octets::rest;
 use protocol::ACCOUNT_STATE_HEADER_LEN;
+use protocol::ACCOUNT_STATE_MAX_AUX_LEN;
 use protocol::CAP_KNOWN_MASK;
 use protocol::Check;
 use protocol::ProtocolError;
@@ -22,7 +23,7 @@ ghost use Prim.Native.Nat.{_+_, _≤_};
 ghost use lib.ListN.{length};
 ghost use Rattle.protocol.specs.Rows.{decide};
 ghost use Rattle.protocol.specs.declared.check.Check.the-variants.{Passed};
-ghost use Rattle.account_state.specs.State.{entryLayoutRows, entryFieldRows, entryFieldsOf, entryRows, entryAt, firstEntry, entryCursorBehind, entryStep};
+ghost use Rattle.account_state.specs.State.{entryLayoutRows, entryFieldRows, entryFieldsOf, entryRows, entryAt, firstEntry, entryCursorBehind, entryStep, StepWithin};
 
 // Where the next entry begins, and the least slot that it may have: one above its predecessor's.
 pub struct EntryCursor {
@@ -127,7 +128,10 @@ pub(crate) fn check_entry(entry: &[u8], least: u32) -> Check
     if entry.len() < 48 {
         return Check::Failed(ProtocolError::InvalidState);
     }
-    check_entry_fields(check_layout(entry, least), entry_fields_of(entry))
+    check_entry_fields(check_layout(entry, least), entry_fields_of(entry)).require(
+        aux_length_of(entry) as usize <= ACCOUNT_STATE_MAX_AUX_LEN,
+        ProtocolError::AuxTooLong,
+    )
 }
 
 // The fields of an entry at a place whose first 48 bytes the state has.
@@ -166,6 +170,7 @@ pub(crate) fn cursor_behind(state: &[u8], at: usize) -> EntryCursor
 // The entry at the cursor, and the cursor behind it.
 pub fn next_entry(state: &[u8], cursor: EntryCursor) -> EntryStep
     ensures { λ r. ⌜ r ≡ entryStep (now (state .entry)) cursor ⌝ }
+    ensures { λ r. ⌜ StepWithin r ⌝ }
 {
     let at = cursor.offset;
     match check_entry(rest(state, at), cursor.least) {

@@ -1,29 +1,31 @@
--- A state that is laid out right fails its rows exactly as what it says fails the writer's checks.
+-- A state that is laid out right fails the writer's rows exactly as what it says fails the writer's checks.
 -- Assumes nothing.
 use mathlib.Core.Path.{_≡_, refl, sym, ap, _∙_}
-use mathlib.Core.Bool.{true}
+use mathlib.Core.Bool.{Bool, true, false, cond}
 use mathlib.Core.List.{List, [], _∷_, _++_}
-use Prim.Native.Nat.{ℕ, _+_, _≤_}
+use Prim.Native.Nat.{ℕ, zero, suc, _+_, _≤_}
 use native.Mathlib.Omega.{arith}
 use borrow.Author.Tests.{eq-eqb, le-leb, leb-true}
 use lib.Dec.{leb, eqb}
-use lib.ListN.{length, drop, length-append}
+use lib.ListN.{length, take, drop, length-append, length-drop}
 use lib.Seq.{drop-at}
 use Rattle.octets.specs.Layout.{layoutBytes, layoutAt, fieldValue}
 use Rattle.octets.proofs.LayoutLaws.{length-numbers}
+use Rattle.octets.proofs.Parts.{part-length}
 use Rattle.protocol.specs.Rows.{row, _▷_, _then_, decide}
 use Rattle.protocol.specs.declared.error.ProtocolError.{ProtocolError}
-use Rattle.protocol.specs.declared.error.ProtocolError.the-variants.{InvalidState}
+use Rattle.protocol.specs.declared.error.ProtocolError.the-variants.{InvalidState, AuxTooLong}
 use Rattle.protocol.specs.declared.check.Check.{Check}
 use Rattle.protocol.specs.declared.check.Check.the-variants.{Passed, Failed}
 use Rattle.protocol.proofs.AllPass.{decide-append, decide-failed, decide-then, passed-all-pass}
-use Rattle.account_state.specs.Fields.{auxLengthOf, entryLengthOf, entrySlotOf, keyLengthOf, abiOf, algorithmOf, capabilitiesOf, hashTypeOf, stateHeaderLengthOf, stateMagicOf, stateReservedOf, stateVersionOf, weightOf}
+use Rattle.account_state.specs.Fields.{auxLengthOf, auxMaxLength, entryLengthOf, entrySlotOf, keyLengthOf, abiOf, algorithmOf, capabilitiesOf, hashTypeOf, stateHeaderLengthOf, stateMagicOf, stateReservedOf, stateVersionOf, weightOf}
 use Rattle.account_state.specs.Reading.{EntryReading, StateReading, EntryTyped, EntriesTyped, StateTyped, stateMagic, entryLengthFields, entryBytes, entriesBytes, stateHeaderFields, stateHead, stateBytes, entryOf}
-use Rattle.account_state.specs.State.{stateHeaderRows, entryLayoutRows, entryFieldRows, entryRows, entriesRows, behindEntries, thresholdRows, summaryOf, stateEndRows, stateTailRows, stateRows, stateFault}
+use Rattle.account_state.specs.State.{stateHeaderRows, entryLayoutRows, entryFieldRows, originalEntryRows, behindEntries, thresholdRows, summaryOf, stateEndRows, stateTailRows}
 use Rattle.account_state.proofs.Inverse.{Keys}
 use Rattle.account_state.proofs.Unique.{HeaderRead, length-entry-bytes, lengths-read, size-read, entry-read, entries-read, state-header-read, behind-head}
-use Rattle.account_state_writer.specs.Checks.{headChecks, entryChecks, entriesChecks, stateChecks, lentSummary}
-use Rattle.account_state_writer.specs.Writer.{entriesFrom}
+use Rattle.account_state_writer.specs.Checks.{headChecks, entryChecks, entriesChecks, stateChecks, writtenChecks, lentSummary, lentWithin}
+use Rattle.account_state_writer.specs.Slices.{lentWidth, lentAuxLength, lentBytes}
+use Rattle.account_state_writer.specs.Writer.{entryFrom, entriesFrom, neededBytes, originalEntriesRows, originalStateRows, auxLimitRows, writtenRows}
 use Rattle.account_state_writer.proofs.Lent.{length-entries-from, summary-lent}
 
 -- a row that passes finds nothing
@@ -48,8 +50,8 @@ module _ (e : EntryReading) (t : List ℕ) (y : EntryTyped e) (k : length (e .ke
   unfolding entryOf
   slot-read = ap (λ (x : EntryReading). x .slot) (entry-read e t s y refl)
 
-  entry-checked : (c : Check) (least : ℕ) → decide c (entryRows s least) ≡ decide c (entryChecks e least)
-  unfolding entryRows entryLayoutRows entryFieldRows entryChecks entryOf entryLengthFields layoutAt decide
+  entry-checked : (c : Check) (least : ℕ) → decide c (originalEntryRows s least) ≡ decide c (entryChecks e least)
+  unfolding originalEntryRows entryLayoutRows entryFieldRows entryChecks entryOf entryLengthFields layoutAt decide
   entry-checked c least =
       let r = entry-read e t s y refl in
       let m : keyLengthOf s ≡ length (e .key) = ap (fieldValue 0) (lengths-read e t s y refl) in
@@ -68,13 +70,13 @@ module _ (e : EntryReading) (t : List ℕ) (y : EntryTyped e) (k : length (e .ke
 
 -- entries one behind another
 entries-checked : (es : List EntryReading) → EntriesTyped es → Keys es → (c : Check) (least : ℕ)
-    → decide c (entriesRows (length es) (entriesBytes es) least) ≡ decide c (entriesChecks es least)
-unfolding entriesRows entriesBytes entriesChecks
+    → decide c (originalEntriesRows (length es) (entriesBytes es) least) ≡ decide c (entriesChecks es least)
+unfolding originalEntriesRows entriesBytes entriesChecks
 entries-checked [] y k c least = refl
 entries-checked (e ∷ es) y k c least =
     let t = entriesBytes es in
     let s = entryBytes e ++ t in
-    decide-append c (entryRows s least) _
+    decide-append c (originalEntryRows s least) _
     ∙ (rw (rest-read e t (y .0), slot-read e t (y .0) (k .0), entry-checked e t (y .0) (k .0) c least) (entries-checked es (y .1) (k .1) _ (e .slot + 1))
     ∙ sym (decide-append c (entryChecks e least) _))
 
@@ -118,15 +120,41 @@ module _ (r : StateReading) (y : StateTyped r) (k : Keys (r .entries)) (h : leng
       rw (entries-behind (r .entries) (y .entries), entries-read (r .entries) (y .entries), m .flags, m .spend, m .rotate, m .recovery, m .since)
       (ap (λ (x : Check). decide x (thresholdRows (r .flags) (r .spend) (r .rotate) (r .recovery) (r .since) (summaryOf (r .entries)))) (row-true c InvalidState))
 
-  pub state-checked : stateFault b ≡ decide Passed (stateChecks (r .flags) (r .spend) (r .rotate) (r .recovery) (r .since) (r .entries))
-  unfolding stateFault stateRows stateChecks
+  state-checked : decide Passed (originalStateRows b) ≡ decide Passed (stateChecks (r .flags) (r .spend) (r .rotate) (r .recovery) (r .since) (r .entries))
+  unfolding originalStateRows stateChecks
   state-checked =
       decide-append Passed (stateHeaderRows b) _
       ∙ (rw (head-checked, m .count, behind-head r)
-      (decide-append (decide Passed (headChecks (r .flags) n)) (entriesRows n (entriesBytes (r .entries)) 0) _
+      (decide-append (decide Passed (headChecks (r .flags) n)) (originalEntriesRows n (entriesBytes (r .entries)) 0) _
       ∙ (rw (entries-checked (r .entries) (y .entries) k (decide Passed (headChecks (r .flags) n)) 0) (end-checked _)
       ∙ sym (decide-append (decide Passed (headChecks (r .flags) n)) (entriesChecks (r .entries) 0) _)))
       ∙ sym (decide-append Passed (headChecks (r .flags) n) _))
+
+  pub written-checked : decide Passed (writtenRows r) ≡ decide Passed (writtenChecks (r .flags) (r .spend) (r .rotate) (r .recovery) (r .since) (r .entries))
+  unfolding writtenRows writtenChecks
+  written-checked =
+      decide-append Passed (originalStateRows b) _
+      ∙ (rw state-checked (sym (decide-append Passed (stateChecks (r .flags) (r .spend) (r .rotate) (r .recovery) (r .since) (r .entries)) _)))
+
+-- two rows with one refusal are one row
+one-row : (k : Check) (a b : Bool) (e : ProtocolError) → (k ▷ row a e) ▷ row b e ≡ k ▷ row (cond a b false) e
+unfolding _▷_
+one-row Passed true b e = refl
+one-row Passed false b e = refl
+one-row (Failed x) a b e = refl
+
+-- the limit of the entries that the slices say
+limit-lent : (n : ℕ) (fields bytes : List ℕ) (k : Check) → neededBytes n fields ≤ length bytes
+    → k ▷ row (lentWithin n fields) AuxTooLong ≡ decide k (auxLimitRows (entriesFrom n fields bytes))
+unfolding lentWithin auxLimitRows entriesFrom entryFrom neededBytes decide
+limit-lent zero fields bytes k h = row-true k AuxTooLong
+limit-lent (suc n) fields bytes k h =
+    let a = lentAuxLength fields in
+    let l = length-drop (lentBytes fields) bytes in
+    let x : length (take a (drop 66 bytes)) ≡ a = part-length bytes 66 a (omega arith) in
+    rw x
+    (sym (one-row k (leb a auxMaxLength) (lentWithin n (drop lentWidth fields)) AuxTooLong)
+    ∙ limit-lent n (drop lentWidth fields) (drop (lentBytes fields) bytes) (k ▷ row (leb a auxMaxLength) AuxTooLong) (omega arith))
 
 -- the checks, part by part
 pub head-limit : (flags count : ℕ) → decide Passed (headChecks flags count) ≡ Passed → count ≤ 16
@@ -137,15 +165,28 @@ module _ (flags spend rotate recovery since count : ℕ) (fields bytes : List �
   abbrev es : List EntryReading
   es = entriesFrom count fields bytes
 
-  pub head-failed : (x : ProtocolError) → decide Passed (headChecks flags count) ≡ Failed x → decide Passed (stateChecks flags spend rotate recovery since es) ≡ Failed x
-  unfolding stateChecks
-  head-failed x h = decide-append Passed (headChecks flags (length es)) _ ∙ rw (length-entries-from count fields bytes, h) (decide-failed _ x)
+  -- what the original's checks find, and then the limit
+  abbrev limited : Check → Check
+  limited k = decide k (auxLimitRows es)
 
-  pub head-passed : decide Passed (headChecks flags count) ≡ Passed
-      → decide Passed (stateChecks flags spend rotate recovery since es)
-      ≡ (decide Passed (entriesChecks es 0) then decide Passed (thresholdRows flags spend rotate recovery since (lentSummary count fields)))
+  parted : decide Passed (writtenChecks flags spend rotate recovery since es) ≡ limited (decide Passed (stateChecks flags spend rotate recovery since es))
+  unfolding writtenChecks
+  parted = decide-append Passed (stateChecks flags spend rotate recovery since es) _
+
+  pub head-failed : (x : ProtocolError) → decide Passed (headChecks flags count) ≡ Failed x → decide Passed (writtenChecks flags spend rotate recovery since es) ≡ Failed x
   unfolding stateChecks
-  head-passed h =
-      decide-append Passed (headChecks flags (length es)) _
+  head-failed x h =
+      parted
+      ∙ (ap limited (decide-append Passed (headChecks flags (length es)) _ ∙ rw (length-entries-from count fields bytes, h) (decide-failed _ x))
+      ∙ decide-failed (auxLimitRows es) x)
+
+  pub head-passed : decide Passed (headChecks flags count) ≡ Passed → neededBytes count fields ≤ length bytes
+      → ((decide Passed (entriesChecks es 0) then decide Passed (thresholdRows flags spend rotate recovery since (lentSummary count fields))) ▷ row (lentWithin count fields) AuxTooLong)
+      ≡ decide Passed (writtenChecks flags spend rotate recovery since es)
+  unfolding stateChecks
+  head-passed h l =
+      limit-lent count fields bytes _ l
+      ∙ (ap limited (sym (decide-append Passed (headChecks flags (length es)) _
       ∙ rw (length-entries-from count fields bytes, h, summary-lent count fields bytes)
-      (decide-append Passed (entriesChecks es 0) _ ∙ decide-then (decide Passed (entriesChecks es 0)) _)
+      (decide-append Passed (entriesChecks es 0) _ ∙ decide-then (decide Passed (entriesChecks es 0)) _)))
+      ∙ sym parted)

@@ -1,12 +1,12 @@
 -- The lent slices, entry by entry: how many bytes they need, and what the bytes of an entry are.
 -- Assumes nothing.
 use mathlib.Core.Path.{_≡_, refl, sym, ap, _∙_}
-use mathlib.Core.Bool.{Bool, true, false}
+use mathlib.Core.Bool.{Bool, true, false, cond}
 use mathlib.Core.List.{List, [], _∷_, _++_, append-assoc, append-nil}
 use Prim.Native.Nat.{ℕ, zero, suc, _+_, _-_, _*_, _≤_, _<_}
 use native.Mathlib.Omega.{arith}
 use borrow.Author.Tests.{eq-eqb, ne-eqb, eqb-true, eqb-false}
-use lib.Dec.{eqb}
+use lib.Dec.{leb, eqb}
 use lib.ListN.{length, take, drop, getD, length-append, length-drop}
 use lib.Seq.{drop-drop, getD-drop, sets, take-all}
 use Rattle.octets.specs.Le.{numberAt, toLe, Bytes}
@@ -16,12 +16,13 @@ use Rattle.octets.proofs.LeLaws.{length-to, bytes-drop, number-lt}
 use Rattle.octets.proofs.Parts.{join, part-length}
 use Rattle.octets.proofs.Stores.{sets-append, sets-lent}
 use borrow.Rule.Slice.PartMut.{midOf, putMid}
+use Rattle.account_state.specs.Fields.{auxMaxLength}
 use Rattle.account_state.specs.Reading.{EntryReading, EntryTyped, EntriesTyped, entryHeadFields, entryLengthFields, entryBytes, entriesBytes, stateHeaderFields, capableShare, capableWeight}
 use Rattle.account_state.specs.State.{summaryOf}
 use Rattle.account_state.proofs.Inverse.{Keys}
 use Rattle.account_state_writer.specs.Slices.{lentWidth, lentCapabilities, lentWeight, lentAuxLength, lentBytes}
 use Rattle.account_state_writer.specs.Writer.{entryFrom, entryFieldNumbers, lengthNumbers, entryFront, entriesFrom, neededBytes}
-use Rattle.account_state_writer.specs.Checks.{entryChecks, entriesChecks, lentCapableWeight, lentSummary}
+use Rattle.account_state_writer.specs.Checks.{entryChecks, entriesChecks, lentCapableWeight, lentSummary, lentWithin}
 use Rattle.protocol.specs.Rows.{decide}
 use Rattle.protocol.specs.declared.error.ProtocolError.{ProtocolError}
 use Rattle.protocol.specs.declared.check.Check.{Check}
@@ -75,6 +76,11 @@ module _ (fields : List ℕ) (count i : ℕ) (h : i < count) where
   unfolding lentCapableWeight
   weight-turn bit = rw (one, behind, getD-drop (lentWidth * i) fields 2 0, getD-drop (lentWidth * i) fields 3 0)
 
+  pub within-turn : lentWithin (count - i) (drop (lentWidth * i) fields)
+      ≡ cond (leb (lentAuxLengthAt fields i) auxMaxLength) (lentWithin (count - (i + 1)) (drop (lentWidth * (i + 1)) fields)) false
+  unfolding lentWithin
+  within-turn = rw (one, behind, aux-at)
+
   -- a turn of the loop that counts the bytes down
   pub left-turn : (left : ℕ) → 66 + lentAuxLengthAt fields i ≤ left
       → eqb (neededBytes (count - (i + 1)) (drop (lentWidth * (i + 1)) fields)) (left - (66 + lentAuxLengthAt fields i)) ≡ eqb (neededBytes (count - i) (drop (lentWidth * i) fields)) left
@@ -93,6 +99,10 @@ needed-none n fields e = rw e
 pub weight-none : (bit n : ℕ) (fields : List ℕ) → n ≡ 0 → lentCapableWeight bit n fields ≡ 0
 unfolding lentCapableWeight
 weight-none bit n fields e = rw e
+
+pub within-none : (n : ℕ) (fields : List ℕ) → n ≡ 0 → lentWithin n fields ≡ true
+unfolding lentWithin
+within-none n fields e = rw e
 
 -- the weights of the entries do not depend on their bytes
 weight-lent : (bit n : ℕ) (fields bytes : List ℕ) → capableWeight bit (entriesFrom n fields bytes) ≡ lentCapableWeight bit n fields

@@ -1,4 +1,5 @@
 pub mod Lent
 pub mod Checked
 pub mod Agreed
+pub mod Limit
 pub mod WritesBack

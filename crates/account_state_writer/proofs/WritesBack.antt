@@ -22,8 +22,9 @@ use Rattle.account_state.specs.State.{stateRows}
 use Rattle.account_state.proofs.Unique.{length-entry-bytes}
 use Rattle.account_state.proofs.Inverse.{Keys, state-back, state-typed, state-keys, state-limits}
 use Rattle.account_state_writer.specs.Slices.{lentCount, lentWidth}
-use Rattle.account_state_writer.specs.Writer.{entryFrom, entriesFrom, neededBytes, stateTotal, sliceRows, stateWriterRows, stateFrom, stateWritten, stateStored, entriesFields, entriesPayload, StateFits}
+use Rattle.account_state_writer.specs.Writer.{entryFrom, entriesFrom, neededBytes, stateTotal, sliceRows, writtenRows, stateWriterRows, stateFrom, stateWritten, stateStored, entriesFields, entriesPayload, StateFits}
 use Rattle.account_state_writer.proofs.Lent.{length-head}
+use Rattle.account_state_writer.proofs.Limit.{written-read}
 
 -- the first entry's part of the bytes
 module _ (e : EntryReading) (es : List EntryReading) (y : EntryTyped e) (k : length (e .key) ≡ 32) where
@@ -158,7 +159,7 @@ module _ (s : List ℕ) (b : Bytes s) (h : AllPass (stateRows s)) where
 
   rows-hold : AllPass (stateWriterRows r fields bytes)
   unfolding stateWriterRows
-  rows-hold = all-pass-append (sliceRows fields bytes) (stateRows (stateBytes r)) slices-hold (rw (state-back s b h) h)
+  rows-hold = all-pass-append (sliceRows fields bytes) (writtenRows r) slices-hold (written-read r (state-typed s b h) .1 (rw (state-back s b h) h))
 
   -- what the reading lends fits the writer's types
   fits : StateFits r

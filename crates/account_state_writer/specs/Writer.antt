@@ -9,8 +9,9 @@ use Rattle.protocol.specs.Rows.{Row, row}
 use Rattle.protocol.specs.Write.{writeFault, writeAnswer, afterWrite}
 use Rattle.protocol.specs.declared.error.ProtocolError.the-variants.{InvalidState, SlicesDisagree}
 use Rattle.protocol.specs.declared.check.WriteAnswer.{WriteAnswer}
+use Rattle.account_state.specs.Fields.{entryBytesOf, entryCountOf, entryLengthOf, entrySlotOf}
 use Rattle.account_state.specs.Reading.{EntryReading, StateReading, StateNumbersTyped, stateBytes}
-use Rattle.account_state.specs.State.{stateRows}
+use Rattle.account_state.specs.State.{stateHeaderRows, originalEntryRows, auxLimitRow, stateTailRows}
 use Rattle.account_state_writer.specs.Slices.{lentWidth, lentSlot, lentAlgorithm, lentCapabilities, lentWeight, lentAuxLength, lentHashType, lentAbi, lentCodeHash, lentKey, lentAux, lentBytes, lentCount}
 
 -- the entry at the front of the slices
@@ -68,9 +69,28 @@ sliceRows fields bytes =
     ∷ row (leb (stateTotal fields bytes) 16384) InvalidState
     ∷ []
 
--- the Rust validates the state that it wrote
+-- document 01's checks of a state, which are the original's: n entries, and the whole state
+unfoldable pub originalEntriesRows : ℕ → List ℕ → ℕ → List Row
+originalEntriesRows zero e least = []
+originalEntriesRows (suc n) e least =
+    originalEntryRows e least ++ originalEntriesRows n (drop (entryLengthOf e) e) (entrySlotOf e + 1)
+
+unfoldable pub originalStateRows : List ℕ → List Row
+originalStateRows s =
+    stateHeaderRows s
+    ++ (originalEntriesRows (entryCountOf s) (entryBytesOf s) 0 ++ stateTailRows s (entryCountOf s) (entryBytesOf s))
+
+-- the limit of each aux
+unfoldable pub auxLimitRows : List EntryReading → List Row
+auxLimitRows [] = []
+auxLimitRows (e ∷ es) = auxLimitRow (length (e .aux)) ∷ auxLimitRows es
+
+-- the Rust validates the state that it wrote; 02, change 6: 44 "in the state writer after the Rust's refusals and before 5"
+unfoldable pub writtenRows : StateReading → List Row
+writtenRows r = originalStateRows (stateBytes r) ++ auxLimitRows (r .entries)
+
 unfoldable pub stateWriterRows : StateReading → List ℕ → List ℕ → List Row
-stateWriterRows r fields bytes = sliceRows fields bytes ++ stateRows (stateBytes r)
+stateWriterRows r fields bytes = sliceRows fields bytes ++ writtenRows r
 
 unfoldable pub stateFrom : ℕ → ℕ → ℕ → ℕ → ℕ → ℕ → List ℕ → List ℕ → StateReading
 stateFrom flags sequence spend rotate recovery since fields bytes =
@@ -84,12 +104,12 @@ stateFrom flags sequence spend rotate recovery since fields bytes =
       entries = entriesFrom (lentCount fields) fields bytes;
     }
 
--- bytes that are a valid state are written as they are
-unfoldable pub validWritten : List ℕ → List ℕ → WriteAnswer
-validWritten s out = writeAnswer (writeFault (stateRows s) (length s) (length out)) (length s)
+-- a state that passes its checks is written as it is
+unfoldable pub validWritten : StateReading → List ℕ → WriteAnswer
+validWritten r out = writeAnswer (writeFault (writtenRows r) (length (stateBytes r)) (length out)) (length (stateBytes r))
 
-unfoldable pub validStored : List ℕ → List ℕ → List ℕ
-validStored s out = afterWrite (writeFault (stateRows s) (length s) (length out)) s out
+unfoldable pub validStored : StateReading → List ℕ → List ℕ
+validStored r out = afterWrite (writeFault (writtenRows r) (length (stateBytes r)) (length out)) (stateBytes r) out
 
 -- what the writer answers and leaves
 unfoldable pub stateWritten : StateReading → List ℕ → List ℕ → List ℕ → WriteAnswer

@@ -13,6 +13,7 @@ use account_state::StateSummary;
 use account_state::capable_share;
 use account_state::check_entry_fields;
 use account_state::check_thresholds;
+use protocol::ACCOUNT_STATE_MAX_AUX_LEN;
 use protocol::AUTHENTICATOR_MAX_COUNT;
 use protocol::CAP_RECOVERY;
 use protocol::CAP_ROTATE;
@@ -28,7 +29,7 @@ ghost use Rattle.protocol.specs.declared.check.Check.the-variants.{Passed};
 ghost use Rattle.account_state.specs.State.{thresholdRows};
 ghost use Rattle.account_state_writer.specs.Slices.{lentWidth, lentBytes, lentCount};
 ghost use Rattle.account_state_writer.specs.Writer.{entryFrom, entriesFrom, neededBytes};
-ghost use Rattle.account_state_writer.specs.Checks.{headChecks, entryChecks, entriesChecks, stateChecks, lentCapableWeight, lentSummary};
+ghost use Rattle.account_state_writer.specs.Checks.{headChecks, entryChecks, entriesChecks, writtenChecks, lentCapableWeight, lentSummary, lentWithin};
 
 fn check_head(flags: u8, count: usize) -> Check
     ensures { λ r. ⌜ r ≡ decide Passed (headChecks flags count) ⌝ }
@@ -124,7 +125,23 @@ fn check_end(
     check_thresholds(flags, spend, rotate, recovery, since, summary)
 }
 
-// All checks of the state.
+// Whether no aux is above the limit.
+fn lent_within(fields: &[u16], count: usize) -> bool
+    requires { ⌜ lentWidth * count ≤ length (now fields) ⌝ }
+    ensures { λ r. ⌜ r ≡ lentWithin count (now (fields .entry)) ⌝ }
+{
+    let mut i: usize = 0;
+    while i < count {
+        let aux = fields[LENT_WIDTH * i + LENT_AUX_LENGTH] as usize;
+        if ACCOUNT_STATE_MAX_AUX_LEN < aux {
+            return false;
+        }
+        i += 1;
+    }
+    true
+}
+
+// All checks of the state: the original's, then the limit.
 pub(crate) fn check_state(
     flags: u8,
     spend: u16,
@@ -136,20 +153,14 @@ pub(crate) fn check_state(
 ) -> Check
     requires { ⌜ neededBytes (lentCount (now fields)) (now fields) ≡ length (now bytes) ⌝ }
     ensures { λ r.
-        ⌜ r ≡ decide Passed (stateChecks flags spend rotate recovery since
+        ⌜ r ≡ decide Passed (writtenChecks flags spend rotate recovery since
         (entriesFrom (lentCount (now (fields .entry))) (now (fields .entry)) (now (bytes .entry)))) ⌝ }
 {
     let count = fields.len() / LENT_WIDTH;
     match check_head(flags, count) {
         Check::Failed(error) => Check::Failed(error),
-        Check::Passed => check_entries(fields, bytes, count).and(check_end(
-            flags,
-            spend,
-            rotate,
-            recovery,
-            since,
-            fields,
-            count,
-        )),
+        Check::Passed => check_entries(fields, bytes, count)
+            .and(check_end(flags, spend, rotate, recovery, since, fields, count))
+            .require(lent_within(fields, count), ProtocolError::AuxTooLong),
     }
 }

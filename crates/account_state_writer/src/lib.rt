@@ -13,7 +13,6 @@ use protocol::ProtocolError;
 use protocol::WriteAnswer;
 ghost use mathlib.Core.Path.{_≡_};
 ghost use Rattle.protocol.specs.Rows.{AllPass};
-ghost use Rattle.account_state.specs.Reading.{stateBytes};
 ghost use Rattle.account_state_writer.specs.Writer.{stateFrom, sliceRows, validWritten, validStored, stateWritten, stateStored};
 
 // The state that the slices say, where they agree and it is not too long.
@@ -31,11 +30,11 @@ fn encode_agreed(
     requires { ⌜ AllPass (sliceRows (now fields) (now bytes)) ⌝ }
     ensures { λ r.
         ⌜ r ≡ validWritten
-        (stateBytes (stateFrom flags sequence spend rotate recovery since (now (fields .entry)) (now (bytes .entry))))
+        (stateFrom flags sequence spend rotate recovery since (now (fields .entry)) (now (bytes .entry)))
         (now (out .entry)) ⌝ }
     ensures { λ _.
         ⌜ now (out .exit) ≡ validStored
-        (stateBytes (stateFrom flags sequence spend rotate recovery since (now (fields .entry)) (now (bytes .entry))))
+        (stateFrom flags sequence spend rotate recovery since (now (fields .entry)) (now (bytes .entry)))
         (now (out .entry)) ⌝ }
 {
     let total = ACCOUNT_STATE_HEADER_LEN + 14 * (fields.len() / LENT_WIDTH) + bytes.len();

@@ -3,7 +3,7 @@
 -- of an entry of the current state; the proofs' slots rise, so no entry's aux comes twice.
 -- Assumes nothing.
 use mathlib.Core.Path.{_≡_, refl}
-use mathlib.Core.Logic.{_≢_, inl, inr}
+use mathlib.Core.Logic.{_≢_}
 use mathlib.Core.Bool.{Bool, true, false, cond}
 use mathlib.Core.List.{List, [], _∷_, _++_}
 use Prim.Native.Nat.{ℕ, zero, suc, _+_, _*_, _-_, _≤_}
@@ -14,12 +14,12 @@ use borrow.Author.Tests.{leb-true, leb-false, eqb-true, le-leb, lt-leb}
 use Rattle.octets.specs.Lists.{Rising}
 use Rattle.octets.proofs.Arrays.{length-array}
 use Rattle.protocol.specs.Errors.{errorNumber}
-use Rattle.protocol.specs.Rows.{Row, decide, AllPass, FirstFailed, checkNumber}
-use Rattle.protocol.specs.declared.error.ProtocolError.{ProtocolError}
+use Rattle.protocol.specs.Rows.{Row, decide, AllPass, checkNumber}
 use Rattle.protocol.specs.declared.error.ProtocolError.the-variants.{BufferTooShort, VerifierFailure}
 use Rattle.protocol.specs.declared.check.Check.{Check}
 use Rattle.protocol.specs.declared.check.Check.the-variants.{Passed, Failed}
-use Rattle.protocol.proofs.AllPass.{passed-all-pass, all-pass-split, failed-first}
+use Rattle.protocol.proofs.AllPass.{passed-all-pass, all-pass-split}
+use Rattle.protocol.proofs.Each.{EachFailing, Refuses, failing-refuses}
 use Rattle.account_state.specs.Fields.{auxLengthOf, entryCountOf, entryLengthOf, keyLengthOf, entrySlotOf}
 use Rattle.account_state.specs.Reading.{EntryReading, entryOf, entriesOf}
 use Rattle.account_state.specs.State as state
@@ -104,24 +104,13 @@ module _ (c : Context) (d : length (c .digest) ≡ 32) where
 
 -- ---- a buffer with room for all requests is not too short
 
--- no row that fails has the number n
-abbrev Without : ℕ → List Row → Type 0
-Without n [] = Unit {0}
-Without n (r ∷ rs) = (r .test ≡ false → errorNumber (r .error) ≢ n) × Without n rs
-
--- nor has the first that fails,
-without-first : (n : ℕ) (rs : List Row) (e : ProtocolError) → Without n rs → FirstFailed rs e → errorNumber e ≢ n
-without-first n [] e w f = absurd f
-without-first n (r ∷ rs) e w (inl f) = rw (f .1) at (w .0 (f .0))
-without-first n (r ∷ rs) e w (inr f) = without-first n rs e (w .1) (f .1)
-
--- nor has what is found
-without-found : (n : ℕ) (rs : List Row) → 0 ≢ n → Without n rs → checkNumber (decide Passed rs) ≢ n
-without-found n rs z w = go (decide Passed rs) refl
+-- where no row that can fail first has the number n, what is found has not
+without-found : (n : ℕ) (rs : List Row) → 0 ≢ n → EachFailing (λ e. errorNumber e ≢ n) rs → checkNumber (decide Passed rs) ≢ n
+without-found n rs z w = go (decide Passed rs) (failing-refuses (λ e. errorNumber e ≢ n) rs w)
   where
-    go : (k : Check) → decide Passed rs ≡ k → checkNumber k ≢ n
+    go : (k : Check) → Refuses (λ e. errorNumber e ≢ n) k → checkNumber k ≢ n
     go Passed h = z
-    go (Failed e) h = without-first n rs e w (failed-first rs e h)
+    go (Failed e) h = h
 
 -- a request that has room is not refused with 5
 room-kept : (size left : ℕ) → size ≤ left → leb size left ≡ false → errorNumber BufferTooShort ≢ 5
@@ -135,7 +124,7 @@ unfolding proofRows authenticatorRows requestLimitRows
 rows-room c used p h =
     let size = requestSize (length (entryFor (p .slot) (c .entries) .aux)) (length (p .bytes)) in
     without-found 5 (proofRows c used p) (λ z. omega arith)
-    (λ _ z. omega arith, (λ _ z. omega arith, (λ _ z. omega arith, (λ _ z. omega arith, (λ _ z. omega arith, (λ _ z. omega arith, (room-kept size (c .room - used) h, tt)))))))
+    (λ _ z. omega arith, λ _. (λ _ z. omega arith, λ _. (λ _ z. omega arith, λ _. (λ _ z. omega arith, λ _. (λ _ z. omega arith, λ _. (λ _ z. omega arith, λ _. (room-kept size (c .room - used) h, λ _. tt)))))))
 
 -- nor does a turn, where neither its rows nor what comes after them do
 turn-room : (k : Check) (i : ℕ) (made : List ℕ) (onward : WalkOutcome) → checkNumber k ≢ 5 → checkNumber (onward .found) ≢ 5
@@ -148,7 +137,7 @@ turn-room (Failed e) i made onward k o = k
 end-room : (clean : Bool) (weight threshold : ℕ) → checkNumber (decide Passed (lastRows clean weight threshold)) ≢ 5
 unfolding lastRows
 end-room clean weight threshold =
-    without-found 5 (lastRows clean weight threshold) (λ z. omega arith) (λ _ z. omega arith, (λ _ z. omega arith, (λ _ z. omega arith, tt)))
+    without-found 5 (lastRows clean weight threshold) (λ z. omega arith) (λ _ z. omega arith, λ _. (λ _ z. omega arith, λ _. (λ _ z. omega arith, λ _. tt)))
 
 -- a walk whose buffer has room for the requests of all proofs that are left never gives 5
 pub walk-room : (c : Context) → length (c .digest) ≡ 32 → (clean : Bool) (i weight : ℕ) (made : List ℕ) (ps : List ProofReading)
@@ -199,7 +188,7 @@ module _ (lock : List ℕ) where
 
 -- the aux of entries whose rows pass stands in their bytes
 entries-aux : (n : ℕ) (e : List ℕ) (least : ℕ) → AllPass (state.entriesRows n e least) → auxFrom 0 (entriesOf n e) ≤ length e
-unfolding entriesOf entryOf state.entriesRows state.entryRows state.entryLayoutRows
+unfolding entriesOf entryOf state.entriesRows state.entryRows state.originalEntryRows state.entryLayoutRows
 entries-aux zero e least h = omega arith
 entries-aux (suc n) e least h =
     let z = all-pass-split (state.entryRows e least) _ h in

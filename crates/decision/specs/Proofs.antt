@@ -1,5 +1,6 @@
 -- One proof: the rows that it passes before its request is made, and the request.
 use Prim.Native.Nat.{ℕ, _-_}
+use mathlib.Core.Path.{_≡_}
 use mathlib.Core.Bool.{Bool, true, false, cond}
 use mathlib.Core.List.{List, [], _∷_, _++_}
 use lib.ListN.{length, getD}
@@ -79,11 +80,20 @@ verifiers e deps = matches (verifierField (e .hashType)) (e .codeHash) deps
 
 -- 01, main.rs: "In the lock a request of above 69,728 bytes is 39, tested before aux above 4,096 (35); a proof above 65,536 is 35
 -- before either."; "answer buffer too short for this request", 5, where `left` bytes of it are left
+abbrev pub longProofRow : ℕ → Row
+longProofRow proof = row (leb proof 65536) InvalidRequest
+
+abbrev pub longRequestRow : ℕ → ℕ → Row
+longRequestRow aux proof = row (leb (requestSize aux proof) 69728) LengthOverflow
+
+abbrev pub longAuxRow : ℕ → Row
+longAuxRow aux = row (leb aux 4096) InvalidRequest
+
 unfoldable pub requestLimitRows : ℕ → ℕ → ℕ → List Row
 requestLimitRows aux proof left =
-    row (leb proof 65536) InvalidRequest
-    ∷ row (leb (requestSize aux proof) 69728) LengthOverflow
-    ∷ row (leb aux 4096) InvalidRequest
+    longProofRow proof
+    ∷ longRequestRow aux proof
+    ∷ longAuxRow aux
     ∷ row (leb (requestSize aux proof) left) BufferTooShort
     ∷ []
 
@@ -99,6 +109,11 @@ unfoldable pub proofRows : Context → ℕ → ProofReading → List Row
 proofRows c used p =
     row (knownSlot (p .slot) (c .entries)) InvalidWitness
     ∷ authenticatorRows (c .operation) (c .deps) (entryFor (p .slot) (c .entries)) (length (p .bytes)) (c .room - used)
+
+-- 02, change 6: "The lock's 39 for a long request then never occurs": a proof's rows for 39 and for an aux above 4,096 pass
+pub record WithinLimits (c : Context) (p : ProofReading) : Type 0 where
+  pub request : longRequestRow (length (entryFor (p .slot) (c .entries) .aux)) (length (p .bytes)) .test ≡ true
+  pub aux : longAuxRow (length (entryFor (p .slot) (c .entries) .aux)) .test ≡ true
 
 -- the request: its profile is the first byte of aux. 01, Request: "digest, key (32 bytes each)": a key in its field of 32 bytes. A
 -- state that passed its rows has keys of 32 bytes, and they stand there as they are

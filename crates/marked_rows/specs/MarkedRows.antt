@@ -18,7 +18,7 @@ use Rattle.protocol.specs.Rows.{_▷_, decide}
 use Rattle.protocol.specs.Policy.{isSupportedAlgorithm, isOperation, hasCapability}
 use Rattle.protocol.specs.Args.{argsRows, argsAnswer, readArgs, argsNumber}
 use Rattle.account_state.specs.Reading.{entryOf, entriesOf, capableShare, capableWeight}
-use Rattle.account_state.specs.State.{stateHeaderRows, entryLayoutRows, entryFieldRows, entryRows, entriesRows, behindEntries, recoveryThresholdRows, thresholdRows, stateEndRows, stateTailRows, stateRows, stateFault, stateHeaderOf, summaryOf, stateAnswer, readState, stateNumber}
+use Rattle.account_state.specs.State.{stateHeaderRows, entryLayoutRows, entryFieldRows, originalEntryRows, entryRows, entriesRows, behindEntries, recoveryThresholdRows, thresholdRows, stateEndRows, stateTailRows, stateRows, stateFault, stateHeaderOf, summaryOf, stateAnswer, readState, stateNumber}
 use Rattle.account_state.proofs.Accepted.{state-refuses}
 use Rattle.account_witness.specs.Header.{witnessHeaderRows, witnessHeaderOf}
 use Rattle.account_witness.specs.Walk.{proofLayoutRows, proofsLayoutRows}
@@ -78,7 +78,7 @@ pub record MarkedRows : Type 0 where
   pub canonical-bytes : canonicalStored lockOfOne (replicate 20 0xff) ≡ lockOfNone
 
 pub marked-rows : MarkedRows
-unfolding fromLe numberAt _▷_ decide isSupportedAlgorithm isOperation hasCapability argsRows argsAnswer readArgs entryOf entriesOf capableShare capableWeight stateHeaderRows entryLayoutRows entryFieldRows entryRows entriesRows behindEntries recoveryThresholdRows thresholdRows stateEndRows stateTailRows stateRows stateFault stateHeaderOf summaryOf stateAnswer readState witnessHeaderRows witnessHeaderOf proofLayoutRows proofsLayoutRows witnessRows witnessFault witnessAnswer readWitness publicKeyProofRows publicKeyProofFault publicKeyProofPlaces publicKeyProofAnswer readPublicKeyProof smallestState emptyWitness toLe layoutBytes joined bytesVector offsetsFrom headSize tableHead tableBytes tableRows between field2 field3 canonicalOf writeFault writeAnswer afterWrite canonicalRoom canonicalWritten canonicalStored lockOfOne lockOfNone
+unfolding fromLe numberAt _▷_ decide isSupportedAlgorithm isOperation hasCapability argsRows argsAnswer readArgs entryOf entriesOf capableShare capableWeight stateHeaderRows entryLayoutRows entryFieldRows originalEntryRows entryRows entriesRows behindEntries recoveryThresholdRows thresholdRows stateEndRows stateTailRows stateRows stateFault stateHeaderOf summaryOf stateAnswer readState witnessHeaderRows witnessHeaderOf proofLayoutRows proofsLayoutRows witnessRows witnessFault witnessAnswer readWitness publicKeyProofRows publicKeyProofFault publicKeyProofPlaces publicKeyProofAnswer readPublicKeyProof smallestState emptyWitness toLe layoutBytes joined bytesVector offsetsFrom headSize tableHead tableBytes tableRows between field2 field3 canonicalOf writeFault writeAnswer afterWrite canonicalRoom canonicalWritten canonicalStored lockOfOne lockOfNone
 marked-rows =
     record {
       args-of-32 = λ s h. rw h;

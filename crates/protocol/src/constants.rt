@@ -1,4 +1,5 @@
-// Those constants of the original's constants.rs that the port uses. A magic is the little-endian number of its four bytes.
+// Those constants of the original's constants.rs that the port uses, and document 02's. A magic is the little-endian number of its
+// four bytes.
 pub const ACCOUNT_LOCK_VERSION: u8 = 0x01;
 
 pub const ACCOUNT_LOCK_ARGS_LEN: usize = 33;
@@ -12,6 +13,9 @@ pub const ACCOUNT_STATE_HEADER_LEN: usize = 32;
 pub const ACCOUNT_STATE_MAX_LEN: usize = 16_384;
 
 pub const AUTHENTICATOR_MAX_COUNT: usize = 16;
+
+// Document 02, change 6: a profile byte and an ML-DSA-87 public key.
+pub const ACCOUNT_STATE_MAX_AUX_LEN: usize = 2_593;
 
 pub const ACCOUNT_WITNESS_MAGIC: u32 = 0x5741_4b43;
 

@@ -31,6 +31,7 @@ pub enum ProtocolError {
     UnsatisfiableThreshold,
     LengthOverflow,
     HashMismatch,
+    AuxTooLong,
 }
 
 // The number of a refusal.
@@ -66,5 +67,6 @@ pub fn error_number(error: ProtocolError) -> u8
         ProtocolError::UnsatisfiableThreshold => 38,
         ProtocolError::LengthOverflow => 39,
         ProtocolError::HashMismatch => 40,
+        ProtocolError::AuxTooLong => 44,
     }
 }

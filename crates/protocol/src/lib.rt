@@ -19,6 +19,7 @@ pub use self::constants::ACCOUNT_LOCK_ARGS_LEN;
 pub use self::constants::ACCOUNT_LOCK_VERSION;
 pub use self::constants::ACCOUNT_STATE_HEADER_LEN;
 pub use self::constants::ACCOUNT_STATE_MAGIC;
+pub use self::constants::ACCOUNT_STATE_MAX_AUX_LEN;
 pub use self::constants::ACCOUNT_STATE_MAX_LEN;
 pub use self::constants::ACCOUNT_STATE_VERSION;
 pub use self::constants::ACCOUNT_WITNESS_HEADER_LEN;

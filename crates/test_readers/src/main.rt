@@ -1,10 +1,13 @@
-// Runs the rows that document 01 marks "Run" and that concern readers: slots 5, 5, and aux of 4,096 and 4,097 bytes in a state.
+// Runs the rows that document 01 marks "Run" and that concern readers: slots 5, 5, and aux of 4,096, 4,097 and 5,000 bytes in a
+// state, which document 02 makes 44; and the limit itself.
 use account_state::StateAnswer;
 use account_state::validate_state;
 use account_state_writer::encode_state;
 use account_witness::WitnessAnswer;
 use account_witness::validate_witness;
 use account_witness_writer::encode_witness;
+use octets::part;
+use octets::store_number;
 use protocol::WriteAnswer;
 use protocol::error_number;
 
@@ -71,35 +74,44 @@ fn print_witness_slots() {
     print_number(witness_number(&witness));
 }
 
-// One entry with 4,096 bytes of aux.
-fn print_aux_4096() {
-    let fields = [1u16, 0x0101, 3, 1, 4096];
-    let mut bytes = [0u8; 4162];
+// A state of one entry with so many zeros of aux, as the writer would lay it out: the smallest one, its lengths changed.
+fn lay_out(aux_len: u16, state: &mut [u8]) {
+    let fields = [1u16, 0x0101, 3, 1, 1];
+    let mut bytes = [0u8; 67];
     bytes[1] = 1;
-    let mut state = [0u8; 4208];
-    let written = encode_state(0, 7, 1, 1, 0, 0, &fields, &bytes, &mut state);
-    io::write_all(1, b"state, aux 4096: written ");
-    print_number(write_number(written));
-    io::write_all(1, b"state, aux 4096: ");
-    print_number(state_number(&state));
+    encode_state(0, 7, 1, 1, 0, 0, &fields, &bytes, state);
+    store_number(state, 32, 2, 80 + aux_len as u64);
+    store_number(state, 78, 2, aux_len as u64);
 }
 
-// One entry with 4,097 bytes of aux.
-fn print_aux_4097() {
-    let fields = [1u16, 0x0101, 3, 1, 4097];
-    let mut bytes = [0u8; 4163];
+fn print_aux_name(aux_len: u16) {
+    io::write_all(1, b"state, aux ");
+    io::print_decimal(1, aux_len as u64);
+}
+
+// What the writer says of an entry with so many bytes of aux, at most 5,000, and what the reader says of a state that has it.
+fn print_aux(aux_len: u16) {
+    let mut bytes = [0u8; 5066];
     bytes[1] = 1;
-    let mut state = [0u8; 4209];
-    let written = encode_state(0, 7, 1, 1, 0, 0, &fields, &bytes, &mut state);
-    io::write_all(1, b"state, aux 4097: written ");
+    let lent = part(&bytes, 0, 66 + aux_len as usize);
+    let mut state = [0u8; 5112];
+    let fields = [1u16, 0x0101, 3, 1, aux_len];
+    let written = encode_state(0, 7, 1, 1, 0, 0, &fields, lent, &mut state);
+    print_aux_name(aux_len);
+    io::write_all(1, b": written ");
     print_number(write_number(written));
-    io::write_all(1, b"state, aux 4097: ");
-    print_number(state_number(&state));
+    lay_out(aux_len, &mut state);
+    print_aux_name(aux_len);
+    io::write_all(1, b": ");
+    print_number(state_number(part(&state, 0, 112 + aux_len as usize)));
 }
 
 fn main() {
     print_state_slots();
     print_witness_slots();
-    print_aux_4096();
-    print_aux_4097();
+    print_aux(2593);
+    print_aux(2594);
+    print_aux(4096);
+    print_aux(4097);
+    print_aux(5000);
 }

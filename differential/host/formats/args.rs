@@ -31,7 +31,8 @@ fn write(calls: &mut Calls, account: &[u8]) {
 
 fn every_algorithm(calls: &mut Calls) {
     let name = "is_supported_algorithm";
-    for algorithm in 0..=u16::MAX {
+    let supported = [0x0001, 0x0101, 0x0102, 0x0103, 0x0201].repeat(4);
+    for algorithm in (0..=u16::MAX).chain(supported) {
         let result = exports::is_supported_algorithm(algorithm);
         let expected = u32::from(is_supported_algorithm(algorithm));
         let input = || format!("{algorithm}");
@@ -41,7 +42,7 @@ fn every_algorithm(calls: &mut Calls) {
 }
 
 fn every_operation(calls: &mut Calls) {
-    for operation in (0..=u8::MAX).chain([1, 2, 3].repeat(20)) {
+    for operation in (0..=u8::MAX).chain([1, 2, 3].repeat(40)) {
         let bit = numbered(capability_for_operation(operation)).map(u64::from);
         let expected = bit.map(|bit| word_bytes(vec![bit]));
         let input = || format!("{operation}");

@@ -92,7 +92,18 @@ impl Calls<'_> {
         expected: Words,
         reader: impl Fn(&[u8], &mut [u8]) -> u32,
     ) {
-        let expected = numbered(expected).map(word_bytes);
+        self.read_as(name, bytes, numbered(expected), reader);
+    }
+
+    /// Compares a reader that stores these words or refuses with this number.
+    pub fn read_as(
+        &mut self,
+        name: &'static str,
+        bytes: &[u8],
+        expected: Result<Vec<u64>, u32>,
+        reader: impl Fn(&[u8], &mut [u8]) -> u32,
+    ) {
+        let expected = expected.map(word_bytes);
         let input = || format!("{:?}", Hex(bytes.to_vec()));
         self.store(name, bytes.len(), expected, input, |out| reader(bytes, out));
     }
@@ -110,7 +121,7 @@ impl Calls<'_> {
     }
 
     /// Compares a writer in a buffer of `room` bytes with the bytes that the original gives, or with a refusal.
-    fn write_into(
+    pub fn write_into(
         &mut self,
         name: &'static str,
         room: usize,

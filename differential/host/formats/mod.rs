@@ -3,9 +3,11 @@
 mod args;
 pub mod calls;
 mod held;
+mod long_aux;
 mod proof;
 mod request;
 mod state;
+mod state_faults;
 mod state_walk;
 pub mod states;
 mod witness;
@@ -16,16 +18,18 @@ use crate::prng::Prng;
 use crate::report::Report;
 use calls::Calls;
 
-/// The numbers that each function can answer; a run meets all of them.
+/// How often each number is met at least.
+const LEAST: usize = 20;
+/// The numbers that each function can answer.
 const ANSWERS: [(&str, &[u32]); 21] = [
     ("is_supported_algorithm", &[0, 1]),
     ("capability_for_operation", &[0, 5, 37]),
     ("parse_args", &[0, 5, 20, 32]),
     ("account_lock_args", &[0, 5, 7]),
     ("parse_state_header", &[0, 5, 21, 32]),
-    ("validate_state", &[0, 5, 21, 30, 32, 33, 38]),
-    ("next_entry", &[0, 5, 21, 30, 33]),
-    ("encode_state", &[0, 5, 7, 21, 30, 33, 38]),
+    ("validate_state", &[0, 5, 21, 30, 32, 33, 38, 44]),
+    ("next_entry", &[0, 5, 21, 30, 33, 44]),
+    ("encode_state", &[0, 5, 7, 21, 30, 33, 38, 44]),
     ("parse_witness_header", &[0, 5, 22]),
     ("validate_witness", &[0, 5, 22]),
     ("next_proof", &[0, 5, 22]),
@@ -50,6 +54,6 @@ pub fn run(report: &mut Report) {
     request::run(&mut calls);
     proof::run(&mut calls);
     for (name, answers) in ANSWERS {
-        report.expect_answers(name, answers);
+        report.expect_each(name, answers, LEAST);
     }
 }

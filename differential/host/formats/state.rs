@@ -1,9 +1,11 @@
 //! The account state: its readers and its writer.
 
 use super::calls::{numbered, Calls, Words, DISAGREE};
-use super::{state_walk, states};
+use super::{long_aux, state_walk, states};
+use crate::aux_limit::{state_number, too_long, within, AUX_TOO_LONG};
 use crate::changes;
 use crate::exports::{self, LentState};
+use crate::hex::Hex;
 use crate::lent_state::slices;
 use crate::prng::Prng;
 use ckb_account_host::{encode_state, AccountState};
@@ -33,8 +35,27 @@ fn state_words(state: &[u8]) -> Words {
     Ok([header_words(&header), weights.map(u64::from).to_vec()].concat())
 }
 
+/// What the original says, or the limit's refusal.
+pub fn measured(state: &[u8]) -> Result<Vec<u64>, u32> {
+    match too_long(state) {
+        true => Err(AUX_TOO_LONG),
+        false => numbered(state_words(state)),
+    }
+}
+
+/// The model of the checks, without the limit, gives the original's number.
+fn check_model(calls: &mut Calls, state: &[u8]) {
+    let number = state_number(state, None);
+    let expected = numbered(state_words(state)).err().unwrap_or(0);
+    let name = "model of a state's checks";
+    let input = || format!("{:?}", Hex(state.to_vec()));
+    let report = &mut calls.report;
+    report.compare(name, state.len(), input, &number, &expected);
+}
+
 /// All three readers on the same bytes.
-fn read(calls: &mut Calls, state: &[u8]) {
+pub fn read(calls: &mut Calls, state: &[u8]) {
+    check_model(calls, state);
     let header = StateHeader::parse(state).map(|header| header_words(&header));
     calls.read(
         "parse_state_header",
@@ -42,9 +63,22 @@ fn read(calls: &mut Calls, state: &[u8]) {
         header,
         exports::parse_state_header,
     );
-    let whole = state_words(state);
-    calls.read("validate_state", state, whole, exports::validate_state);
+    let whole = measured(state);
+    calls.read_as("validate_state", state, whole, exports::validate_state);
     state_walk::walk(calls, state);
+}
+
+fn lent<'a>(state: &AccountState, fields: &'a [u16], bytes: &'a [u8]) -> LentState<'a> {
+    LentState {
+        flags: state.flags,
+        sequence: state.sequence,
+        spend_threshold: state.spend_threshold,
+        rotate_threshold: state.rotate_threshold,
+        recovery_threshold: state.recovery_threshold,
+        recovery_since: state.recovery_since,
+        fields,
+        bytes,
+    }
 }
 
 fn write_slices(
@@ -54,30 +88,38 @@ fn write_slices(
     bytes: &[u8],
     expected: &Result<Vec<u8>, u32>,
 ) {
-    let lent = LentState {
-        flags: state.flags,
-        sequence: state.sequence,
-        spend_threshold: state.spend_threshold,
-        rotate_threshold: state.rotate_threshold,
-        recovery_threshold: state.recovery_threshold,
-        recovery_since: state.recovery_since,
-        fields,
-        bytes,
-    };
+    let lent = lent(state, fields, bytes);
     let input = || format!("{} numbers, {} bytes, {state:?}", fields.len(), bytes.len());
     calls.write("encode_state", expected, input, |out, len| {
         exports::encode_state(&lent, out, len)
     });
 }
 
+/// What the original writes. The limit refuses behind all of its refusals.
+pub fn written(state: &AccountState) -> Result<Vec<u8>, u32> {
+    let bytes = numbered(encode_state(state))?;
+    let mut entries = state.authenticators.iter();
+    entries.try_for_each(|auth| within(auth.aux.len()))?;
+    Ok(bytes)
+}
+
 fn write(calls: &mut Calls, state: &AccountState) {
     let (fields, bytes) = slices(state);
-    let expected = numbered(encode_state(state));
-    write_slices(calls, state, &fields, &bytes, &expected);
+    write_slices(calls, state, &fields, &bytes, &written(state));
+}
+
+/// The writer in a buffer of this length.
+pub fn write_into(calls: &mut Calls, state: &AccountState, room: usize) {
+    let (fields, bytes) = slices(state);
+    let lent = lent(state, &fields, &bytes);
+    let (expected, input) = (written(state), || format!("{state:?}"));
+    calls.write_into("encode_state", room, &expected, input, |out, len| {
+        exports::encode_state(&lent, out, len)
+    });
 }
 
 /// Slices that disagree: numbers for no whole entry, bytes too few or too many, or an aux length that is wrong.
-fn write_disagreeing(calls: &mut Calls, state: &AccountState) {
+pub fn write_disagreeing(calls: &mut Calls, state: &AccountState) {
     let (fields, bytes) = slices(state);
     let expected = Err(DISAGREE);
     for spare in 1..=4 {
@@ -179,4 +221,5 @@ pub fn run(calls: &mut Calls) {
     changed_bytes(calls);
     other_keys(calls);
     random_bytes(calls);
+    long_aux::run(calls);
 }

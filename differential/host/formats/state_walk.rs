@@ -1,7 +1,8 @@
-//! The step over a state's entries, beside what the original hands out.
+//! The step over a state's entries, beside what the original hands out, an aux above document 02's limit aside.
 
-use super::calls::{place, Calls, Words};
+use super::calls::{numbered, place, Calls, Words};
 use super::states;
+use crate::aux_limit::within;
 use crate::exports;
 use ckb_account_protocol::{
     is_supported_algorithm, parse_authenticators, AuthenticatorEntry, ProtocolError, StateHeader,
@@ -10,6 +11,8 @@ use ckb_account_protocol::{
 /// Where the next entry begins, and the least slot that it may have.
 type Cursor = (usize, u32);
 const FIRST: Cursor = (32, 0);
+/// The length of the aux among an entry's words.
+const AUX_LEN: usize = 10;
 
 /// The words of an entry that the original hands out from a state, with the cursor behind it.
 fn entry_words(state: &[u8], entry: &AuthenticatorEntry) -> Vec<u64> {
@@ -53,9 +56,16 @@ fn original(state: &[u8], header: &StateHeader) -> (Vec<Vec<u64>>, Result<(), Pr
     (entries, end)
 }
 
+/// Hands an entry out where its aux is within the limit.
+fn limited(words: Vec<u64>) -> Result<Vec<u64>, u32> {
+    within(words[AUX_LEN] as usize)?;
+    Ok(words)
+}
+
 fn step(calls: &mut Calls, state: &[u8], cursor: Cursor, expected: Words) {
     let (offset, least) = cursor;
-    calls.read("next_entry", state, expected, |state, out| {
+    let expected = numbered(expected).and_then(limited);
+    calls.read_as("next_entry", state, expected, |state, out| {
         exports::next_entry(state, offset, least, out)
     });
 }

@@ -1,4 +1,4 @@
-//! The lock beside the test of hashes and the original's lock, over scenes that the reader accepts.
+//! The lock beside what it is measured by, over scenes that the reader accepts.
 
 pub mod answer;
 mod assembly;
@@ -9,6 +9,8 @@ mod room;
 mod runs;
 pub mod sample_files;
 mod tables;
+
+pub use faults::about_limit;
 
 use crate::cell_hashes::Difference;
 use crate::prng::Prng;
@@ -28,7 +30,7 @@ const LONG_TURNS: usize = 7;
 const LEAST: usize = 20;
 /// The numbers that the lock can give.
 const NUMBERS: [u32; 22] = [
-    0, 5, 7, 20, 21, 22, 23, 24, 25, 26, 27, 28, 29, 30, 31, 32, 33, 34, 35, 38, 39, 40,
+    0, 5, 7, 20, 21, 22, 23, 24, 25, 26, 27, 28, 29, 30, 31, 32, 33, 34, 35, 38, 40, 44,
 ];
 
 /// Each row of the documents' table, on plans that are accepted without it.
@@ -113,6 +115,20 @@ fn short_buffers(runs: &mut Runs) {
     }
 }
 
+/// The longest answer: 16 heads of 96 bytes, all of a state's 16,384 bytes but its header and 80 of each entry, and all of a
+/// witness lock's 131,072 but its header and 8 of each proof. Each entry more has 8 bytes more to it.
+const LONGEST_ANSWER: usize = 16 * 96 + (16_384 - 32 - 16 * 80) + (131_072 - 16 - 16 * 8);
+
+fn longest_answer(runs: &mut Runs) {
+    for operation in 1..=3 {
+        let plan = Plan::longest_answer(&mut runs.prng, operation);
+        let scene = build(&mut runs.prng, plan, &[]);
+        runs.expect("the longest answer", &scene, 0, Some((16, true)));
+        runs.expect_length(&scene, LONGEST_ANSWER);
+        runs.every_buffer(&scene);
+    }
+}
+
 pub fn run(report: &mut Report, long: bool) {
     let prng = Prng::new(4);
     let mut runs = Runs { report, prng };
@@ -121,6 +137,7 @@ pub fn run(report: &mut Report, long: bool) {
     accepted(&mut runs);
     random(&mut runs, &rows, if long { LONG } else { RANDOM });
     short_buffers(&mut runs);
+    longest_answer(&mut runs);
     tables::run(&mut runs);
     room::run(&mut runs);
     report.expect_each("lock", &NUMBERS, LEAST);

@@ -131,6 +131,26 @@ impl Plan {
         Plan::of_state(prng, operation, state)
     }
 
+    /// The same, with every capability and aux of these lengths.
+    pub fn with_aux(prng: &mut Prng, operation: u8, aux_lens: &[usize]) -> Self {
+        let mut state = states::with_aux(prng, aux_lens);
+        state.flags = 1;
+        state.recovery_threshold = 1;
+        for auth in &mut state.authenticators {
+            auth.capabilities |= 7;
+        }
+        Plan::of_state(prng, operation, state)
+    }
+
+    /// The same with the longest answer: the aux of 16 entries fill a state, and as many proofs a witness lock.
+    pub fn longest_answer(prng: &mut Prng, operation: u8) -> Self {
+        let mut plan = Plan::with_aux(prng, operation, &[942; 16]);
+        for proof in &mut plan.lock.proofs {
+            proof.bytes = prng.bytes(8_183);
+        }
+        plan
+    }
+
     /// Some proofs are left out, and verdicts are of every kind.
     pub fn random(prng: &mut Prng) -> Self {
         let operation = 1 + prng.up_to(2) as u8;

@@ -15,11 +15,13 @@ use std::io;
 const SCENES: usize = 2_000;
 /// The length of a scene that counts as short.
 const SHORT: usize = 1_400;
-/// Numbers that need a long aux or a long proof, and how many scenes with them there are.
-const NEED_LONG: [(i8, usize); 2] = [(35, 12), (39, 2)];
-/// Document 01's marked rows that a program runs.
-const MARKED: [&str; 6] = [
+/// Numbers that need a long proof or a long aux, and how many scenes with them there are.
+const NEED_LONG: [(i8, usize); 2] = [(35, 2), (44, 18)];
+/// Document 01's marked rows that a program runs, and the limit of document 02 among those of an aux.
+const MARKED: [&str; 8] = [
     "a slot twice",
+    "aux 2,593",
+    "aux 2,594",
     "aux 4,096",
     "aux 4,097",
     "proof 65,536",
@@ -88,8 +90,9 @@ impl Recorder {
 
     /// Every row once for each operation.
     fn each_row(&mut self, rows: &[Row]) {
+        let needs_long = |row: &&Row| NEED_LONG.iter().any(|(number, _)| *number == row.number);
         let short = rows.iter().filter(|row| !row.long);
-        for row in short.filter(|row| row.number != 35) {
+        for row in short.filter(|row| !needs_long(row)) {
             for operation in row.operations {
                 let scene = self.with(*operation, &row.faults);
                 self.offer(&scene, SHORT);
@@ -97,12 +100,12 @@ impl Recorder {
         }
     }
 
-    /// The shortest scenes for the numbers that need long ones.
+    /// Rather short scenes for the numbers that need long ones, of one row after the other.
     fn long(&mut self, rows: &[Row]) {
         for (number, count) in NEED_LONG {
-            let rows = rows.iter().filter(|row| row.number == number);
-            let row = rows.min_by_key(|row| row.long).expect("a row");
-            for turn in 0..count {
+            let mut rows: Vec<&Row> = rows.iter().filter(|row| row.number == number).collect();
+            rows.sort_by_key(|row| row.long);
+            for (turn, row) in rows.iter().take(count).enumerate() {
                 let operation = row.operations[turn % row.operations.len()];
                 let scene = self.with(operation, &row.faults);
                 self.offer(&scene, usize::MAX);

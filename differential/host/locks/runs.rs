@@ -1,10 +1,11 @@
 //! Runs of the port's lock, compared with what it is measured by.
 
 use super::answer::{Answer, ENOUGH};
+use crate::aux_limit::state_number;
 use crate::cell_hashes::first_difference;
 use crate::hex::Hex;
 use crate::lent::Lent;
-use crate::measure;
+use crate::measure::{self, cells};
 use crate::original::Outcome;
 use crate::prng::Prng;
 use crate::report::Report;
@@ -12,7 +13,8 @@ use crate::scene::ENTRIES;
 use crate::scene_exports;
 use crate::scene_text::text;
 use crate::table;
-use ckb_std::Scene;
+use ckb_account_protocol::validate_state;
+use ckb_std::{Cell, Scene};
 
 /// The answer buffer of runs over any table.
 const LENT: usize = 2_000;
@@ -60,8 +62,19 @@ impl Runs<'_> {
         lent
     }
 
+    /// The model of a state's checks, without the limit, says of every cell's data what the original says.
+    fn check_model(&mut self, scene: &Scene) {
+        let original = |cell: &Cell| validate_state(&cell.data).map_or_else(|e| e as u32, |_| 0);
+        let expected: Vec<u32> = cells(scene).map(original).collect();
+        let model = |cell: &Cell| state_number(&cell.data, None);
+        let result: Vec<u32> = cells(scene).map(model).collect();
+        let (name, input) = ("model of a state's checks", || format!("{scene:?}"));
+        self.report.compare(name, 0, input, &result, &expected);
+    }
+
     /// What the lock has to answer. A hash that differs is counted by its place.
     fn measure(&mut self, scene: &Scene) -> Outcome {
+        self.check_model(scene);
         if let Some(difference) = first_difference(scene) {
             self.report.meet(difference.name());
         }
@@ -81,6 +94,14 @@ impl Runs<'_> {
         let lent = self.read(&text);
         self.compare(&text, &lent, &outcome, ENOUGH);
         self.decide(&text, &lent, &outcome);
+    }
+
+    /// A scene whose requests have so many bytes in all.
+    pub fn expect_length(&mut self, scene: &Scene, length: usize) {
+        let result = total(&self.measure(scene));
+        let input = || describe(&text(scene), ENOUGH);
+        self.report
+            .compare("longest answer", 0, input, &result, &length);
     }
 
     /// The text, read and decided in one call.

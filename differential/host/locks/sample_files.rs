@@ -35,13 +35,13 @@ const REFUSED: [(&str, u8, &str); 18] = [
     ("32_unsupported_version", 1, "args starting 0x02"),
     ("33_unsupported_algorithm", 1, "state has algorithm 0"),
     ("34_recovery_locked", 3, "since one below"),
-    ("35_invalid_request", 1, "aux 4,097"),
     (
         "38_unsatisfiable_threshold",
         1,
         "state has spend threshold 0",
     ),
     ("40_hash_mismatch", 1, "state's type script edited"),
+    ("44_aux_too_long", 1, "aux 2,594"),
 ];
 
 /// Makes the text just as long as the program reads, by the data of a dep that plays no part. A spend does not test the

@@ -6,9 +6,8 @@ use Rattle.octets.specs.Le.{Bytes}
 use Rattle.protocol.specs.Write.{writeFault}
 use Rattle.protocol.proofs.Outcome.{write-refused, write-fits, write-done}
 use Rattle.account_state.specs.Reading.{stateBytes}
-use Rattle.account_state.specs.State.{stateRows}
 use Rattle.account_state_writer.specs.Slices.{lentCount}
-use Rattle.account_state_writer.specs.Writer.{stateTotal, stateFrom, validWritten, validStored}
+use Rattle.account_state_writer.specs.Writer.{stateTotal, writtenRows, stateFrom, validWritten, validStored}
 use Rattle.account_state_writer.proofs.Agreed.{agreed, length-state, checks-found}
 use borrow.Author.Needs.{needs}
 use Rattle.account_state_writer.proofs.encode_agreed.Statement.{statement}
@@ -26,8 +25,8 @@ found : (c : tie.After-require)
     → let a = c .before .before .before .before .before .args in
     let f = a .fields .now in
     let b = a .bytes .now in
-    let s = stateBytes (stateFrom (a .flags) (a .sequence) (a .spend) (a .rotate) (a .recovery) (a .since) f b) in
-    (length s ≡ stateTotal f b) × (c .require .result ≡ writeFault (stateRows s) (stateTotal f b) (length (a .out .now)))
+    let r = stateFrom (a .flags) (a .sequence) (a .spend) (a .rotate) (a .recovery) (a .since) f b in
+    (length (stateBytes r) ≡ stateTotal f b) × (c .require .result ≡ writeFault (writtenRows r) (stateTotal f b) (length (a .out .now)))
 unfolding lentCount stateTotal
 found c =
     let k = c .before .before .before .before in

@@ -170,10 +170,7 @@ fn type_script_rows() -> Vec<Row> {
 
 /// The longest state: 16 entries.
 fn longest(plan: &mut Plan, prng: &mut Prng) {
-    let mut state = states::with_aux(prng, &[942; 16]);
-    state.flags = 1;
-    state.recovery_threshold = 1;
-    *plan = Plan::of_state(prng, plan.lock.operation, state);
+    *plan = Plan::with_aux(prng, plan.lock.operation, &[942; 16]);
 }
 
 fn data_rows() -> Vec<Row> {
@@ -214,10 +211,16 @@ fn data_rows() -> Vec<Row> {
     ]
 }
 
-pub fn rows() -> Vec<Row> {
+/// The rows before the states' data.
+pub fn search_rows() -> Vec<Row> {
     let mut rows = spend_rows();
     rows.extend(changing_rows());
     rows.extend(type_script_rows());
+    rows
+}
+
+pub fn rows() -> Vec<Row> {
+    let mut rows = search_rows();
     rows.extend(data_rows());
     rows.push(
         on_scene(0, ALL, "64 of each kind", |scene, _, prng| {

@@ -1,9 +1,12 @@
 //! Faults, and what document 01 says of each, row by row of its table "Where each refusal is raised", with the row that
-//! change 1 of document 02 puts into it. A row with number 0 is a limit that still passes.
+//! change 1 of document 02 puts into it and the limit that change 6 puts into a state's checks. A row with number 0 is a limit
+//! that still passes.
 
 mod cells;
 mod hash_changes;
 mod hashes;
+mod long_aux;
+mod long_aux_order;
 mod parts;
 mod proofs;
 mod requests;
@@ -19,6 +22,7 @@ use crate::prng::Prng;
 use ckb_std::{Cell, Scene};
 
 pub use hashes::any as any_hash;
+pub use long_aux::about_limit;
 pub use parts::damage;
 
 /// A part of the scene that has bytes of its own.
@@ -132,6 +136,8 @@ pub fn rows() -> Vec<Row> {
     rows.extend(states::rows());
     rows.extend(transition::rows());
     rows.extend(hashes::rows());
+    rows.extend(long_aux::rows());
+    rows.extend(long_aux_order::rows());
     // These come before the digest.
     for row in rows.iter_mut().filter(|row| row.number != 0) {
         row.made = Some(Made::Nothing);

@@ -2,7 +2,7 @@
 
 use super::parts::{set, shorten};
 use super::proofs::second;
-use super::Made::{AllBut, Requests};
+use super::Made::{AllBut, Nothing, Requests};
 use super::{on_plan, row, Fault, Part, Row, ALL};
 use crate::locks::plan::Plan;
 use crate::prng::Prng;
@@ -15,51 +15,73 @@ fn lengths(plan: &mut Plan, prng: &mut Prng, aux: usize, proof: usize) {
     }
 }
 
-fn request_rows() -> Vec<Row> {
+/// An aux about the limit of a state, and above that of a request: the state is refused.
+fn aux_rows() -> Vec<Row> {
+    let aux = |number, name, change| on_plan(number, ALL, name, change);
     vec![
-        on_plan(0, ALL, "aux 4,096", |plan, prng| {
-            lengths(plan, prng, 4_096, 9)
-        })
-        .made(AllBut(0)),
-        on_plan(35, ALL, "aux 4,097", |plan, prng| {
-            lengths(plan, prng, 4_097, 9)
-        })
-        .made(Requests(0)),
-        on_plan(0, ALL, "proof 65,536", |plan, prng| {
+        aux(0, "aux 2,593", |plan, prng| lengths(plan, prng, 2_593, 9)).made(AllBut(0)),
+        aux(44, "aux 2,594", |plan, prng| lengths(plan, prng, 2_594, 9)).made(Nothing),
+        aux(44, "aux 4,096", |plan, prng| lengths(plan, prng, 4_096, 9)).made(Nothing),
+        aux(44, "aux 4,097", |plan, prng| lengths(plan, prng, 4_097, 9)).made(Nothing),
+    ]
+}
+
+/// Proofs as long as a request takes and longer. With the longest aux of a state the longest request has 68,225 bytes.
+fn proof_rows() -> Vec<Row> {
+    let long = |number, name, change| on_plan(number, ALL, name, change).long();
+    vec![
+        long(0, "proof 65,536", |plan, prng| {
             lengths(plan, prng, 9, 65_536)
         })
-        .made(AllBut(0))
-        .long(),
-        on_plan(35, ALL, "proof 65,537", |plan, prng| {
+        .made(AllBut(0)),
+        long(35, "proof 65,537", |plan, prng| {
             lengths(plan, prng, 9, 65_537)
         })
-        .made(Requests(0))
-        .long(),
-        on_plan(0, ALL, "request of 69,728", |plan, prng| {
+        .made(Requests(0)),
+        long(35, "last proof 65,537", |plan, prng| {
+            if let [_, .., last] = &mut plan.lock.proofs[..] {
+                last.bytes = prng.bytes(65_537);
+            }
+        })
+        .made(AllBut(1)),
+        long(35, "one proof that fills the lock", |plan, prng| {
+            lengths(plan, prng, 9, 131_048);
+            plan.lock.proofs.truncate(1);
+        })
+        .made(Requests(0)),
+        long(0, "request of 68,225", |plan, prng| {
+            lengths(plan, prng, 2_593, 65_536)
+        })
+        .made(AllBut(0)),
+        long(35, "aux 2,593, proof 65,537", |plan, prng| {
+            lengths(plan, prng, 2_593, 65_537)
+        })
+        .made(Requests(0)),
+    ]
+}
+
+/// Both: the aux comes first, with its state.
+fn aux_and_proof_rows() -> Vec<Row> {
+    let long = |name, change| on_plan(44, ALL, name, change).made(Nothing).long();
+    vec![
+        long("aux 2,594, proof 65,536", |plan, prng| {
+            lengths(plan, prng, 2_594, 65_536)
+        }),
+        long("aux 4,096, proof 65,536", |plan, prng| {
             lengths(plan, prng, 4_096, 65_536)
-        })
-        .made(AllBut(0))
-        .long(),
-        on_plan(39, ALL, "request of 69,729", |plan, prng| {
-            lengths(plan, prng, 4_097, 65_536)
-        })
-        .made(Requests(0))
-        .long(),
-        on_plan(35, ALL, "aux 4,097 in 69,728", |plan, prng| {
+        }),
+        long("aux 4,097, proof 65,535", |plan, prng| {
             lengths(plan, prng, 4_097, 65_535)
-        })
-        .made(Requests(0))
-        .long(),
-        on_plan(39, ALL, "aux 5,000, proof 65,536", |plan, prng| {
-            lengths(plan, prng, 5_000, 65_536);
-        })
-        .made(Requests(0))
-        .long(),
-        on_plan(35, ALL, "aux 5,000, proof 65,537", |plan, prng| {
-            lengths(plan, prng, 5_000, 65_537);
-        })
-        .made(Requests(0))
-        .long(),
+        }),
+        long("aux 4,097, proof 65,536", |plan, prng| {
+            lengths(plan, prng, 4_097, 65_536)
+        }),
+        long("aux 5,000, proof 65,536", |plan, prng| {
+            lengths(plan, prng, 5_000, 65_536)
+        }),
+        long("aux 5,000, proof 65,537", |plan, prng| {
+            lengths(plan, prng, 5_000, 65_537)
+        }),
     ]
 }
 
@@ -156,7 +178,9 @@ fn threshold_rows() -> Vec<Row> {
 }
 
 pub fn rows() -> Vec<Row> {
-    let mut rows = request_rows();
+    let mut rows = aux_rows();
+    rows.extend(proof_rows());
+    rows.extend(aux_and_proof_rows());
     rows.extend(verdict_rows());
     rows.extend(threshold_rows());
     rows

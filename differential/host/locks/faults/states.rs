@@ -4,28 +4,28 @@ use super::parts::{put_u16, set, shorten, u16_at};
 use super::{row, Fault, OnBytes, Part, Row, ALL, CHANGING};
 
 /// Where the first entry stands.
-const FIRST: usize = 32;
+pub const FIRST: usize = 32;
 
 /// Where the second entry stands, if there is one.
 fn second(state: &[u8]) -> usize {
     FIRST + u16_at(state, FIRST)
 }
 
-/// Takes the aux of the first entry away, the lengths staying right.
-fn without_aux(state: &mut Vec<u8>) {
-    let (start, end) = (FIRST + 80, second(state));
-    if start < end && end <= state.len() {
-        state.drain(start..end);
-        put_u16(state, FIRST, 80);
-        put_u16(state, FIRST + 46, 0);
+/// Gives the entry that stands here another aux, the lengths staying right.
+pub fn set_aux(state: &mut Vec<u8>, at: usize, aux: Vec<u8>) {
+    let (start, end) = (at + 80, at + u16_at(state, at));
+    if start <= end && end <= state.len() {
+        put_u16(state, at, 80 + aux.len());
+        put_u16(state, at + 46, aux.len());
+        state.splice(start..end, aux);
     }
 }
 
-/// Moves the border between key and aux of the first entry by one.
-fn move_border(state: &mut [u8], key_len: usize) {
-    let both = u16_at(state, FIRST + 44) + u16_at(state, FIRST + 46);
-    put_u16(state, FIRST + 44, key_len);
-    put_u16(state, FIRST + 46, both.saturating_sub(key_len));
+/// Moves the border between key and aux of the entry that stands here.
+pub fn move_border(state: &mut [u8], at: usize, key_len: usize) {
+    let both = u16_at(state, at + 44) + u16_at(state, at + 46);
+    put_u16(state, at + 44, key_len);
+    put_u16(state, at + 46, both.saturating_sub(key_len));
 }
 
 /// Sets flag 1 or clears it, with these numbers for recovery.
@@ -38,7 +38,10 @@ fn recovery(state: &mut [u8], flag: u8, threshold: usize, since: u8) {
     set(state, 24, since);
 }
 
-const HEADER: [(i8, &str, OnBytes); 17] = [
+/// A number, what has it, and how.
+pub type Change = (i8, &'static str, OnBytes);
+
+pub const HEADER: [Change; 14] = [
     (21, "is empty", |state, _| state.clear()),
     (21, "has 31 bytes", |state, _| state.truncate(31)),
     (21, "has another magic", |state, _| set(state, 3, b'W')),
@@ -59,15 +62,10 @@ const HEADER: [(i8, &str, OnBytes); 17] = [
     (21, "has byte 23 set", |state, _| set(state, 23, 1)),
     (21, "has no entry", |state, _| set(state, 22, 0)),
     (21, "has 17 entries", |state, _| set(state, 22, 17)),
-    (21, "has an entry less than it counts", |state, _| {
-        let count = state.get(22).map_or(0, |count| count + 1);
-        set(state, 22, count);
-    }),
-    (21, "has a byte behind", |state, _| state.push(0)),
-    (21, "is one byte short", |state, _| shorten(state)),
 ];
 
-const ENTRIES: [(i8, &str, OnBytes); 17] = [
+/// Of its first entry.
+pub const ENTRIES: [Change; 17] = [
     (21, "has an entry length one more", |state, _| {
         let length = u16_at(state, FIRST);
         put_u16(state, FIRST, length + 1);
@@ -108,14 +106,29 @@ const ENTRIES: [(i8, &str, OnBytes); 17] = [
     }),
     (33, "has algorithm 0 and a key of 31", |state, _| {
         put_u16(state, FIRST + 4, 0);
-        move_border(state, 31);
+        move_border(state, FIRST, 31);
     }),
-    (21, "has a key of 31", |state, _| move_border(state, 31)),
-    (21, "has a key of 33", |state, _| move_border(state, 33)),
-    (21, "has an empty aux", |state, _| without_aux(state)),
+    (21, "has a key of 31", |state, _| {
+        move_border(state, FIRST, 31)
+    }),
+    (21, "has a key of 33", |state, _| {
+        move_border(state, FIRST, 33)
+    }),
+    (21, "has an empty aux", |state, _| {
+        set_aux(state, FIRST, vec![])
+    }),
 ];
 
-const THRESHOLDS: [(i8, &str, OnBytes); 9] = [
+/// Of its last entry.
+pub const SHORT: Change = (21, "is one byte short", |state, _| shorten(state));
+
+/// Behind its last entry.
+pub const BEHIND: [Change; 11] = [
+    (21, "has an entry less than it counts", |state, _| {
+        let count = state.get(22).map_or(0, |count| count + 1);
+        set(state, 22, count);
+    }),
+    (21, "has a byte behind", |state, _| state.push(0)),
     (38, "has spend threshold 0", |state, _| {
         put_u16(state, 16, 0)
     }),
@@ -162,21 +175,30 @@ fn light(state: &mut Vec<u8>, at: usize) {
     put_u16(state, at, 65_535);
 }
 
+/// A change of the current state, and of the successor.
+pub fn of_both((number, name, change): Change) -> [Row; 2] {
+    let state = Fault::Bytes(Part::State, change);
+    let successor = Fault::Bytes(Part::Successor, change);
+    [
+        row(number, ALL, &format!("state {name}"), state),
+        row(number, CHANGING, &format!("successor {name}"), successor),
+    ]
+}
+
+/// The slot of the first entry in the second too.
+pub fn same_slot(state: &mut [u8]) {
+    let (slot, next) = (u16_at(state, FIRST + 2), second(state));
+    put_u16(state, next + 2, slot);
+}
+
 pub fn rows() -> Vec<Row> {
-    let mut rows = Vec::new();
-    for (number, name, change) in HEADER.iter().chain(&ENTRIES).chain(&THRESHOLDS) {
-        let state = format!("state {name}");
-        let fault = Fault::Bytes(Part::State, *change);
-        rows.push(row(*number, ALL, &state, fault));
-        let successor = format!("successor {name}");
-        let fault = Fault::Bytes(Part::Successor, *change);
-        rows.push(row(*number, CHANGING, &successor, fault));
-    }
-    let twice: OnBytes = |state, _| {
-        let (slot, next) = (u16_at(state, FIRST + 2), second(state));
-        put_u16(state, next + 2, slot);
-    };
-    let fault = Fault::Bytes(Part::State, twice);
+    let changes = HEADER
+        .into_iter()
+        .chain(ENTRIES)
+        .chain([SHORT])
+        .chain(BEHIND);
+    let mut rows: Vec<Row> = changes.flat_map(of_both).collect();
+    let fault = Fault::Bytes(Part::State, |state, _| same_slot(state));
     rows.push(row(21, ALL, "state has a slot twice", fault));
     rows
 }

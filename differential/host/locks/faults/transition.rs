@@ -16,8 +16,12 @@ fn wait(plan: &mut Plan, recovery_since: u64, since: u64) {
     plan.since = since;
 }
 
-fn sequence_rows() -> Vec<Row> {
-    let of_version_2 = |part| Fault::Bytes(part, |state, _| set(state, 4, 2));
+fn of_version_2(part: Part) -> Fault {
+    Fault::Bytes(part, |state, _| set(state, 4, 2))
+}
+
+/// The witness sequence, which comes between the two states.
+pub fn witness_rows() -> Vec<Row> {
     let other = Fault::Plan(|plan, _| plan.lock.sequence ^= 1 << 40);
     vec![
         on_plan(27, ALL, "witness sequence one more", |plan, _| {
@@ -32,6 +36,11 @@ fn sequence_rows() -> Vec<Row> {
             other,
         )
         .and(of_version_2(Part::Successor)),
+    ]
+}
+
+fn successor_rows() -> Vec<Row> {
+    vec![
         on_plan(27, CHANGING, "successor's sequence the same", |plan, _| {
             plan.successor.sequence = plan.state.sequence;
         }),
@@ -119,11 +128,18 @@ fn recovery_rows() -> Vec<Row> {
     ]
 }
 
-pub fn rows() -> Vec<Row> {
-    let mut rows = sequence_rows();
+/// The rows behind both states.
+pub fn later_rows() -> Vec<Row> {
+    let mut rows = successor_rows();
     rows.extend(recovery_rows());
     rows.push(on_plan(0, &[2], "a rotation does not wait", |plan, _| {
         plan.since = 0
     }));
+    rows
+}
+
+pub fn rows() -> Vec<Row> {
+    let mut rows = witness_rows();
+    rows.extend(later_rows());
     rows
 }

@@ -173,7 +173,7 @@ fn table_rows() -> Vec<Row> {
 }
 
 /// Witnesses that are hashed, and those of foreign inputs, which are not.
-fn hashed_rows() -> Vec<Row> {
+pub fn hashed_rows() -> Vec<Row> {
     vec![
         on_scene(
             0,
@@ -213,10 +213,16 @@ fn hashed_rows() -> Vec<Row> {
     ]
 }
 
-pub fn rows() -> Vec<Row> {
+/// The rows of the first group witness.
+pub fn first_rows() -> Vec<Row> {
     let mut rows = missing_rows();
     rows.extend(table_rows());
     rows.extend(header_rows());
+    rows
+}
+
+pub fn rows() -> Vec<Row> {
+    let mut rows = first_rows();
     rows.extend(hashed_rows());
     rows
 }

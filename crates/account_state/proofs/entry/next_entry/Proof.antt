@@ -4,6 +4,7 @@ use lib.ListN.{drop}
 use Rattle.protocol.specs.Rows.{decide}
 use Rattle.protocol.specs.declared.check.Check.the-variants.{Passed}
 use Rattle.account_state.specs.State.{entryRows, entryStepAnswer, entryStep}
+use Rattle.account_state.proofs.AuxLimit.{step-promised}
 use Rattle.account_state.proofs.EntriesWalkLaws.{entry-room}
 use borrow.Author.Needs.{needs}
 use Rattle.account_state.proofs.entry.next_entry.Statement.{statement}
@@ -23,11 +24,14 @@ returns : tie.Need-returns
 unfolding entryStep entryStepAnswer
 returns c =
     let c4 = c .before .before .before .before in
-    rw (← c4 .rest .ensures, sym (c .before .before .before .check-entry .ensures) ∙ c .before .error .given .1)
+    let a = c4 .before .before .args in
+    step-promised (a .state .now) (a .cursor) (rw (← c4 .rest .ensures, sym (c .before .before .before .check-entry .ensures) ∙ c .before .error .given .1))
 
 returns-2 : tie.Need-returns-2
 unfolding entryStep entryStepAnswer
-returns-2 c = rw (c .cursor-behind .ensures, c .before .entry-at .ensures, passed (c .before .before))
+returns-2 c =
+    let a = c .before .before .before .before .before .before .before .args in
+    step-promised (a .state .now) (a .cursor) (rw (c .cursor-behind .ensures, c .before .entry-at .ensures, passed (c .before .before)))
 
 pub next-entry-spec : {M : Type 1} → statement M
 next-entry-spec =

@@ -1,4 +1,4 @@
--- `account_state_writer::check::check_state` meets its contract: head, entries and thresholds, by what each finds. Assumes nothing.
+-- `account_state_writer::check::check_state` meets its contract: head, entries, thresholds and limit, by what each finds. Assumes nothing.
 use mathlib.Core.Path.{sym, _∙_}
 use Prim.Native.Nat.{_/_}
 use native.Mathlib.Omega.{arith}
@@ -21,6 +21,9 @@ check-end-requires c κs =
     let h = sym (c .before .before .before .check-head .ensures) ∙ c .before .enum-told .given .1 in
     (omega arith, head-limit _ _ h)
 
+lent-within-requires : tie.Need-lent-within-requires
+lent-within-requires c κs = omega arith
+
 returns : tie.Need-returns
 unfolding lentCount
 returns c =
@@ -31,11 +34,14 @@ returns c =
 returns-2 : tie.Need-returns-2
 unfolding lentCount
 returns-2 c =
-    let c3 = c .before .before .before in
-    let a = c3 .before .before .before .before .before .args in
-    let h = sym (c3 .before .before .check-head .ensures) ∙ c3 .enum-told .given .1 in
-    rw (c .and .ensures, c .before .check-end .ensures, c .before .before .check-entries .ensures)
-    (sym (head-passed (a .flags) (a .spend) (a .rotate) (a .recovery) (a .since) (length (a .fields .now) / lentWidth) (a .fields .now) (a .bytes .now) h))
+    let c2 = c .before .before in
+    let c5 = c2 .before .before .before in
+    let s = c5 .before .before .before .before .before in
+    let a = s .args in
+    let h = sym (c5 .before .before .check-head .ensures) ∙ c5 .enum-told .given .1 in
+    let n = s .pre in
+    rw (c .require .ensures, c .before .lent-within .ensures, c2 .and .ensures, c2 .before .check-end .ensures, c2 .before .before .check-entries .ensures)
+    (head-passed (a .flags) (a .spend) (a .rotate) (a .recovery) (a .since) (length (a .fields .now) / lentWidth) (a .fields .now) (a .bytes .now) h (omega arith))
 
 pub check-state-spec : {M : Type 1} → statement M
 check-state-spec =
@@ -46,6 +52,8 @@ check-state-spec =
     (λ c. search needs)
     check-entries-requires
     check-end-requires
+    (λ c κs. search needs)
+    lent-within-requires
     (λ c κs. search needs)
     returns
     returns-2)

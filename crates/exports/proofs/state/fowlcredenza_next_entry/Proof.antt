@@ -9,14 +9,14 @@ use Rattle.exports.proofs.state.fowlcredenza_next_entry.Tie as tie
 returns : tie.Need-returns
 unfolding stepWords
 returns c =
-    let e = sym (c .before .before .before .before .next-entry .ensures) ∙ c .before .before .error .given .1 in
+    let e = sym (c .before .before .before .before .next-entry .ensures .0) ∙ c .before .before .error .given .1 in
     rw (e, c .error-number .ensures) (bytes-refused (c .before .before .error .given .0 .0) _ _)
 
 returns-2 : tie.Need-returns-2
 unfolding stepWords
 returns-2 c =
     let store = c .before .before in
-    let e = sym (store .before .before .before .before .before .before .before .before .before .before .before .before .before .next-entry .ensures) ∙ store .before .before .before .before .before .before .before .before .before .before .before .entry .given .1 in
+    let e = sym (store .before .before .before .before .before .before .before .before .before .before .before .before .before .next-entry .ensures .0) ∙ store .before .before .before .before .before .before .before .before .before .before .before .entry .given .1 in
     rw e (store .store-words .ensures)
 
 pub fowlcredenza-next-entry-spec : {M : Type 1} → statement M
