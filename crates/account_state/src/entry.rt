@@ -88,23 +88,28 @@ fn check_layout(entry: &[u8], least: u32) -> Check
         .require(least <= entry_slot_of(entry) as u32, invalid)
 }
 
-// The checks of an entry's fields, where it is read or is to be written.
+// The checks of an entry's fields, where it is read or is to be written. The algorithm is looked up once the checks before it
+// passed, so that nothing has to be kept of it.
 pub fn check_entry_fields(check: Check, fields: EntryFields) -> Check
     ensures { λ r. ⌜ r ≡ decide check (entryFieldRows fields) ⌝ }
 {
     let invalid = ProtocolError::InvalidState;
     let verifier = ProtocolError::InvalidVerifierRef;
-    check
+    let first = check
         .require(1 <= fields.weight, invalid)
         .require(fields.capabilities <= CAP_KNOWN_MASK, invalid)
         .require(fields.verifier_hash_type <= 1, verifier)
-        .require(fields.verifier_abi == VERIFIER_ABI_V1, verifier)
-        .require(
-            is_supported_algorithm(fields.algorithm_id),
-            ProtocolError::UnsupportedAlgorithm,
-        )
-        .require(fields.key_len == 32, invalid)
-        .require(1 <= fields.aux_len, invalid)
+        .require(fields.verifier_abi == VERIFIER_ABI_V1, verifier);
+    match first {
+        Check::Failed(error) => Check::Failed(error),
+        Check::Passed => Check::Passed
+            .require(
+                is_supported_algorithm(fields.algorithm_id),
+                ProtocolError::UnsupportedAlgorithm,
+            )
+            .require(fields.key_len == 32, invalid)
+            .require(1 <= fields.aux_len, invalid),
+    }
 }
 
 fn entry_fields_of(entry: &[u8]) -> EntryFields
@@ -156,7 +161,7 @@ fn entry_at(state: &[u8], at: usize) -> AuthenticatorEntry
     }
 }
 
-pub(crate) fn cursor_behind(state: &[u8], at: usize) -> EntryCursor
+fn cursor_behind(state: &[u8], at: usize) -> EntryCursor
     requires { ⌜ at + 48 ≤ length (now state) ⌝ }
     ensures { λ r. ⌜ r ≡ entryCursorBehind (now (state .entry)) at ⌝ }
 {

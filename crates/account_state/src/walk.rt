@@ -1,9 +1,10 @@
 // The walk over all entries: their weights by capability, and how many bytes follow them.
-use crate::entry::EntryCursor;
 use crate::entry::check_entry;
-use crate::entry::cursor_behind;
 use crate::fields::capabilities_of;
+use crate::fields::entry_length_of;
+use crate::fields::entry_slot_of;
 use crate::fields::weight_of;
+use protocol::ACCOUNT_STATE_HEADER_LEN;
 use protocol::CAP_RECOVERY;
 use protocol::CAP_ROTATE;
 use protocol::CAP_SPEND;
@@ -59,7 +60,8 @@ pub(crate) fn walk_entries(state: &[u8], count: u8) -> EntriesWalkAnswer
     requires { ⌜ (32 ≤ length (now state)) × (count ≤ 16) ⌝ }
     ensures { λ r. ⌜ r ≡ walkEntries count (entryBytesOf (now (state .entry))) ⌝ }
 {
-    let mut cursor = EntryCursor::first();
+    let mut entry = &state[ACCOUNT_STATE_HEADER_LEN..];
+    let mut least: u32 = 0;
     let mut summary = StateSummary {
         spend_weight: 0,
         rotate_weight: 0,
@@ -67,19 +69,19 @@ pub(crate) fn walk_entries(state: &[u8], count: u8) -> EntriesWalkAnswer
     };
     let mut left = count;
     while 0 < left {
-        let at = cursor.offset;
-        let entry = &state[at..];
-        match check_entry(entry, cursor.least) {
+        match check_entry(entry, least) {
             Check::Failed(error) => return EntriesWalkAnswer::Refused(error),
             Check::Passed => {
                 summary = with_entry(summary, capabilities_of(entry), weight_of(entry));
-                cursor = cursor_behind(state, at);
+                least = entry_slot_of(entry) as u32 + 1;
+                let len = entry_length_of(entry) as usize;
+                entry = &entry[len..];
             }
         }
         left -= 1;
     }
     EntriesWalkAnswer::Walked(EntriesWalk {
-        tail: state.len() - cursor.offset,
+        tail: entry.len(),
         summary,
     })
 }

@@ -1,16 +1,32 @@
--- `account_state::entry::check_entry_fields` meets its contract: the rows, last to first. Assumes nothing.
+-- `account_state::entry::check_entry_fields` meets its contract: the rows before the algorithm's, and then the others. Assumes
+-- nothing.
+use mathlib.Core.Path.{_≡_, _∙_}
+use lib.ListN.{take}
+use Rattle.protocol.specs.Rows.{_▷_, decide}
 use Rattle.account_state.specs.State.{entryFieldRows}
-use Rattle.protocol.specs.Rows.{decide}
 use borrow.Author.Needs.{needs}
 use Rattle.account_state.proofs.entry.check_entry_fields.Statement.{statement}
 use Rattle.account_state.proofs.entry.check_entry_fields.Tie as tie
 
-returns : tie.Need-returns
+-- the first four rows
+first : (c : tie.After-require4)
+    → let a = c .before .before .before .before .before .before .before .before .args in
+    decide (a .check) (take 4 (entryFieldRows (a .fields))) ≡ c .require4 .result
 unfolding entryFieldRows decide
-returns c =
+first c =
     let c4 = c .before .before .before .before in
-    let c8 = c4 .before .before .before .before in
-    rw (c .require7 .ensures, c .before .before .require6 .ensures, c4 .require5 .ensures, c4 .before .is-supported-algorithm .ensures, c4 .before .before .require4 .ensures, c8 .require3 .ensures, c8 .before .before .require2 .ensures, c8 .before .before .before .before .require .ensures)
+    rw (c .require4 .ensures, c .before .before .require3 .ensures, c4 .require2 .ensures, c4 .before .before .require .ensures)
+
+returns : tie.Need-returns
+unfolding entryFieldRows decide _▷_
+returns c = rw (first (c .before .before .before) ∙ c .before .first .given .1)
+
+returns-2 : tie.Need-returns-2
+unfolding entryFieldRows decide _▷_
+returns-2 c =
+    let c4 = c .before .before .before .before in
+    let told = c4 .before .before in
+    rw (c .require7 .ensures, c .before .before .require6 .ensures, c4 .require5 .ensures, c4 .before .is-supported-algorithm .ensures, first (told .before .before) ∙ told .enum-told .given .1)
 
 pub check-entry-fields-spec : {M : Type 1} → statement M
 check-entry-fields-spec =
@@ -20,8 +36,11 @@ check-entry-fields-spec =
     (λ c κs. search needs)
     (λ c κs. search needs)
     (λ c κs. search needs)
+    (λ c. search needs)
+    (λ c. search needs)
     (λ c κs. search needs)
     (λ c κs. search needs)
     (λ c κs. search needs)
     (λ c κs. search needs)
-    returns)
+    returns
+    returns-2)
