@@ -29,7 +29,7 @@ ghost use Rattle.protocol.specs.declared.check.Check.the-variants.{Passed};
 ghost use Rattle.account_state.specs.State.{thresholdRows};
 ghost use Rattle.account_state_writer.specs.Slices.{lentWidth, lentBytes, lentCount};
 ghost use Rattle.account_state_writer.specs.Writer.{entryFrom, entriesFrom, neededBytes};
-ghost use Rattle.account_state_writer.specs.Checks.{headChecks, entryChecks, entriesChecks, writtenChecks, lentCapableWeight, lentSummary, lentWithin};
+ghost use Rattle.account_state_writer.specs.Checks.{headChecks, entryChecks, entriesChecks, writtenChecks, lentSummary, lentWithin};
 
 fn check_head(flags: u8, count: usize) -> Check
     ensures { λ r. ⌜ r ≡ decide Passed (headChecks flags count) ⌝ }
@@ -85,23 +85,29 @@ fn check_entries(fields: &[u16], bytes: &[u8], count: usize) -> Check
     Check::Passed
 }
 
-// The weight of the entries that have the capability of a bit.
-fn lent_capable_weight(bit: u16, fields: &[u16], count: usize) -> u32
+// The weights of the holders of each capability.
+fn lent_summary(fields: &[u16], count: usize) -> StateSummary
     requires { ⌜ (lentWidth * count ≤ length (now fields)) × (count ≤ 16) ⌝ }
-    ensures { λ r. ⌜ r ≡ lentCapableWeight bit count (now (fields .entry)) ⌝ }
+    ensures { λ r. ⌜ r ≡ lentSummary count (now (fields .entry)) ⌝ }
 {
     let mut i: usize = 0;
-    let mut sum: u32 = 0;
+    let mut spend_weight: u32 = 0;
+    let mut rotate_weight: u32 = 0;
+    let mut recovery_weight: u32 = 0;
     while i < count {
         let start = LENT_WIDTH * i;
-        sum += capable_share(
-            bit,
-            fields[start + LENT_CAPABILITIES],
-            fields[start + LENT_WEIGHT],
-        );
+        let capabilities = fields[start + LENT_CAPABILITIES];
+        let weight = fields[start + LENT_WEIGHT];
+        spend_weight += capable_share(CAP_SPEND, capabilities, weight);
+        rotate_weight += capable_share(CAP_ROTATE, capabilities, weight);
+        recovery_weight += capable_share(CAP_RECOVERY, capabilities, weight);
         i += 1;
     }
-    sum
+    StateSummary {
+        spend_weight,
+        rotate_weight,
+        recovery_weight,
+    }
 }
 
 // The thresholds, beside the weights that the fields say.
@@ -117,11 +123,7 @@ fn check_end(
     requires { ⌜ (lentWidth * count ≤ length (now fields)) × (count ≤ 16) ⌝ }
     ensures { λ r. ⌜ r ≡ decide Passed (thresholdRows flags spend rotate recovery since (lentSummary count (now (fields .entry)))) ⌝ }
 {
-    let summary = StateSummary {
-        spend_weight: lent_capable_weight(CAP_SPEND, fields, count),
-        rotate_weight: lent_capable_weight(CAP_ROTATE, fields, count),
-        recovery_weight: lent_capable_weight(CAP_RECOVERY, fields, count),
-    };
+    let summary = lent_summary(fields, count);
     check_thresholds(flags, spend, rotate, recovery, since, summary)
 }
 
