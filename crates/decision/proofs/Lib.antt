@@ -2,5 +2,5 @@ pub mod Quorum
 pub mod Listed
 pub mod DecisionTheorem
 pub mod RequestsRead
-pub mod LongRequest
 pub mod RoomEnough
+pub mod LongRequest

@@ -12,7 +12,6 @@ use lib.ListN.{length}
 use Rattle.account_state.specs.Fields.{auxMaxLength}
 use Rattle.account_state.specs.Reading.{EntryReading, AuxWithin}
 use Rattle.account_witness.specs.Reading.{ProofReading}
-use Rattle.verifier_request.specs.Fields.{requestSize}
 use Rattle.decision.specs.Proofs.{Context, noEntry, entryFor, longProofRow, WithinLimits}
 
 -- the entry of any slot keeps the limit
@@ -28,7 +27,6 @@ entry-within slot (e ∷ es) w = go (eqb (e .slot) slot) (entry-within slot es (
 -- so does a request
 pub within-limits : (c : Context) (p : ProofReading) → AuxWithin (c .entries) → longProofRow (length (p .bytes)) .test ≡ true → WithinLimits c p
 within-limits c p w h =
-    let aux = length (entryFor (p .slot) (c .entries) .aux) in
-    let a : aux ≤ auxMaxLength = entry-within (p .slot) (c .entries) w in
+    let a : length (entryFor (p .slot) (c .entries) .aux) ≤ auxMaxLength = entry-within (p .slot) (c .entries) w in
     let l : length (p .bytes) ≤ 65536 = leb-true (length (p .bytes)) 65536 h in
-    record { request = le-leb (requestSize aux (length (p .bytes))) 69728 (omega arith); aux = le-leb aux 4096 (omega arith) }
+    record { request = omega (arith, le-leb); aux = omega (arith, le-leb) }
