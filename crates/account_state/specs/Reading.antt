@@ -145,11 +145,6 @@ abbrev pub EntriesTyped : List EntryReading → Type 0
 EntriesTyped [] = Unit {0}
 EntriesTyped (e ∷ es) = EntryTyped e × EntriesTyped es
 
--- 02, change 6: the reader takes 2,593 bytes "as its limit .. and says so to all above it": no aux is longer
-abbrev pub AuxWithin : List EntryReading → Type 0
-AuxWithin [] = Unit {0}
-AuxWithin (e ∷ es) = (length (e .aux) ≤ auxMaxLength) × AuxWithin es
-
 -- the header's numbers
 pub record StateNumbersTyped (r : StateReading) : Type 0 where
   pub flags : r .flags < 2 ^ 8
@@ -163,3 +158,8 @@ pub record StateTyped (r : StateReading) : Type 0 where
   pub numbers : StateNumbersTyped r
   pub count : length (r .entries) < 2 ^ 8
   pub entries : EntriesTyped (r .entries)
+
+-- 02, change 6: the reader takes 2,593 bytes "as its limit .. and says so to all above it": no aux is longer
+abbrev pub AuxWithin : List EntryReading → Type 0
+AuxWithin [] = Unit {0}
+AuxWithin (e ∷ es) = (length (e .aux) ≤ auxMaxLength) × AuxWithin es

@@ -82,7 +82,7 @@ entryFieldsOf e =
 unfoldable pub originalEntryRows : List ℕ → ℕ → List Row
 originalEntryRows e least = entryLayoutRows e least ++ entryFieldRows (entryFieldsOf e)
 
--- an aux above the limit
+-- the limit of an aux
 abbrev pub auxLimitRow : ℕ → Row
 auxLimitRow aux = row (leb aux auxMaxLength) AuxTooLong
 

@@ -79,7 +79,7 @@ unfoldable pub verifiers : EntryReading → List Cell → List ℕ
 verifiers e deps = matches (verifierField (e .hashType)) (e .codeHash) deps
 
 -- 01, main.rs: "In the lock a request of above 69,728 bytes is 39, tested before aux above 4,096 (35); a proof above 65,536 is 35
--- before either."; "answer buffer too short for this request", 5, where `left` bytes of it are left
+-- before either."
 abbrev pub longProofRow : ℕ → Row
 longProofRow proof = row (leb proof 65536) InvalidRequest
 
@@ -89,6 +89,7 @@ longRequestRow aux proof = row (leb (requestSize aux proof) 69728) LengthOverflo
 abbrev pub longAuxRow : ℕ → Row
 longAuxRow aux = row (leb aux 4096) InvalidRequest
 
+-- these, and "answer buffer too short for this request", 5, where `left` bytes of it are left
 unfoldable pub requestLimitRows : ℕ → ℕ → ℕ → List Row
 requestLimitRows aux proof left =
     longProofRow proof
