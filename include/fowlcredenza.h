@@ -53,7 +53,8 @@ enum fowlcredenza_number {
     FOWLCREDENZA_UNSATISFIABLE_THRESHOLD = 38,
     FOWLCREDENZA_LENGTH_OVERFLOW = 39,
     FOWLCREDENZA_HASH_MISMATCH = 40,
-    FOWLCREDENZA_AUX_TOO_LONG = 44
+    FOWLCREDENZA_AUX_TOO_LONG = 44,
+    FOWLCREDENZA_SESSION_WITHDRAWN = 49
 };
 
 /* Sizes of buffers, in bytes; of a table, in entries. */
@@ -155,7 +156,8 @@ uint32_t fowlcredenza_parse_public_key_proof(const uint8_t *proof, size_t proof_
 uint32_t fowlcredenza_account_lock_args(const uint8_t *account, size_t account_len, uint8_t *out,
                                         size_t out_len, size_t *len);
 
-/* An aux above 2,593 bytes is 44, after every other refusal but 5. */
+/* An aux above 2,593 bytes is 44, after every other refusal but 5. Flag 2 and capability 0x0008 are written: the lock alone
+ * refuses them, in a successor. */
 uint32_t fowlcredenza_encode_state(uint8_t flags, uint64_t sequence, uint16_t spend,
                                    uint16_t rotate, uint16_t recovery, uint64_t since,
                                    const uint16_t *fields, size_t fields_len, const uint8_t *bytes,
@@ -216,7 +218,8 @@ uint32_t fowlcredenza_table_valid(const uint32_t *table, size_t table_len, size_
 
 /* Decides what table and store hold; the requests go to the front of `answer`. Whatever the number, `out` takes count and
  * length of the requests and 1 where there is a digest, as words, then the digest's 32 bytes, zeros where there is none. An
- * `out` below 56 bytes is 7 before all else, and then nothing is written anywhere. */
+ * `out` below 56 bytes is 7 before all else, and then nothing is written anywhere. A rotation or a recovery to a state with
+ * flag 2, or with an entry that has capability 0x0008, is 49, after that state's own refusals and before its sequence's. */
 uint32_t fowlcredenza_lock(const uint32_t *table, size_t table_len, const uint8_t *store,
                            size_t store_len, uint8_t *answer, size_t answer_len, uint8_t *out,
                            size_t out_len);

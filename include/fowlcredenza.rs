@@ -34,6 +34,7 @@ pub mod number {
     pub const LENGTH_OVERFLOW: u32 = 39;
     pub const HASH_MISMATCH: u32 = 40;
     pub const AUX_TOO_LONG: u32 = 44;
+    pub const SESSION_WITHDRAWN: u32 = 49;
 }
 
 /// Sizes of buffers, as `include/fowlcredenza.h` has them.

@@ -3,9 +3,9 @@
 
 use crate::changes;
 use crate::lent::Lent;
-use crate::locks::about_limit;
 use crate::locks::answer::{Answer, ENOUGH};
 use crate::locks::record::{records, Record};
+use crate::locks::{about_limit, about_session};
 use crate::prng::Prng;
 use crate::report::Report;
 use crate::scene::{self, ENTRIES};
@@ -146,14 +146,15 @@ fn change_scene(text: &mut Vec<u8>, change: impl FnOnce(&mut Scene)) {
     }
 }
 
-/// An aux about its limit in a cell, if its data is a state.
-fn change_aux(prng: &mut Prng, text: &mut Vec<u8>) {
+/// An aux about its limit or a session in a cell, if its data is a state.
+fn change_state(prng: &mut Prng, text: &mut Vec<u8>) {
     change_scene(text, |scene| {
         let typed = |cell: &&mut Cell| cell.type_script.is_some();
         let mut cells: Vec<&mut Cell> = true_hashes::cells_mut(scene).filter(typed).collect();
         if !cells.is_empty() {
             let place = prng.up_to(cells.len() - 1);
-            about_limit(&mut cells[place].data, prng);
+            let change = [about_limit, about_session][prng.up_to(1)];
+            change(&mut cells[place].data, prng);
         }
     });
 }
@@ -207,7 +208,7 @@ impl<'a> Fuzz<'a> {
             match self.prng.up_to(9) {
                 0 => damage::change(&mut text, &mut self.prng),
                 1 => take_line(&mut self.prng, &mut text, &self.recorded[other].text),
-                2 => change_aux(&mut self.prng, &mut text),
+                2 => change_state(&mut self.prng, &mut text),
                 _ => change_bytes(&mut self.prng, &mut text),
             }
         }

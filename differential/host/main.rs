@@ -1,5 +1,5 @@
 //! Runs the port beside the original and compares. A comparison is a module with a function `run`. The lock is measured by
-//! document 02's test of hashes first, and states by its limit of an aux.
+//! document 02's test of hashes first, states by its limit of an aux, and successors by its row of sessions.
 //! `originals` is set where the original files are at hand; what needs none runs without them too.
 //! Without arguments all is compared; `--long` takes many more random scenes of the lock. `--record FILE` writes scenes
 //! with their answers into a file, and `--samples FOLDER` sample scenes into a folder. `--fuzz`, with limits
@@ -44,6 +44,8 @@ mod scene;
 mod scene_exports;
 mod scene_text;
 mod scenes;
+#[cfg(originals)]
+mod session;
 #[cfg(originals)]
 mod smoke;
 mod table;

@@ -1,9 +1,9 @@
 -- The lock gives 40 exactly where the table passes its test and a cell's hash differs.
 -- Assumes nothing.
 use mathlib.Core.Path.{_≡_, refl}
-use mathlib.Core.Logic.{_≢_, inl, inr, _↔_}
+use mathlib.Core.Logic.{_≢_, _↔_}
 use mathlib.Core.Bool.{Bool, true, false, cond, false≢true}
-use mathlib.Core.List.{List, []}
+use mathlib.Core.List.{List}
 use Prim.Native.Nat.{ℕ}
 use native.Mathlib.Omega.{arith}
 use lib.ListN.{length}
@@ -17,10 +17,9 @@ use Rattle.scene_table.specs.Scene.{Scene}
 use Rattle.scene_table.specs.Lent.{sceneIn}
 use Rattle.scene_table.specs.Valid.{validTable}
 use Rattle.cell_hashes.specs.Hashes.{hashRows}
-use Rattle.decision.specs.Walk.{walkList, walkLock}
+use Rattle.decision.specs.Walk.{walkLock}
 use Rattle.account_lock.specs.Lock as lock
-use Rattle.account_lock.proofs.LongRequest.{entries-within}
-use Rattle.account_lock.proofs.Numbers.{Differs, Behind, behind-not-40, WalkRefusal, behindRows, hashes-differ, behind-each, walk-refusal}
+use Rattle.account_lock.proofs.Numbers.{Differs, Behind, behind-not-40, behindRows, hashes-differ, behind-each, scene-walk, walk-low}
 
 module _ (s : Scene) (room : ℕ) where
   -- the rows behind the hashes count where these agree
@@ -28,19 +27,14 @@ module _ (s : Scene) (room : ℕ) where
   unfolding lock.earlyRows
   early-both = decide-both (hashRows s) (behindRows s)
 
-  walk-not-40 : (k : Check) → Refuses WalkRefusal k → checkNumber k ≢ 40
-  walk-not-40 Passed h q = absurd (omega arith)
-  walk-not-40 (Failed e) (inl h) q = absurd (omega arith)
-  walk-not-40 (Failed e) (inr h) q = absurd (omega (arith, h .1))
-
   scene-not-40 : AllPass (hashRows s) → checkNumber (lock.lockScene s room .found) ≢ 40
-  unfolding lock.earlyRows lock.lockScene lock.orWalked lock.refused lock.walkResult lock.walked walkLock walkList _then_
+  unfolding lock.earlyRows lock.lockScene lock.orWalked lock.refused lock.walkResult lock.walked _then_
   scene-not-40 h = rw (early-both, all-pass-passed (hashRows s) h) (go (decide Passed (behindRows s)) refl (each-refuses Behind (behindRows s) (behind-each s)))
     where
       go : (k : Check) → decide Passed (behindRows s) ≡ k → Refuses Behind k → checkNumber (lock.orWalked k (lock.walkResult s room) .found) ≢ 40
       go Passed e r q =
-          let w = entries-within s room (all-pass-append (hashRows s) (behindRows s) h (passed-all-pass (behindRows s) e)) in
-          walk-not-40 (walkLock (lock.contextOf s room) (lock.witnessLock s) .found) (walk-refusal _ w _ 0 0 [] _) q
+          let w = scene-walk s room (all-pass-append (hashRows s) (behindRows s) h (passed-all-pass (behindRows s) e)) in
+          absurd (omega (arith, walk-low (walkLock (lock.contextOf s room) (lock.witnessLock s) .found) w))
       go (Failed e) p r q = absurd (behind-not-40 e r q)
 
   scene-40 : ¬ AllPass (hashRows s) → checkNumber (lock.lockScene s room .found) ≡ 40

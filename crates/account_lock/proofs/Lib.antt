@@ -9,3 +9,5 @@ pub mod AnswerRoom
 pub mod Unsatisfied
 pub mod Real
 pub mod HashNumber
+pub mod Session
+pub mod SessionNumber

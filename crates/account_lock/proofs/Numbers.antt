@@ -1,5 +1,5 @@
--- The numbers that the lock gives, for every table, store and answer buffer: 0, its own 5 and 7, the original's 20 to 38, 40 and 44.
--- So it never gives 6 or 39, and 7 only where the table fails its test.
+-- The numbers that the lock gives, for every table, store and answer buffer: 0, its own 5 and 7, the original's 20 to 38, 40, 44
+-- and 49. So it never gives 6 or 39, and 7 only where the table fails its test.
 -- Assumes nothing.
 use mathlib.Core.Path.{_≡_, refl, sym, _∙_}
 use mathlib.Core.Logic.{_≢_, _⊎_, inl, inr, _↔_}
@@ -11,7 +11,7 @@ use lib.Dec.{eqb}
 use lib.ListN.{length, drop}
 use Rattle.protocol.specs.Args.{argsRows}
 use Rattle.protocol.specs.Errors.{errorNumber}
-use Rattle.protocol.specs.Rows.{Row, decide, checkNumber}
+use Rattle.protocol.specs.Rows.{Row, AllPass, decide, checkNumber}
 use Rattle.protocol.specs.declared.error.ProtocolError.{ProtocolError}
 use Rattle.protocol.specs.declared.error.ProtocolError.the-variants.{SlicesDisagree, InvalidWitness, ThresholdUnsatisfied, InvalidCapability, InvalidVerifierRef, VerifierFailure, InvalidRequest}
 use Rattle.protocol.specs.declared.check.Check.{Check}
@@ -53,123 +53,143 @@ Differs e = errorNumber e ≡ 40
 abbrev pub Limits : ProtocolError → Type 0
 Limits e = errorNumber e ≡ 44
 
--- ---- the rows before the proofs: those of the hashes give 40, those of the limit 44, each of the others a refusal of the original,
--- and none 28
+-- 02, change 10: a successor that carries a session is 49
+abbrev pub Withdraws : ProtocolError → Type 0
+Withdraws e = errorNumber e ≡ 49
+
+-- ---- the rows before the proofs: those of the hashes give 40, those of the limit 44, the successor's session 49, each of the others
+-- a refusal of the original, and none 28
 
 abbrev Plain : ProtocolError → Type 0
 Plain e = Original e × (errorNumber e ≢ 28)
 
+abbrev pub PlainOrLimits : ProtocolError → Type 0
+PlainOrLimits e = Plain e ⊎ Limits e
+
 abbrev pub Behind : ProtocolError → Type 0
-Behind e = Plain e ⊎ Limits e
+Behind e = PlainOrLimits e ⊎ Withdraws e
 
 abbrev pub Early : ProtocolError → Type 0
 Early e = Behind e ⊎ Differs e
 
-plain-behind : (rs : List Row) → Each Plain rs → Each Behind rs
-plain-behind = each-more Plain Behind (λ e h. inl h)
+plain-or : (rs : List Row) → Each Plain rs → Each PlainOrLimits rs
+plain-or = each-more Plain PlainOrLimits (λ e h. inl h)
+
+behind : (rs : List Row) → Each PlainOrLimits rs → Each Behind rs
+behind = each-more PlainOrLimits Behind (λ e h. inl h)
 
 -- none is below 20,
 pub early-high : (e : ProtocolError) → Early e → 20 ≤ errorNumber e
-early-high e (inl (inl h)) = h .0 .0
+early-high e (inl (inl (inl h))) = h .0 .0
+early-high e (inl (inl (inr h))) = omega arith
 early-high e (inl (inr h)) = omega arith
 early-high e (inr h) = omega arith
 
 -- none 28, and none behind the hashes 40
 pub early-not-28 : (e : ProtocolError) → Early e → errorNumber e ≢ 28
-early-not-28 e (inl (inl h)) = h .1
+early-not-28 e (inl (inl (inl h))) = h .1
+early-not-28 e (inl (inl (inr h))) = λ q. omega arith
 early-not-28 e (inl (inr h)) = λ q. omega arith
 early-not-28 e (inr h) = λ q. omega arith
 
 pub behind-not-40 : (e : ProtocolError) → Behind e → errorNumber e ≢ 40
-behind-not-40 e (inl h) = λ q. omega (arith, h .0 .1)
+behind-not-40 e (inl (inl h)) = λ q. omega (arith, h .0 .1)
+behind-not-40 e (inl (inr h)) = λ q. omega arith
 behind-not-40 e (inr h) = λ q. omega arith
 
 -- a state's header
-head-early : (s : List ℕ) → Each Behind (state.stateHeaderRows s)
+head-early : (s : List ℕ) → Each PlainOrLimits (state.stateHeaderRows s)
 unfolding state.stateHeaderRows
-head-early s = plain-behind (state.stateHeaderRows s) (search arith depth 20)
+head-early s = plain-or (state.stateHeaderRows s) (search arith depth 20)
 
 -- one of its entries
 original-early : (e : List ℕ) (least : ℕ) → Each Plain (state.originalEntryRows e least)
 unfolding state.originalEntryRows state.entryLayoutRows state.entryFieldRows
 original-early e least = search arith depth 20
 
-entry-early : (e : List ℕ) (least : ℕ) → Each Behind (state.entryRows e least)
+entry-early : (e : List ℕ) (least : ℕ) → Each PlainOrLimits (state.entryRows e least)
 unfolding state.entryRows
 entry-early e least =
-    each-append Behind (state.originalEntryRows e least) (state.auxLimitRow (auxLengthOf e) ∷ []) (plain-behind (state.originalEntryRows e least) (original-early e least))
+    each-append PlainOrLimits (state.originalEntryRows e least) (state.auxLimitRow (auxLengthOf e) ∷ []) (plain-or (state.originalEntryRows e least) (original-early e least))
     (inr refl, tt)
 
 -- its entries
-entries-early : (n : ℕ) (e : List ℕ) (least : ℕ) → Each Behind (state.entriesRows n e least)
+entries-early : (n : ℕ) (e : List ℕ) (least : ℕ) → Each PlainOrLimits (state.entriesRows n e least)
 unfolding state.entriesRows
 entries-early zero e least = tt
 entries-early (suc n) e least =
-    each-append Behind (state.entryRows e least) _ (entry-early e least) (entries-early n (drop (entryLengthOf e) e) (entrySlotOf e + 1))
+    each-append PlainOrLimits (state.entryRows e least) _ (entry-early e least) (entries-early n (drop (entryLengthOf e) e) (entrySlotOf e + 1))
 
 -- its recovery
-recovery-early : (flags threshold since weight : ℕ) → Each Plain (state.recoveryThresholdRows flags threshold since weight)
+threshold-early : (flags threshold since weight : ℕ) → Each Plain (state.recoveryThresholdRows flags threshold since weight)
 unfolding state.recoveryThresholdRows
-recovery-early flags threshold since weight = each-cond Plain (recoveryEnabled flags) _ _ (search arith) (search arith)
+threshold-early flags threshold since weight = each-cond Plain (recoveryEnabled flags) _ _ (search arith) (search arith)
 
 -- what follows its entries
-tail-early : (s : List ℕ) (n : ℕ) (e : List ℕ) → Each Behind (state.stateTailRows s n e)
+tail-early : (s : List ℕ) (n : ℕ) (e : List ℕ) → Each PlainOrLimits (state.stateTailRows s n e)
 unfolding state.stateTailRows state.stateEndRows state.thresholdRows
-tail-early s n e = plain-behind (state.stateTailRows s n e) (search (arith, recovery-early) depth 12)
+tail-early s n e = plain-or (state.stateTailRows s n e) (search (arith, threshold-early) depth 12)
 
 -- the whole state
-state-early : (s : List ℕ) → Each Behind (state.stateRows s)
+pub state-early : (s : List ℕ) → Each PlainOrLimits (state.stateRows s)
 unfolding state.stateRows
 state-early s =
-    each-append Behind (state.stateHeaderRows s) _ (head-early s)
-    (each-append Behind (state.entriesRows (entryCountOf s) (drop 32 s) 0) _ (entries-early _ _ 0) (tail-early s _ _))
+    each-append PlainOrLimits (state.stateHeaderRows s) _ (head-early s)
+    (each-append PlainOrLimits (state.entriesRows (entryCountOf s) (drop 32 s) 0) _ (entries-early _ _ 0) (tail-early s _ _))
 
 -- the script
-script-early : (script : List ℕ) → Each Behind (lock.scriptRows script)
+pub script-early : (script : List ℕ) → Each PlainOrLimits (lock.scriptRows script)
 unfolding lock.scriptRows molecule.scriptArgsRows tableRows molecule.bytesRows argsRows
-script-early script = plain-behind (lock.scriptRows script) (search arith depth 20)
+script-early script = plain-or (lock.scriptRows script) (search arith depth 20)
 
 -- the first witness of the group
-group-early : (s : Scene) → Each Behind (groupRows s)
+pub group-early : (s : Scene) → Each PlainOrLimits (groupRows s)
 unfolding groupRows firstWitnessRows molecule.witnessLockRows tableRows molecule.bytesRows witnessHeaderRows countRows
-group-early s = plain-behind (groupRows s) (search arith depth 30)
+group-early s = plain-or (groupRows s) (search arith depth 30)
 
 -- the other hashed witnesses
-other-early : (s : Scene) → Each Behind (otherRows s)
+pub other-early : (s : Scene) → Each PlainOrLimits (otherRows s)
 unfolding otherRows
-other-early s = plain-behind (otherRows s) (search arith)
+other-early s = plain-or (otherRows s) (search arith)
 
 -- the cells of the state
-resolve-early : (operation : ℕ) (id : List ℕ) (s : Scene) → Each Behind (resolve.resolveRows operation id s)
+pub resolve-early : (operation : ℕ) (id : List ℕ) (s : Scene) → Each PlainOrLimits (resolve.resolveRows operation id s)
 unfolding resolve.resolveRows resolve.spendRows resolve.changeRows resolve.typeRows
 resolve-early operation id s =
-    plain-behind (resolve.resolveRows operation id s)
+    plain-or (resolve.resolveRows operation id s)
     (each-cond Plain (eqb operation 1) (resolve.spendRows id s) (resolve.changeRows id s) (search arith depth 12) (search arith depth 12))
 
 -- the data of the current state and of its successor
-data-early : (current successor : List ℕ) → Each Behind (transition.dataRows current successor)
+pub data-early : (current successor : List ℕ) → Each PlainOrLimits (transition.dataRows current successor)
 unfolding transition.dataRows
-data-early current successor = plain-behind (transition.dataRows current successor) (search arith)
+data-early current successor = plain-or (transition.dataRows current successor) (search arith)
 
 -- the current state and the witness sequence
-current-early : (sequence : ℕ) (current : List ℕ) → Each Behind (transition.currentRows sequence current)
+pub current-early : (sequence : ℕ) (current : List ℕ) → Each PlainOrLimits (transition.currentRows sequence current)
 unfolding transition.currentRows
-current-early sequence current = each-append Behind (state.stateRows current) _ (state-early current) (inl (search arith), tt)
+current-early sequence current = each-append PlainOrLimits (state.stateRows current) _ (state-early current) (inl (search arith), tt)
+
+-- the recovery, which only some operations have
+pub recovery-early : (operation since : ℕ) (current : List ℕ)
+    → Each PlainOrLimits (cond (eqb operation 3) (transition.recoveryRows since current) [])
+unfolding transition.recoveryRows
+recovery-early operation since current =
+    each-cond PlainOrLimits (eqb operation 3) (transition.recoveryRows since current) [] (plain-or (transition.recoveryRows since current) (search arith)) tt
 
 -- the successor and the recovery
 change-early : (operation since : ℕ) (current successor : List ℕ) → Each Behind (transition.successionRows operation since current successor)
-unfolding transition.successionRows transition.successorRows transition.recoveryRows
+unfolding transition.successionRows transition.successorRows
 change-early operation since current successor =
     each-append Behind (transition.successorRows current successor) _
-    (each-append Behind (state.stateRows successor) _ (state-early successor) (inl (search arith), tt))
-    (each-cond Behind (eqb operation 3) (transition.recoveryRows since current) [] (plain-behind (transition.recoveryRows since current) (search arith)) tt)
+    (each-append Behind (state.stateRows successor) _ (behind (state.stateRows successor) (state-early successor)) (inr refl, (inl (inl (search arith)), tt)))
+    (behind (cond (eqb operation 3) (transition.recoveryRows since current) []) (recovery-early operation since current))
 
 -- both states
 transition-early : (operation sequence since : ℕ) (current successor : List ℕ)
     → Each Behind (transition.transitionRows operation sequence since current successor)
 unfolding transition.transitionRows
 transition-early operation sequence since current successor =
-    each-append Behind (transition.currentRows sequence current) _ (current-early sequence current)
+    each-append Behind (transition.currentRows sequence current) _ (behind (transition.currentRows sequence current) (current-early sequence current))
     (each-cond Behind (eqb operation 1) [] (transition.successionRows operation since current successor) tt (change-early operation since current successor))
 
 -- every row behind the hashes and before the proofs
@@ -179,12 +199,12 @@ behindRows s = lock.scriptRows (s .script) ++ (groupRows s ++ lock.lateRows s)
 pub behind-each : (s : Scene) → Each Behind (behindRows s)
 unfolding lock.lateRows lock.statesRows
 behind-each s =
-    each-append Behind (lock.scriptRows (s .script)) _ (script-early (s .script))
-    (each-append Behind (groupRows s) _ (group-early s)
-    (each-append Behind (resolve.resolveRows (lock.operation s) (lock.account s) s) _ (resolve-early _ _ s)
+    each-append Behind (lock.scriptRows (s .script)) _ (behind (lock.scriptRows (s .script)) (script-early (s .script)))
+    (each-append Behind (groupRows s) _ (behind (groupRows s) (group-early s))
+    (each-append Behind (resolve.resolveRows (lock.operation s) (lock.account s) s) _ (behind (resolve.resolveRows (lock.operation s) (lock.account s) s) (resolve-early _ _ s))
     (each-append Behind (lock.statesRows s) _
-    (each-append Behind (transition.dataRows (lock.current s) (lock.successor s)) _ (data-early _ _) (transition-early _ _ _ _ _))
-    (other-early s))))
+    (each-append Behind (transition.dataRows (lock.current s) (lock.successor s)) _ (behind (transition.dataRows (lock.current s) (lock.successor s)) (data-early _ _)) (transition-early _ _ _ _ _))
+    (behind (otherRows s) (other-early s)))))
 
 -- the hashes of the cells
 cells-differ : (cells : List Cell) → Each Differs (cellsHashRows cells)
@@ -238,7 +258,7 @@ end-refusal clean weight threshold =
     search depth 12
 
 -- one proof, and those behind it
-pub walk-refusal : (c : Context) → AuxWithin (c .entries) → (clean : Bool) (i weight : ℕ) (made : List ℕ) (ps : List ProofReading)
+walk-refusal : (c : Context) → AuxWithin (c .entries) → (clean : Bool) (i weight : ℕ) (made : List ℕ) (ps : List ProofReading)
     → Refuses WalkRefusal (walkFrom c clean i weight made ps .found)
 unfolding walkFrom unlessFailed
 walk-refusal c w clean i weight made [] = each-refuses WalkRefusal _ (end-refusal clean weight (c .threshold))
@@ -252,6 +272,18 @@ walk-refusal c w clean i weight made (p ∷ ps) =
     go Passed h true onward f = original-refusal VerifierFailure (search arith)
     go Passed h false onward f = f
 
+-- over a scene whose rows before them pass
+pub scene-walk : (s : Scene) (room : ℕ) → AllPass (lock.earlyRows s)
+    → Refuses WalkRefusal (walkLock (lock.contextOf s room) (lock.witnessLock s) .found)
+unfolding walkLock walkList
+scene-walk s room h = walk-refusal (lock.contextOf s room) (entries-within s room h) _ 0 0 [] _
+
+-- no number of theirs is above 38
+pub walk-low : (k : Check) → Refuses WalkRefusal k → checkNumber k ≤ 38
+walk-low Passed h = omega arith
+walk-low (Failed e) (inl h) = omega arith
+walk-low (Failed e) (inr h) = h .1
+
 -- ---- the lock
 
 -- a refusal behind the table's test
@@ -260,7 +292,7 @@ LockRefusal e = WalkRefusal e ⊎ Early e
 
 -- over a scene
 scene-refusal : (s : Scene) (room : ℕ) → Refuses LockRefusal (lock.lockScene s room .found)
-unfolding lock.lockScene lock.orWalked lock.refused lock.walkResult lock.walked walkLock walkList
+unfolding lock.lockScene lock.orWalked lock.refused lock.walkResult lock.walked
 scene-refusal s room = go (decide Passed (lock.earlyRows s)) refl (each-refuses Early _ (early-each s))
   where
     walk-lock : (k : Check) → Refuses WalkRefusal k → Refuses LockRefusal k
@@ -268,9 +300,7 @@ scene-refusal s room = go (decide Passed (lock.earlyRows s)) refl (each-refuses 
     walk-lock (Failed e) h = inl h
 
     go : (k : Check) → decide Passed (lock.earlyRows s) ≡ k → Refuses Early k → Refuses LockRefusal (lock.orWalked k (lock.walkResult s room) .found)
-    go Passed q h =
-        let w = entries-within s room (passed-all-pass (lock.earlyRows s) q) in
-        walk-lock (walkLock (lock.contextOf s room) (lock.witnessLock s) .found) (walk-refusal _ w _ 0 0 [] _)
+    go Passed q h = walk-lock (walkLock (lock.contextOf s room) (lock.witnessLock s) .found) (scene-walk s room (passed-all-pass (lock.earlyRows s) q))
     go (Failed e) q h = inr h
 
 -- the number of what it finds there
@@ -278,8 +308,9 @@ scene-number : (k : Check) → Refuses LockRefusal k → LockNumber (checkNumber
 scene-number Passed h = inl refl
 scene-number (Failed e) (inl (inl h)) = inr (inl h)
 scene-number (Failed e) (inl (inr h)) = inr (inr (inr (inl h)))
-scene-number (Failed e) (inr (inl (inl h))) = inr (inr (inr (inl (h .0))))
-scene-number (Failed e) (inr (inl (inr h))) = inr (inr (inr (inr (inr h))))
+scene-number (Failed e) (inr (inl (inl (inl h)))) = inr (inr (inr (inl (h .0))))
+scene-number (Failed e) (inr (inl (inl (inr h)))) = inr (inr (inr (inr (inr (inl h)))))
+scene-number (Failed e) (inr (inl (inr h))) = inr (inr (inr (inr (inr (inr h)))))
 scene-number (Failed e) (inr (inr h)) = inr (inr (inr (inr (inl h))))
 
 not-seven : (k : Check) → Refuses LockRefusal k → checkNumber k ≢ 7
@@ -289,7 +320,7 @@ not-seven (Failed e) (inl (inr h)) q = absurd (omega (arith, h .0))
 not-seven (Failed e) (inr h) q = absurd (omega (arith, early-high e h))
 
 module _ (table store : List ℕ) (room : ℕ) where
-  -- every number that the lock gives is 0, 5, 7, 20 to 38, 40 or 44
+  -- every number that the lock gives is 0, 5, 7, 20 to 38, 40, 44 or 49
   pub lock-numbers : LockNumber (checkNumber (lock.lockOf table store room .found))
   unfolding lock.lockOf lock.refused
   lock-numbers = go (validTable table (length store))
@@ -318,7 +349,8 @@ not-six n (inr (inl h)) q = absurd (omega arith)
 not-six n (inr (inr (inl h))) q = absurd (omega arith)
 not-six n (inr (inr (inr (inl h)))) q = absurd (omega (arith, h .0))
 not-six n (inr (inr (inr (inr (inl h))))) q = absurd (omega arith)
-not-six n (inr (inr (inr (inr (inr h))))) q = absurd (omega arith)
+not-six n (inr (inr (inr (inr (inr (inl h)))))) q = absurd (omega arith)
+not-six n (inr (inr (inr (inr (inr (inr h)))))) q = absurd (omega arith)
 
 -- the lock never gives 6
 pub lock-never-six : (table store : List ℕ) (room : ℕ) → checkNumber (lock.lockOf table store room .found) ≢ 6

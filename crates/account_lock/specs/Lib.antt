@@ -1,4 +1,5 @@
 pub mod Lock
 pub mod Decides
 pub mod Real
+pub mod Session
 pub mod Calls

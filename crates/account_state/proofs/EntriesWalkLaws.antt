@@ -2,7 +2,7 @@
 -- Assumes nothing.
 use mathlib.Core.Path.{_≡_, refl, sym, ap, _∙_}
 use mathlib.Core.Bool.{Bool, true, false, cond}
-use mathlib.Core.List.{List}
+use mathlib.Core.List.{List, _∷_}
 use Prim.Native.Nat.{ℕ, suc, _+_, _-_, _*_, _≤_, _<_}
 use native.Mathlib.Nat.{add-assoc, zero-add, add-zero}
 use native.Mathlib.Omega.{arith}
@@ -28,7 +28,12 @@ entry-room s at least h =
     let l : length (drop at s) ≡ length s - at = length-drop at s in
     omega arith
 
--- one entry, and the rest of them
+-- the entry at the front, and those behind it
+pub entries-first : (e : List ℕ) (left : ℕ) → 0 < left → entriesOf left e ≡ entryOf e ∷ entriesOf (left - 1) (drop (entryLengthOf e) e)
+unfolding entriesOf
+entries-first e left h = let l : left ≡ suc (left - 1) = omega arith in ap (λ (n : ℕ). entriesOf n e) l
+
+-- the rows of one entry, and of the rest of them
 pub rows-passed : (n : ℕ) (e : List ℕ) (least : ℕ) → decide Passed (entryRows e least) ≡ Passed
     → decide Passed (entriesRows (suc n) e least) ≡ decide Passed (entriesRows n (drop (entryLengthOf e) e) (entrySlotOf e + 1))
 unfolding entriesRows

@@ -1,9 +1,9 @@
 -- The search for a slot's entry, an entry a turn; and what an entry's numbers decide.
 -- Assumes nothing.
-use mathlib.Core.Path.{_≡_, sym, ap, _∙_}
+use mathlib.Core.Path.{_≡_, sym, _∙_}
 use mathlib.Core.Bool.{Bool, true, false, cond}
-use mathlib.Core.List.{List, _∷_}
-use Prim.Native.Nat.{ℕ, suc, _+_, _-_, _*_, _≤_, _<_}
+use mathlib.Core.List.{List}
+use Prim.Native.Nat.{ℕ, _+_, _-_, _*_, _≤_, _<_}
 use native.Mathlib.Omega.{arith}
 use lib.Dec.{eqb}
 use lib.ListN.{drop}
@@ -15,6 +15,7 @@ use Rattle.protocol.specs.declared.error.ProtocolError.the-variants.{InvalidOpe
 use Rattle.protocol.specs.declared.policy.OperationCapability.the-variants.{Capability, Refused}
 use Rattle.account_state.specs.Fields.{entryLengthOf, entrySlotOf}
 use Rattle.account_state.specs.Reading.{entryOf, entriesOf, stateEntries}
+use Rattle.account_state.proofs.EntriesWalkLaws.{entries-first}
 use Rattle.decision.specs.Proofs.{knownSlot, entryFor, noEntry}
 use Rattle.proof_walk.specs.Steps.{FoundIs}
 use Rattle.proof_walk.specs.declared.authenticator.Found.the-variants.{At, Missing}
@@ -24,11 +25,6 @@ pub record Seeking (state : List ℕ) (slot at left : ℕ) : Type 0 where
   pub small : at + 65535 * left ≤ 16711457
   pub knows : knownSlot slot (stateEntries state) ≡ knownSlot slot (entriesOf left (drop at state))
   pub finds : entryFor slot (stateEntries state) ≡ entryFor slot (entriesOf left (drop at state))
-
--- the entry at the front, and those behind it
-entries-first : (e : List ℕ) (left : ℕ) → 0 < left → entriesOf left e ≡ entryOf e ∷ entriesOf (left - 1) (drop (entryLengthOf e) e)
-unfolding entriesOf
-entries-first e left h = let l : left ≡ suc (left - 1) = omega arith in ap (λ (n : ℕ). entriesOf n e) l
 
 module _ {state : List ℕ} {slot at left : ℕ} (z : Seeking state slot at left) where
   pub seek-hit : 0 < left → entrySlotOf (drop at state) ≡ slot → FoundIs (stateEntries state) state slot (At at)

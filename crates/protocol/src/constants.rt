@@ -51,6 +51,8 @@ pub const CAP_ROTATE: u16 = 0x0002;
 
 pub const CAP_RECOVERY: u16 = 0x0004;
 
+pub const CAP_SESSION_ISSUE: u16 = 0x0008;
+
 pub const CAP_KNOWN_MASK: u16 = 0x000f;
 
 pub const STATE_FLAG_RECOVERY_ENABLED: u8 = 0x01;

@@ -32,6 +32,7 @@ pub enum ProtocolError {
     LengthOverflow,
     HashMismatch,
     AuxTooLong,
+    SessionWithdrawn,
 }
 
 // The number of a refusal.
@@ -68,5 +69,6 @@ pub fn error_number(error: ProtocolError) -> u8
         ProtocolError::LengthOverflow => 39,
         ProtocolError::HashMismatch => 40,
         ProtocolError::AuxTooLong => 44,
+        ProtocolError::SessionWithdrawn => 49,
     }
 }

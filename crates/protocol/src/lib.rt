@@ -36,6 +36,7 @@ pub use self::constants::AUTHENTICATOR_MAX_COUNT;
 pub use self::constants::CAP_KNOWN_MASK;
 pub use self::constants::CAP_RECOVERY;
 pub use self::constants::CAP_ROTATE;
+pub use self::constants::CAP_SESSION_ISSUE;
 pub use self::constants::CAP_SPEND;
 pub use self::constants::OP_RECOVERY;
 pub use self::constants::OP_ROTATE;

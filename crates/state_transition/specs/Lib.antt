@@ -1,3 +1,4 @@
 pub mod Resolve
+pub mod Session
 pub mod Transition
 pub mod Branches

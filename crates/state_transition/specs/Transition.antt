@@ -6,9 +6,11 @@ use mathlib.Core.List.{List, [], _∷_, _++_}
 use lib.ListN.{length}
 use lib.Dec.{eqb, leb}
 use Rattle.protocol.specs.Rows.{Row, row}
-use Rattle.protocol.specs.declared.error.ProtocolError.the-variants.{InvalidState, InvalidSequence, InvalidCapability, RecoveryLocked}
+use Rattle.protocol.specs.declared.error.ProtocolError.the-variants.{InvalidState, InvalidSequence, InvalidCapability, RecoveryLocked, SessionWithdrawn}
 use Rattle.account_state.specs.Fields.{flagsOf, recoveryEnabled, sequenceOf, recoverySinceOf}
+use Rattle.account_state.specs.Reading.{stateReading}
 use Rattle.account_state.specs.State.{stateRows}
+use Rattle.state_transition.specs.Session.{sessionFree}
 
 -- "data above 16,384", 21, of the current state and of its successor
 unfoldable pub dataRows : List ℕ → List ℕ → List Row
@@ -19,10 +21,14 @@ dataRows current successor =
 unfoldable pub currentRows : ℕ → List ℕ → List Row
 currentRows sequence current = stateRows current ++ (row (eqb sequence (sequenceOf current)) InvalidSequence ∷ [])
 
--- "successor state, its sequence not one more", as above; 27
+-- "successor state, its sequence not one more", as above; 27. 02, change 10: "49, after the successor's own checks and before its
+-- sequence"
 unfoldable pub successorRows : List ℕ → List ℕ → List Row
 successorRows current successor =
-    stateRows successor ++ (row (eqb (sequenceOf successor) (sequenceOf current + 1)) InvalidSequence ∷ [])
+    stateRows successor
+    ++ (row (sessionFree (stateReading successor)) SessionWithdrawn
+    ∷ row (eqb (sequenceOf successor) (sequenceOf current + 1)) InvalidSequence
+    ∷ [])
 
 -- "recovery off; since too low", 29; 34; flag 1 of the state, and "recovery_since and the input's since are compared as plain u64"
 unfoldable pub recoveryRows : ℕ → List ℕ → List Row

@@ -1,4 +1,5 @@
 // The current state against the witness, its successor and the recovery's lock.
+use crate::session::session_free;
 use account_state::check_state;
 use account_state::flags_of;
 use account_state::recovery_enabled;
@@ -52,10 +53,11 @@ fn check_current(sequence: u64, current: &[u8]) -> Check
 fn check_successor(current: &[u8], successor: &[u8]) -> Check
     ensures { λ r. ⌜ r ≡ decide Check.Passed (successorRows (now (current .entry)) (now (successor .entry))) ⌝ }
 {
-    check_state(successor).require(
-        is_next(sequence_of(successor), sequence_of(current)),
-        ProtocolError::InvalidSequence,
-    )
+    let free = session_free(successor);
+    let next = is_next(sequence_of(successor), sequence_of(current));
+    check_state(successor)
+        .require(free, ProtocolError::SessionWithdrawn)
+        .require(next, ProtocolError::InvalidSequence)
 }
 
 fn check_recovery(since: u64, current: &[u8]) -> Check

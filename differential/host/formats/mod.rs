@@ -6,6 +6,7 @@ mod held;
 mod long_aux;
 mod proof;
 mod request;
+mod session;
 mod state;
 mod state_faults;
 mod state_walk;

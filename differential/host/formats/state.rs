@@ -1,7 +1,7 @@
 //! The account state: its readers and its writer.
 
 use super::calls::{numbered, Calls, Words, DISAGREE};
-use super::{long_aux, state_walk, states};
+use super::{long_aux, session, state_walk, states};
 use crate::aux_limit::{state_number, too_long, within, AUX_TOO_LONG};
 use crate::changes;
 use crate::exports::{self, LentState};
@@ -103,7 +103,7 @@ pub fn written(state: &AccountState) -> Result<Vec<u8>, u32> {
     Ok(bytes)
 }
 
-fn write(calls: &mut Calls, state: &AccountState) {
+pub fn write(calls: &mut Calls, state: &AccountState) {
     let (fields, bytes) = slices(state);
     write_slices(calls, state, &fields, &bytes, &written(state));
 }
@@ -222,4 +222,5 @@ pub fn run(calls: &mut Calls) {
     other_keys(calls);
     random_bytes(calls);
     long_aux::run(calls);
+    session::run(calls);
 }

@@ -10,18 +10,19 @@ mod runs;
 pub mod sample_files;
 mod tables;
 
-pub use faults::about_limit;
+pub use faults::{about_limit, about_session};
 
 use crate::cell_hashes::Difference;
 use crate::prng::Prng;
 use crate::report::Report;
+use crate::session;
 use faults::{any_hash, build, damage, rows, Fault, Row};
 use plan::Plan;
 use runs::Runs;
 use std::collections::BTreeMap;
 
 /// Scenes with random faults in one run, and in a long one.
-const RANDOM: usize = 140_000;
+const RANDOM: usize = 190_000;
 const LONG: usize = 30 * RANDOM;
 /// How often each row is met, for each operation: short scenes and long ones.
 const TURNS: usize = 20;
@@ -29,8 +30,8 @@ const LONG_TURNS: usize = 7;
 /// How often each number is met at least.
 const LEAST: usize = 20;
 /// The numbers that the lock can give.
-const NUMBERS: [u32; 22] = [
-    0, 5, 7, 20, 21, 22, 23, 24, 25, 26, 27, 28, 29, 30, 31, 32, 33, 34, 35, 38, 40, 44,
+const NUMBERS: [u32; 23] = [
+    0, 5, 7, 20, 21, 22, 23, 24, 25, 26, 27, 28, 29, 30, 31, 32, 33, 34, 35, 38, 40, 44, 49,
 ];
 
 /// Each row of the documents' table, on plans that are accepted without it.
@@ -143,4 +144,6 @@ pub fn run(report: &mut Report, long: bool) {
     report.expect_each("lock", &NUMBERS, LEAST);
     let differences: Vec<&str> = Difference::all().map(Difference::name).collect();
     report.expect_met(&differences, LEAST);
+    report.expect_met(&session::OPERATIONS, LEAST);
+    report.expect_met(&session::KINDS, LEAST);
 }

@@ -3,6 +3,7 @@
 use crate::formats::states;
 use crate::formats::witnesses::Witness;
 use crate::prng::Prng;
+use crate::session::{CAPABILITY, FLAG};
 use blake2b::ckb_hash;
 use ckb_account_host::{AccountState, Proof};
 
@@ -36,6 +37,34 @@ fn state(prng: &mut Prng, operation: u8, entries: usize) -> AccountState {
         if operation != 3 || state.flags & 1 == 1 {
             return state;
         }
+    }
+}
+
+/// Takes from a state what a successor may not carry.
+pub fn clear_session(state: &mut AccountState) {
+    state.flags &= !FLAG;
+    for auth in &mut state.authenticators {
+        auth.capabilities &= !CAPABILITY;
+    }
+}
+
+/// A valid state of so many entries with this sequence, which a rotation or a recovery may leave.
+pub fn successor(prng: &mut Prng, entries: usize, sequence: u64) -> AccountState {
+    let mut state = states::valid(prng, entries);
+    clear_session(&mut state);
+    state.sequence = sequence;
+    state
+}
+
+/// Gives a state the flag, the capability in any entry, or both.
+fn give_session(state: &mut AccountState, prng: &mut Prng) {
+    let kind = prng.up_to(2);
+    if kind > 0 {
+        state.flags |= FLAG;
+    }
+    if kind < 2 {
+        let place = prng.up_to(state.authenticators.len() - 1);
+        state.authenticators[place].capabilities |= CAPABILITY;
     }
 }
 
@@ -85,8 +114,7 @@ impl Plan {
             }
         }
         let count = 1 + prng.up_to(1);
-        let mut successor = states::valid(prng, count);
-        successor.sequence = state.sequence.wrapping_add(1);
+        let successor = successor(prng, count, state.sequence.wrapping_add(1));
         let later = [0, 1, prng.next()][prng.up_to(2)];
         let length = prng.up_to(12);
         Plan {
@@ -151,11 +179,14 @@ impl Plan {
         plan
     }
 
-    /// Some proofs are left out, and verdicts are of every kind.
+    /// Some proofs are left out, verdicts are of every kind, and some successors carry a session.
     pub fn random(prng: &mut Prng) -> Self {
         let operation = 1 + prng.up_to(2) as u8;
         let count = entries(prng);
         let mut plan = Plan::valid(prng, operation, count);
+        if prng.up_to(14) == 0 {
+            give_session(&mut plan.successor, prng);
+        }
         if prng.up_to(2) == 0 {
             plan.lock.proofs.retain(|_| prng.up_to(3) > 0);
         }

@@ -12,6 +12,7 @@ use crate::report::Report;
 use crate::scene::ENTRIES;
 use crate::scene_exports;
 use crate::scene_text::text;
+use crate::session::{self, SESSION_WITHDRAWN};
 use crate::table;
 use ckb_account_protocol::validate_state;
 use ckb_std::{Cell, Scene};
@@ -72,13 +73,19 @@ impl Runs<'_> {
         self.report.compare(name, 0, input, &result, &expected);
     }
 
-    /// What the lock has to answer. A hash that differs is counted by its place.
+    /// What the lock has to answer. A hash that differs is counted by its place, a session by who left it and how.
     fn measure(&mut self, scene: &Scene) -> Outcome {
         self.check_model(scene);
         if let Some(difference) = first_difference(scene) {
             self.report.meet(difference.name());
         }
-        measure::lock(scene)
+        let outcome = measure::lock(scene);
+        if outcome.number == SESSION_WITHDRAWN {
+            for kind in session::met(scene) {
+                self.report.meet(kind);
+            }
+        }
+        outcome
     }
 
     /// A scene of which the documents say the number, and maybe how many requests were made and whether there is a digest.

@@ -19,7 +19,7 @@ const LONG_PROOF: usize = 31_000;
 
 /// Names, operations and rows.
 const ACCEPTED: [(&str, u8); 3] = [("spend_two_proofs", 1), ("rotation", 2), ("recovery", 3)];
-const REFUSED: [(&str, u8, &str); 18] = [
+const REFUSED: [(&str, u8, &str); 19] = [
     ("20_invalid_args", 1, "args of 32 bytes"),
     ("21_invalid_state", 1, "state has weight 0"),
     ("22_invalid_witness", 1, "second proof's zeros"),
@@ -42,6 +42,11 @@ const REFUSED: [(&str, u8, &str); 18] = [
     ),
     ("40_hash_mismatch", 1, "state's type script edited"),
     ("44_aux_too_long", 1, "aux 2,594"),
+    (
+        "49_session_withdrawn",
+        2,
+        "successor has capabilities 0x000f in its last entry of 2",
+    ),
 ];
 
 /// Makes the text just as long as the program reads, by the data of a dep that plays no part. A spend does not test the

@@ -1,13 +1,11 @@
 //! The limit of an aux in a state: alone, and beside other faults of the same state.
 
-use super::parts::{put_u16, u16_at};
-use super::states::{
-    move_border, of_both, same_slot, set_aux, Change, BEHIND, ENTRIES, FIRST, HEADER, SHORT,
-};
+use super::order::beside;
+use super::parts::u16_at;
+use super::states::{last, of_both, set_aux, Change, BEHIND, ENTRIES, FIRST, HEADER, LATER, SHORT};
 use super::{on_plan, Fault, Part, Row, ALL};
 use crate::aux_limit::{AUX_TOO_LONG, MAX_AUX};
-use crate::formats::states as plain;
-use crate::locks::plan::Plan;
+use crate::locks::plan::{successor, Plan};
 use crate::prng::Prng;
 
 /// The lock's number for an aux above the limit.
@@ -21,15 +19,9 @@ pub fn first_aux<const LENGTH: usize>(state: &mut Vec<u8>, prng: &mut Prng) {
 }
 
 /// A last one.
-fn last_aux<const LENGTH: usize>(state: &mut Vec<u8>, prng: &mut Prng) {
+pub fn last_aux<const LENGTH: usize>(state: &mut Vec<u8>, prng: &mut Prng) {
     let at = last(state);
     set_aux(state, at, prng.bytes(LENGTH));
-}
-
-/// Where the last entry stands.
-fn last(state: &[u8]) -> usize {
-    let count = state.get(22).copied().unwrap_or(0);
-    (1..count).fold(FIRST, |at, _| at + u16_at(state, at))
 }
 
 /// The first aux so long that the state has this length.
@@ -95,56 +87,9 @@ fn alone_rows() -> Vec<Row> {
     rows
 }
 
-/// Another u16 in the last entry.
-fn set_last(state: &mut [u8], offset: usize, value: usize) {
-    let at = last(state);
-    put_u16(state, at + offset, value);
-}
-
-/// Faults of the last entry.
-const LATER: [Change; 9] = [
-    (TOO_LONG, "has a later weight 0", |state, _| {
-        set_last(state, 8, 0)
-    }),
-    (TOO_LONG, "has a later capability 0x0010", |state, _| {
-        set_last(state, 6, 0x17)
-    }),
-    (TOO_LONG, "has a later hash type 2", |state, _| {
-        set_last(state, 10, 0x0102)
-    }),
-    (TOO_LONG, "has a later ABI 2", |state, _| {
-        set_last(state, 10, 0x0200)
-    }),
-    (TOO_LONG, "has a later algorithm 0", |state, _| {
-        set_last(state, 4, 0)
-    }),
-    (TOO_LONG, "has a later entry length 80", |state, _| {
-        set_last(state, 0, 80)
-    }),
-    (TOO_LONG, "has a later key of 31", |state, _| {
-        let at = last(state);
-        move_border(state, at, 31);
-    }),
-    (TOO_LONG, "has a later aux that is empty", |state, _| {
-        let at = last(state);
-        set_aux(state, at, vec![]);
-    }),
-    (TOO_LONG, "has a slot twice", |state, _| same_slot(state)),
-];
-
 /// A successor of two entries, so that one of them is later.
-fn two_entries(plan: &mut Plan, prng: &mut Prng) {
-    let sequence = plan.successor.sequence;
-    plan.successor = plain::valid(prng, 2);
-    plan.successor.sequence = sequence;
-}
-
-/// The row with the aux of an entry above the limit, made before its own faults of the state's bytes.
-pub fn beside(mut row: Row, long: &str, fault: Fault, number: i8) -> Row {
-    row.name = format!("{}, and {long}", row.name);
-    row.number = number;
-    row.faults.insert(0, fault);
-    row.long()
+pub fn two_entries(plan: &mut Plan, prng: &mut Prng) {
+    plan.successor = successor(prng, 2, plan.successor.sequence);
 }
 
 /// The part of the scene that a row of a state changes.
@@ -159,11 +104,11 @@ fn part(row: &Row) -> Part {
 fn same_state_rows() -> Vec<Row> {
     let first = |row: Row, number| {
         let fault = Fault::Bytes(part(&row), first_aux::<2_594>);
-        beside(row, "a first aux of 2,594", fault, number)
+        beside(row, "a first aux of 2,594", fault, number).long()
     };
     let last = |row: Row| {
         let (number, fault) = (row.number, Fault::Bytes(part(&row), last_aux::<2_594>));
-        beside(row, "a last aux of 2,594", fault, number)
+        beside(row, "a last aux of 2,594", fault, number).long()
     };
     let mut rows = Vec::new();
     for row in HEADER

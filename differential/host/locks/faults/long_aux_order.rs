@@ -1,37 +1,17 @@
 //! The limit of an aux in a state beside the faults of other rows, before the states and behind them; in both states; and in
 //! cells that the lock does not read.
 
-use super::long_aux::{beside, fill, first_aux, LONGEST, TOO_LONG};
+use super::long_aux::{fill, first_aux, LONGEST, TOO_LONG};
+use super::order::{beside, changing, earlier, later};
 use super::parts::put_u16;
 use super::states::FIRST;
-use super::{
-    cells, hashes, on_scene, proofs, requests, row, script, transition, witness, Fault, OnCell,
-    Part, Row, ALL, CHANGING, SPEND,
-};
+use super::{on_scene, row, transition, Fault, OnCell, Part, Row, ALL, CHANGING, SPEND};
 use crate::cell_hashes::Place;
 use crate::formats::states as plain;
 use crate::locks::assembly::plain_cell;
 use crate::prng::Prng;
 use crate::true_hashes;
 use ckb_std::Cell;
-
-/// Before the current state.
-fn earlier() -> Vec<Row> {
-    let mut rows = hashes::rows();
-    rows.extend(script::rows());
-    rows.extend(witness::first_rows());
-    rows.extend(cells::search_rows());
-    rows
-}
-
-/// Behind the successor.
-fn later() -> Vec<Row> {
-    let mut rows = transition::later_rows();
-    rows.extend(witness::hashed_rows());
-    rows.extend(proofs::rows());
-    rows.extend(requests::rows());
-    rows
-}
 
 /// A row before the limit keeps its number, unless it passes.
 fn kept(row: &Row) -> i8 {
@@ -46,16 +26,6 @@ fn not_met(_: &Row) -> i8 {
     TOO_LONG
 }
 
-/// The row with those of its operations that have a successor.
-fn changing(mut row: Row) -> Option<Row> {
-    row.operations = match row.operations {
-        [1] => return None,
-        [1, ..] => CHANGING,
-        operations => operations,
-    };
-    Some(row)
-}
-
 /// Whether a row has a fault of a state's bytes.
 fn of_states(row: &Row) -> bool {
     let of_state = |fault: &Fault| matches!(fault, Fault::Bytes(Part::State | Part::Successor, _));
@@ -67,7 +37,7 @@ fn beside_each(rows: Vec<Row>, part: Part, number: fn(&Row) -> i8) -> Vec<Row> {
     let fault = Fault::Bytes(part, first_aux::<2_594>);
     let long = |row: Row, name| {
         let number = number(&row);
-        beside(row, name, fault, number)
+        beside(row, name, fault, number).long()
     };
     let rows = rows.into_iter().filter(|row| !of_states(row));
     rows.filter_map(|row| match part {

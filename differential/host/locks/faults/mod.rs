@@ -1,16 +1,20 @@
-//! Faults, and what document 01 says of each, row by row of its table "Where each refusal is raised", with the row that
-//! change 1 of document 02 puts into it and the limit that change 6 puts into a state's checks. A row with number 0 is a limit
-//! that still passes.
+//! Faults, and what document 01 says of each, row by row of its table "Where each refusal is raised", with the rows that
+//! changes 1 and 10 of document 02 put into it and the limit that change 6 puts into a state's checks. A row with number 0 is a
+//! limit that still passes.
 
 mod cells;
 mod hash_changes;
 mod hashes;
 mod long_aux;
 mod long_aux_order;
+mod order;
 mod parts;
 mod proofs;
 mod requests;
 mod script;
+mod session;
+mod session_order;
+mod session_own;
 mod states;
 mod transition;
 mod witness;
@@ -24,6 +28,7 @@ use ckb_std::{Cell, Scene};
 pub use hashes::any as any_hash;
 pub use long_aux::about_limit;
 pub use parts::damage;
+pub use session::about_session;
 
 /// A part of the scene that has bytes of its own.
 #[derive(Clone, Copy)]
@@ -134,10 +139,13 @@ pub fn rows() -> Vec<Row> {
     rows.extend(witness::rows());
     rows.extend(cells::rows());
     rows.extend(states::rows());
+    rows.extend(session::rows());
     rows.extend(transition::rows());
     rows.extend(hashes::rows());
     rows.extend(long_aux::rows());
     rows.extend(long_aux_order::rows());
+    rows.extend(session_own::rows());
+    rows.extend(session_order::rows());
     // These come before the digest.
     for row in rows.iter_mut().filter(|row| row.number != 0) {
         row.made = Some(Made::Nothing);

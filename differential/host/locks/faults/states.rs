@@ -6,9 +6,15 @@ use super::{row, Fault, OnBytes, Part, Row, ALL, CHANGING};
 /// Where the first entry stands.
 pub const FIRST: usize = 32;
 
-/// Where the second entry stands, if there is one.
-fn second(state: &[u8]) -> usize {
-    FIRST + u16_at(state, FIRST)
+/// Where the entry of this place stands, if there is one.
+pub fn entry(state: &[u8], place: usize) -> usize {
+    (0..place).fold(FIRST, |at, _| at + u16_at(state, at))
+}
+
+/// Where the last entry stands.
+pub fn last(state: &[u8]) -> usize {
+    let count = state.get(22).copied().unwrap_or(0);
+    entry(state, usize::from(count).saturating_sub(1))
 }
 
 /// Gives the entry that stands here another aux, the lengths staying right.
@@ -28,9 +34,9 @@ pub fn move_border(state: &mut [u8], at: usize, key_len: usize) {
     put_u16(state, at + 46, both.saturating_sub(key_len));
 }
 
-/// Sets flag 1 or clears it, with these numbers for recovery.
-fn recovery(state: &mut [u8], flag: u8, threshold: usize, since: u8) {
-    set(state, 5, flag);
+/// Sets the flags, with these numbers for recovery.
+pub fn recovery(state: &mut [u8], flags: u8, threshold: usize, since: u8) {
+    set(state, 5, flags);
     put_u16(state, 20, threshold);
     for at in 24..32 {
         set(state, at, 0);
@@ -122,6 +128,41 @@ pub const ENTRIES: [Change; 17] = [
 /// Of its last entry.
 pub const SHORT: Change = (21, "is one byte short", |state, _| shorten(state));
 
+/// Another u16 in the last entry.
+fn set_last(state: &mut [u8], offset: usize, value: usize) {
+    let at = last(state);
+    put_u16(state, at + offset, value);
+}
+
+/// Of its last entry, which stands behind another one.
+pub const LATER: [Change; 9] = [
+    (21, "has a later weight 0", |state, _| set_last(state, 8, 0)),
+    (21, "has a later capability 0x0010", |state, _| {
+        set_last(state, 6, 0x17)
+    }),
+    (30, "has a later hash type 2", |state, _| {
+        set_last(state, 10, 0x0102)
+    }),
+    (30, "has a later ABI 2", |state, _| {
+        set_last(state, 10, 0x0200)
+    }),
+    (33, "has a later algorithm 0", |state, _| {
+        set_last(state, 4, 0)
+    }),
+    (21, "has a later entry length 80", |state, _| {
+        set_last(state, 0, 80)
+    }),
+    (21, "has a later key of 31", |state, _| {
+        let at = last(state);
+        move_border(state, at, 31);
+    }),
+    (21, "has a later aux that is empty", |state, _| {
+        let at = last(state);
+        set_aux(state, at, vec![]);
+    }),
+    (21, "has a slot twice", |state, _| same_slot(state)),
+];
+
 /// Behind its last entry.
 pub const BEHIND: [Change; 11] = [
     (21, "has an entry less than it counts", |state, _| {
@@ -166,7 +207,7 @@ pub const BEHIND: [Change; 11] = [
 
 /// One entry of weight 1, which does not reach the threshold there.
 fn light(state: &mut Vec<u8>, at: usize) {
-    state.truncate(second(state));
+    state.truncate(entry(state, 1));
     set(state, 22, 1);
     put_u16(state, FIRST + 6, 7);
     put_u16(state, FIRST + 8, 1);
@@ -187,7 +228,7 @@ pub fn of_both((number, name, change): Change) -> [Row; 2] {
 
 /// The slot of the first entry in the second too.
 pub fn same_slot(state: &mut [u8]) {
-    let (slot, next) = (u16_at(state, FIRST + 2), second(state));
+    let (slot, next) = (u16_at(state, FIRST + 2), entry(state, 1));
     put_u16(state, next + 2, slot);
 }
 
