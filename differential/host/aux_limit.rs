@@ -21,7 +21,7 @@ fn check(passed: bool, number: u32) -> Check {
     passed.then_some(()).ok_or(number)
 }
 
-fn u16_at(bytes: &[u8], at: usize) -> usize {
+pub fn u16_at(bytes: &[u8], at: usize) -> usize {
     usize::from(u16::from_le_bytes([bytes[at], bytes[at + 1]]))
 }
 

@@ -1,7 +1,7 @@
 //! The session that change 10 of document 02 withdraws. "A successor may not carry either": flag 2, or capability 0x0008 in an
 //! entry.
 
-use crate::aux_limit::{state_number, MAX_AUX};
+use crate::aux_limit::{state_number, u16_at, MAX_AUX};
 use ckb_std::{Cell, Scene};
 
 /// The number of a successor that carries one.
@@ -11,18 +11,14 @@ pub const FLAG: u8 = 2;
 /// The bit of an entry's capabilities.
 pub const CAPABILITY: u16 = 0x0008;
 
-fn u16_at(bytes: &[u8], at: usize) -> u16 {
-    u16::from_le_bytes([bytes[at], bytes[at + 1]])
-}
-
 /// The places of the entries with the capability, in a state that passes its checks.
 fn holders(state: &[u8]) -> Vec<u8> {
     let (mut at, mut places) = (32, Vec::new());
     for place in 0..state[22] {
-        if u16_at(state, at + 6) & CAPABILITY != 0 {
+        if u16_at(state, at + 6) & usize::from(CAPABILITY) != 0 {
             places.push(place);
         }
-        at += usize::from(u16_at(state, at));
+        at += u16_at(state, at);
     }
     places
 }
