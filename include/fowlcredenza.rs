@@ -33,6 +33,7 @@ pub mod number {
     pub const UNSATISFIABLE_THRESHOLD: u32 = 38;
     pub const LENGTH_OVERFLOW: u32 = 39;
     pub const HASH_MISMATCH: u32 = 40;
+    pub const INVALID_SINCE: u32 = 42;
     pub const AUX_TOO_LONG: u32 = 44;
     pub const SESSION_WITHDRAWN: u32 = 49;
 }

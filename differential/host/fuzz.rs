@@ -5,7 +5,7 @@ use crate::changes;
 use crate::lent::Lent;
 use crate::locks::answer::{Answer, ENOUGH};
 use crate::locks::record::{records, Record};
-use crate::locks::{about_limit, about_session};
+use crate::locks::{about_limit, about_session, any_waits};
 use crate::prng::Prng;
 use crate::report::Report;
 use crate::scene::{self, ENTRIES};
@@ -13,7 +13,7 @@ use crate::scene_text;
 use crate::scenes::damage;
 use crate::scenes::readings::{read, Reading};
 use crate::{measure, scene_exports, true_hashes};
-use ckb_std::{Cell, Scene};
+use ckb_std::{Cell, Input, Scene};
 use std::time::{Duration, Instant, SystemTime, UNIX_EPOCH};
 use std::{fs, io, panic};
 
@@ -159,6 +159,20 @@ fn change_state(prng: &mut Prng, text: &mut Vec<u8>) {
     });
 }
 
+/// Any waits: in the data of an input, if that is a state, and in the input's since.
+fn change_waits(prng: &mut Prng, text: &mut Vec<u8>) {
+    change_scene(text, |scene| {
+        let typed = |input: &&mut Input| input.cell.type_script.is_some();
+        for input in scene.inputs.iter_mut().filter(typed) {
+            let waits = any_waits(prng);
+            if let Some(recovery_since) = input.cell.data.get_mut(24..32) {
+                recovery_since.copy_from_slice(&waits[0].to_le_bytes());
+            }
+            input.since = waits[1];
+        }
+    });
+}
+
 fn kind(line: &[u8]) -> &[u8] {
     let end = line.iter().position(|byte| *byte == b',');
     &line[..end.unwrap_or(0)]
@@ -209,6 +223,7 @@ impl<'a> Fuzz<'a> {
                 0 => damage::change(&mut text, &mut self.prng),
                 1 => take_line(&mut self.prng, &mut text, &self.recorded[other].text),
                 2 => change_state(&mut self.prng, &mut text),
+                3 => change_waits(&mut self.prng, &mut text),
                 _ => change_bytes(&mut self.prng, &mut text),
             }
         }

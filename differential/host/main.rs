@@ -1,10 +1,13 @@
 //! Runs the port beside the original and compares. A comparison is a module with a function `run`. The lock is measured by
-//! document 02's test of hashes first, states by its limit of an aux, and successors by its row of sessions.
+//! document 02's test of hashes first, states by its limit of an aux, successors by its row of sessions, and waiting periods by
+//! its rows of them where these answer otherwise than the original.
 //! `originals` is set where the original files are at hand; what needs none runs without them too.
 //! Without arguments all is compared; `--long` takes many more random scenes of the lock. `--record FILE` writes scenes
 //! with their answers into a file, and `--samples FOLDER` sample scenes into a folder. `--fuzz`, with limits
 //! behind it, compares recorded scenes that are changed at random, and nothing else.
 
+#[cfg(originals)]
+mod account;
 #[cfg(originals)]
 mod aux_limit;
 #[cfg(originals)]
@@ -46,6 +49,8 @@ mod scene_text;
 mod scenes;
 #[cfg(originals)]
 mod session;
+#[cfg(originals)]
+mod since;
 #[cfg(originals)]
 mod smoke;
 mod table;

@@ -1,11 +1,14 @@
 //! What the port's lock is compared with: document 02's test of hashes, then its limit of an aux where the lock comes to a
-//! state above it, then its row of sessions where the lock comes to a successor that carries one, and else the original.
+//! state above it, then its row of sessions where the lock comes to a successor that carries one, then its rows of waiting
+//! periods where they answer otherwise than the original does, and else the original.
 
+use crate::account::owns;
 use crate::aux_limit::{self, AUX_TOO_LONG, MAX_AUX, UNSUPPORTED_ALGORITHM};
 use crate::cell_hashes::first_difference;
 use crate::original::{self, Outcome};
 use crate::samples;
 use crate::session::{self, SESSION_WITHDRAWN};
+use crate::since::{self, RECOVERY_LOCKED};
 use crate::true_hashes::cells_mut;
 use ckb_std::{Cell, Scene};
 
@@ -63,8 +66,68 @@ fn meets_session(scene: &Scene) -> bool {
     there && comes_to(scene, |scene| mark(&mut scene.outputs, asked))
 }
 
+/// The two numbers of a recovery's waiting period, where the lock compares them.
+#[derive(Clone, Copy)]
+pub struct Waits {
+    /// The place of the input that holds the account's state.
+    pub place: usize,
+    /// What that state has, not 0.
+    pub recovery_since: u64,
+    /// What that input has.
+    pub since: u64,
+}
+
+/// Bytes 24 to 31 of a state.
+fn recovery_since(state: &[u8]) -> u64 {
+    let bytes = state.get(24..32).map(|bytes| bytes.try_into().unwrap());
+    bytes.map_or(0, u64::from_le_bytes)
+}
+
+/// The original over the scene with one since for every input.
+fn with_since(scene: &Scene, since: u64) -> Outcome {
+    let mut scene = scene.clone();
+    for input in &mut scene.inputs {
+        input.since = since;
+    }
+    original::lock(&scene)
+}
+
+/// The waits, where the lock comes to them. The original gives 34 where the since of the state's input is below recovery_since
+/// and nowhere else: so with every since at 0 it gives 34 just where the lock comes to this row and recovery_since is not 0.
+/// There one input has the account's id.
+fn waits(scene: &Scene) -> Option<Waits> {
+    let mut inputs = scene.inputs.iter();
+    let there = inputs.any(|input| recovery_since(&input.cell.data) != 0);
+    if !there || with_since(scene, 0).number != RECOVERY_LOCKED {
+        return None;
+    }
+    let mut inputs = scene.inputs.iter();
+    let place = inputs.position(|input| owns(scene, &input.cell));
+    let place = place.expect("an input that holds the state");
+    let input = &scene.inputs[place];
+    Some(Waits {
+        place,
+        recovery_since: recovery_since(&input.cell.data),
+        since: input.since,
+    })
+}
+
+/// The answer where the lock comes to these waits. Where they answer as the original's plain comparison does, it is the
+/// original's; where they pass and the comparison does not, the original's with a since that is below no other.
+fn waited(scene: &Scene, waits: Waits) -> Outcome {
+    let outcome = original::lock(scene);
+    let found = since::test(waits.recovery_since, waits.since);
+    let (passes, plain) = (found.number == 0, outcome.number != RECOVERY_LOCKED);
+    match (passes, plain) {
+        (true, true) => outcome,
+        (true, false) => with_since(scene, u64::MAX),
+        (false, false) if found.number == RECOVERY_LOCKED => outcome,
+        (false, _) => refused(found.number),
+    }
+}
+
 /// A refusal before the first request and the digest.
-fn refused(number: i8) -> Outcome {
+pub fn refused(number: i8) -> Outcome {
     Outcome {
         number,
         requests: vec![],
@@ -72,15 +135,29 @@ fn refused(number: i8) -> Outcome {
     }
 }
 
-pub fn lock(scene: &Scene) -> Outcome {
+/// The number of a row before the waits that the original does not have.
+fn before_waits(scene: &Scene) -> Option<i8> {
     if first_difference(scene).is_some() {
-        return refused(HASH_MISMATCH);
+        return Some(HASH_MISMATCH);
     }
     if meets_long_aux(scene) {
-        return refused(AUX_TOO_LONG as i8);
+        return Some(AUX_TOO_LONG as i8);
     }
-    if meets_session(scene) {
-        return refused(SESSION_WITHDRAWN);
+    meets_session(scene).then_some(SESSION_WITHDRAWN)
+}
+
+/// What the lock has to answer, and the waits that it comes to.
+pub fn lock_and_waits(scene: &Scene) -> (Outcome, Option<Waits>) {
+    if let Some(number) = before_waits(scene) {
+        return (refused(number), None);
     }
-    original::lock(scene)
+    match waits(scene) {
+        Some(waits) => (waited(scene, waits), Some(waits)),
+        None => (original::lock(scene), None),
+    }
+}
+
+pub fn lock(scene: &Scene) -> Outcome {
+    let (outcome, _) = lock_and_waits(scene);
+    outcome
 }

@@ -128,23 +128,24 @@ pub fn recovery(since: u64) -> Scene {
     }
 }
 
-/// A state of 113 bytes, the fewest: no recovery, and one authenticator with an aux of one byte, whose verifier is the cell
-/// with the account's id as its type hash.
-fn smallest_state() -> Vec<u8> {
+/// A state of 113 bytes, the fewest, with this recovery_since or without recovery: one authenticator with an aux of one byte,
+/// whose verifier is the cell with the account's id as its type hash.
+fn smallest_state(sequence: u64, recovery_since: Option<u64>) -> Vec<u8> {
+    let recovery = u8::from(recovery_since.is_some());
     let only = Authenticator {
-        capabilities: CAP_SPEND | CAP_ROTATE,
+        capabilities: CAP_SPEND | CAP_ROTATE | CAP_RECOVERY * u16::from(recovery),
         verifier_hash_type: 1,
         verifier_code_hash: ckb_hash(SMALLEST_TYPE_SCRIPT),
         aux: vec![PROFILE_V1],
         ..authenticator()
     };
     let state = AccountState {
-        flags: 0,
-        sequence: SEQUENCE,
+        flags: STATE_FLAG_RECOVERY_ENABLED * recovery,
+        sequence,
         spend_threshold: 1,
         rotate_threshold: 1,
-        recovery_threshold: 0,
-        recovery_since: 0,
+        recovery_threshold: u16::from(recovery),
+        recovery_since: recovery_since.unwrap_or(0),
         authenticators: vec![only],
     };
     encode_state(&state).expect("a valid state")
@@ -153,19 +154,40 @@ fn smallest_state() -> Vec<u8> {
 /// The smallest accepted spend: every field is as short as the reader and the lock allow, and the state's own dep is its
 /// verifier. Fields of the tables that the lock does not open are empty.
 pub fn smallest_spend() -> Scene {
-    let proof = Proof {
-        slot: authenticator().slot,
-        bytes: vec![0xaa],
-    };
-    let lock = encode_witness(OP_SPEND, SEQUENCE, &[proof]).expect("a valid witness lock");
     let args = account_lock_args(&ckb_hash(SMALLEST_TYPE_SCRIPT));
-    let state = cell(Some(SMALLEST_TYPE_SCRIPT.to_vec()), smallest_state());
     Scene {
         script: table(&[&[], &[], &byte_vector(&args)]),
         inputs: vec![input(true, 0, plain_cell())],
         outputs: Vec::new(),
-        deps: vec![state],
-        witnesses: vec![table(&[&byte_vector(&lock), &[], &[]])],
+        deps: vec![smallest_cell(smallest_state(SEQUENCE, None))],
+        witnesses: smallest_witnesses(OP_SPEND),
         ..spend()
     }
+}
+
+/// The same as a recovery: its only input holds the state, its only output the successor.
+pub fn smallest_recovery(recovery_since: u64, since: u64) -> Scene {
+    let state = |sequence| smallest_cell(smallest_state(sequence, Some(recovery_since)));
+    Scene {
+        inputs: vec![input(true, since, state(SEQUENCE))],
+        outputs: vec![state(SEQUENCE + 1)],
+        deps: vec![smallest_cell(Vec::new())],
+        witnesses: smallest_witnesses(OP_RECOVERY),
+        ..smallest_spend()
+    }
+}
+
+/// A cell of the smallest spend's account.
+fn smallest_cell(data: Vec<u8>) -> Cell {
+    cell(Some(SMALLEST_TYPE_SCRIPT.to_vec()), data)
+}
+
+/// One witness, with one proof of one byte.
+fn smallest_witnesses(operation: u8) -> Vec<Vec<u8>> {
+    let proof = Proof {
+        slot: authenticator().slot,
+        bytes: vec![0xaa],
+    };
+    let lock = encode_witness(operation, SEQUENCE, &[proof]).expect("a valid witness lock");
+    vec![table(&[&byte_vector(&lock), &[], &[]])]
 }

@@ -1,8 +1,9 @@
 //! The session that change 10 of document 02 withdraws. "A successor may not carry either": flag 2, or capability 0x0008 in an
 //! entry.
 
+use crate::account::owns;
 use crate::aux_limit::{state_number, u16_at, MAX_AUX};
-use ckb_std::{Cell, Scene};
+use ckb_std::Scene;
 
 /// The number of a successor that carries one.
 pub const SESSION_WITHDRAWN: i8 = 49;
@@ -58,12 +59,11 @@ fn kind(state: &[u8]) -> &'static str {
 /// The operations that can leave such a state.
 pub const OPERATIONS: [&str; 2] = ["session: left by a rotation", "session: left by a recovery"];
 
-/// By which operation the successor is left and how it carries a session, in a scene that is refused for it. Args end the
-/// script, the account's id ends them, and the witness lock stands behind the offsets of its table and its own length.
+/// By which operation the successor is left and how it carries a session, in a scene that is refused for it. The witness lock
+/// stands behind the offsets of its table and its own length.
 pub fn met(scene: &Scene) -> [&'static str; 2] {
-    let id = &scene.script[scene.script.len() - 32..];
-    let own = |cell: &&Cell| cell.type_hash.is_some_and(|hash| hash == id);
-    let successor = scene.outputs.iter().find(own).expect("a successor");
+    let mut outputs = scene.outputs.iter();
+    let successor = outputs.find(|cell| owns(scene, cell)).expect("a successor");
     let first = scene.inputs.iter().position(|input| input.group);
     let operation = scene.witnesses[first.expect("an input of the group")][20 + 5];
     let operation = OPERATIONS[usize::from(operation - 2)];

@@ -8,6 +8,8 @@ pub mod Numbers
 pub mod AnswerRoom
 pub mod Unsatisfied
 pub mod Real
+pub mod OwnNumber
 pub mod HashNumber
 pub mod Session
 pub mod SessionNumber
+pub mod Waiting

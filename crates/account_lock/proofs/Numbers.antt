@@ -1,5 +1,5 @@
--- The numbers that the lock gives, for every table, store and answer buffer: 0, its own 5 and 7, the original's 20 to 38, 40, 44
--- and 49. So it never gives 6 or 39, and 7 only where the table fails its test.
+-- The numbers that the lock gives, for every table, store and answer buffer: 0, its own 5 and 7, the original's 20 to 38, 40, 42,
+-- 44 and 49. So it never gives 6 or 39, and 7 only where the table fails its test.
 -- Assumes nothing.
 use mathlib.Core.Path.{_≡_, refl, sym, _∙_}
 use mathlib.Core.Logic.{_≢_, _⊎_, inl, inr, _↔_}
@@ -20,7 +20,7 @@ use Rattle.protocol.proofs.AllPass.{passed-all-pass}
 use Rattle.protocol.proofs.Each.{Each, Refuses, each-append, each-cond, each-more, each-refuses, each-failed, failing-refuses}
 use Rattle.molecule.specs.Table3.{tableRows}
 use Rattle.molecule.specs.Bytes as molecule
-use Rattle.account_state.specs.Fields.{recoveryEnabled, auxLengthOf, entryLengthOf, entrySlotOf, entryCountOf}
+use Rattle.account_state.specs.Fields.{recoveryEnabled, recoverySinceOf, auxLengthOf, entryLengthOf, entrySlotOf, entryCountOf}
 use Rattle.account_state.specs.Reading.{AuxWithin}
 use Rattle.account_state.specs.State as state
 use Rattle.account_witness.specs.Header.{witnessHeaderRows}
@@ -49,6 +49,10 @@ Original e = (20 ≤ errorNumber e) × (errorNumber e ≤ 38)
 abbrev pub Differs : ProtocolError → Type 0
 Differs e = errorNumber e ≡ 40
 
+-- 02, change 4: a since that is not well-formed is 42
+abbrev pub Malformed : ProtocolError → Type 0
+Malformed e = errorNumber e ≡ 42
+
 -- 02, change 6: an aux above the limit is 44
 abbrev pub Limits : ProtocolError → Type 0
 Limits e = errorNumber e ≡ 44
@@ -57,8 +61,8 @@ Limits e = errorNumber e ≡ 44
 abbrev pub Withdraws : ProtocolError → Type 0
 Withdraws e = errorNumber e ≡ 49
 
--- ---- the rows before the proofs: those of the hashes give 40, those of the limit 44, the successor's session 49, each of the others
--- a refusal of the original, and none 28
+-- ---- the rows before the proofs: those of the hashes give 40, those of the limit 44, the successor's session 49, those of a wait 42
+-- or 34, each of the others a refusal of the original, and none 28
 
 abbrev Plain : ProtocolError → Type 0
 Plain e = Original e × (errorNumber e ≢ 28)
@@ -66,8 +70,11 @@ Plain e = Original e × (errorNumber e ≢ 28)
 abbrev pub PlainOrLimits : ProtocolError → Type 0
 PlainOrLimits e = Plain e ⊎ Limits e
 
+abbrev pub PlainOrMalformed : ProtocolError → Type 0
+PlainOrMalformed e = Plain e ⊎ Malformed e
+
 abbrev pub Behind : ProtocolError → Type 0
-Behind e = PlainOrLimits e ⊎ Withdraws e
+Behind e = PlainOrLimits e ⊎ Withdraws e ⊎ Malformed e
 
 abbrev pub Early : ProtocolError → Type 0
 Early e = Behind e ⊎ Differs e
@@ -78,24 +85,34 @@ plain-or = each-more Plain PlainOrLimits (λ e h. inl h)
 behind : (rs : List Row) → Each PlainOrLimits rs → Each Behind rs
 behind = each-more PlainOrLimits Behind (λ e h. inl h)
 
+behind-wait : (rs : List Row) → Each PlainOrMalformed rs → Each Behind rs
+behind-wait = each-more PlainOrMalformed Behind go
+  where
+    go : (e : ProtocolError) → PlainOrMalformed e → Behind e
+    go e (inl h) = inl (inl h)
+    go e (inr h) = inr (inr h)
+
 -- none is below 20,
 pub early-high : (e : ProtocolError) → Early e → 20 ≤ errorNumber e
 early-high e (inl (inl (inl h))) = h .0 .0
 early-high e (inl (inl (inr h))) = omega arith
-early-high e (inl (inr h)) = omega arith
+early-high e (inl (inr (inl h))) = omega arith
+early-high e (inl (inr (inr h))) = omega arith
 early-high e (inr h) = omega arith
 
 -- none 28, and none behind the hashes 40
 pub early-not-28 : (e : ProtocolError) → Early e → errorNumber e ≢ 28
 early-not-28 e (inl (inl (inl h))) = h .1
 early-not-28 e (inl (inl (inr h))) = λ q. omega arith
-early-not-28 e (inl (inr h)) = λ q. omega arith
+early-not-28 e (inl (inr (inl h))) = λ q. omega arith
+early-not-28 e (inl (inr (inr h))) = λ q. omega arith
 early-not-28 e (inr h) = λ q. omega arith
 
 pub behind-not-40 : (e : ProtocolError) → Behind e → errorNumber e ≢ 40
 behind-not-40 e (inl (inl h)) = λ q. omega (arith, h .0 .1)
 behind-not-40 e (inl (inr h)) = λ q. omega arith
-behind-not-40 e (inr h) = λ q. omega arith
+behind-not-40 e (inr (inl h)) = λ q. omega arith
+behind-not-40 e (inr (inr h)) = λ q. omega arith
 
 -- a state's header
 head-early : (s : List ℕ) → Each PlainOrLimits (state.stateHeaderRows s)
@@ -169,20 +186,26 @@ pub current-early : (sequence : ℕ) (current : List ℕ) → Each PlainOrLimits
 unfolding transition.currentRows
 current-early sequence current = each-append PlainOrLimits (state.stateRows current) _ (state-early current) (inl (search arith), tt)
 
+-- what the state waits for
+pub wait-early : (wait since : ℕ) → Each PlainOrMalformed (transition.waitRows wait since)
+unfolding transition.waitRows
+wait-early wait since = each-cond PlainOrMalformed (eqb wait 0) [] _ tt (inr refl, (inr refl, (inl (search arith), tt)))
+
 -- the recovery, which only some operations have
 pub recovery-early : (operation since : ℕ) (current : List ℕ)
-    → Each PlainOrLimits (cond (eqb operation 3) (transition.recoveryRows since current) [])
+    → Each PlainOrMalformed (cond (eqb operation 3) (transition.recoveryRows since current) [])
 unfolding transition.recoveryRows
 recovery-early operation since current =
-    each-cond PlainOrLimits (eqb operation 3) (transition.recoveryRows since current) [] (plain-or (transition.recoveryRows since current) (search arith)) tt
+    each-cond PlainOrMalformed (eqb operation 3) (transition.recoveryRows since current) []
+    (inl (search arith), wait-early (recoverySinceOf current) since) tt
 
 -- the successor and the recovery
 change-early : (operation since : ℕ) (current successor : List ℕ) → Each Behind (transition.successionRows operation since current successor)
 unfolding transition.successionRows transition.successorRows
 change-early operation since current successor =
     each-append Behind (transition.successorRows current successor) _
-    (each-append Behind (state.stateRows successor) _ (behind (state.stateRows successor) (state-early successor)) (inr refl, (inl (inl (search arith)), tt)))
-    (behind (cond (eqb operation 3) (transition.recoveryRows since current) []) (recovery-early operation since current))
+    (each-append Behind (state.stateRows successor) _ (behind (state.stateRows successor) (state-early successor)) (inr (inl refl), (inl (inl (search arith)), tt)))
+    (behind-wait (cond (eqb operation 3) (transition.recoveryRows since current) []) (recovery-early operation since current))
 
 -- both states
 transition-early : (operation sequence since : ℕ) (current successor : List ℕ)
@@ -309,8 +332,9 @@ scene-number Passed h = inl refl
 scene-number (Failed e) (inl (inl h)) = inr (inl h)
 scene-number (Failed e) (inl (inr h)) = inr (inr (inr (inl h)))
 scene-number (Failed e) (inr (inl (inl (inl h)))) = inr (inr (inr (inl (h .0))))
-scene-number (Failed e) (inr (inl (inl (inr h)))) = inr (inr (inr (inr (inr (inl h)))))
-scene-number (Failed e) (inr (inl (inr h))) = inr (inr (inr (inr (inr (inr h)))))
+scene-number (Failed e) (inr (inl (inl (inr h)))) = inr (inr (inr (inr (inr (inr (inl h))))))
+scene-number (Failed e) (inr (inl (inr (inl h)))) = inr (inr (inr (inr (inr (inr (inr h))))))
+scene-number (Failed e) (inr (inl (inr (inr h)))) = inr (inr (inr (inr (inr (inl h)))))
 scene-number (Failed e) (inr (inr h)) = inr (inr (inr (inr (inl h))))
 
 not-seven : (k : Check) → Refuses LockRefusal k → checkNumber k ≢ 7
@@ -320,7 +344,7 @@ not-seven (Failed e) (inl (inr h)) q = absurd (omega (arith, h .0))
 not-seven (Failed e) (inr h) q = absurd (omega (arith, early-high e h))
 
 module _ (table store : List ℕ) (room : ℕ) where
-  -- every number that the lock gives is 0, 5, 7, 20 to 38, 40, 44 or 49
+  -- every number that the lock gives is 0, 5, 7, 20 to 38, 40, 42, 44 or 49
   pub lock-numbers : LockNumber (checkNumber (lock.lockOf table store room .found))
   unfolding lock.lockOf lock.refused
   lock-numbers = go (validTable table (length store))
@@ -350,7 +374,8 @@ not-six n (inr (inr (inl h))) q = absurd (omega arith)
 not-six n (inr (inr (inr (inl h)))) q = absurd (omega (arith, h .0))
 not-six n (inr (inr (inr (inr (inl h))))) q = absurd (omega arith)
 not-six n (inr (inr (inr (inr (inr (inl h)))))) q = absurd (omega arith)
-not-six n (inr (inr (inr (inr (inr (inr h)))))) q = absurd (omega arith)
+not-six n (inr (inr (inr (inr (inr (inr (inl h))))))) q = absurd (omega arith)
+not-six n (inr (inr (inr (inr (inr (inr (inr h))))))) q = absurd (omega arith)
 
 -- the lock never gives 6
 pub lock-never-six : (table store : List ℕ) (room : ℕ) → checkNumber (lock.lockOf table store room .found) ≢ 6

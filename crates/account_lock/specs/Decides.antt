@@ -68,7 +68,7 @@ pub record Answers (table store before : List ℕ) : Type 0 where
 
 -- the numbers that the lock gives; 01, "Where each refusal is raised": its own are "answer buffer too short for this request", 5,
 -- and "a table that the reader, scene length aside, leaves for no accepted scene with a store this long", 7; the original's are 20 to
--- 38, as 02, change 6 has it: "The lock's 39 for a long request then never occurs"; change 1: "40 where a hash differs"; change 6: 44;
--- change 10: 49
+-- 38, as 02, change 6 has it: "The lock's 39 for a long request then never occurs"; change 1: "40 where a hash differs"; change 4: 42;
+-- change 6: 44; change 10: 49
 abbrev pub LockNumber : ℕ → Type 0
-LockNumber n = (n ≡ 0) ⊎ (n ≡ 5) ⊎ (n ≡ 7) ⊎ ((20 ≤ n) × (n ≤ 38)) ⊎ (n ≡ 40) ⊎ (n ≡ 44) ⊎ (n ≡ 49)
+LockNumber n = (n ≡ 0) ⊎ (n ≡ 5) ⊎ (n ≡ 7) ⊎ ((20 ≤ n) × (n ≤ 38)) ⊎ (n ≡ 40) ⊎ (n ≡ 42) ⊎ (n ≡ 44) ⊎ (n ≡ 49)

@@ -31,6 +31,7 @@ pub enum ProtocolError {
     UnsatisfiableThreshold,
     LengthOverflow,
     HashMismatch,
+    InvalidSince,
     AuxTooLong,
     SessionWithdrawn,
 }
@@ -68,6 +69,7 @@ pub fn error_number(error: ProtocolError) -> u8
         ProtocolError::UnsatisfiableThreshold => 38,
         ProtocolError::LengthOverflow => 39,
         ProtocolError::HashMismatch => 40,
+        ProtocolError::InvalidSince => 42,
         ProtocolError::AuxTooLong => 44,
         ProtocolError::SessionWithdrawn => 49,
     }

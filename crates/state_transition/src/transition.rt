@@ -1,4 +1,4 @@
-// The current state against the witness, its successor and the recovery's lock.
+// The current state against the witness, its successor and a recovery's wait.
 use crate::session::session_free;
 use account_state::check_state;
 use account_state::flags_of;
@@ -10,11 +10,13 @@ use protocol::Check;
 use protocol::OP_RECOVERY;
 use protocol::OP_SPEND;
 use protocol::ProtocolError;
+use since::is_reached;
+use since::is_well_formed;
 ghost use mathlib.Core.Path.{_≡_};
 ghost use lib.Dec.{eqb};
 ghost use Prim.Native.Nat.{_+_};
 ghost use Rattle.protocol.specs.Rows.{decide};
-ghost use Rattle.state_transition.specs.Transition.{dataRows, currentRows, successorRows, recoveryRows, successionRows, transitionRows};
+ghost use Rattle.state_transition.specs.Transition.{dataRows, currentRows, successorRows, waitRows, recoveryRows, successionRows, transitionRows};
 
 pub fn check_data(current: &[u8], successor: &[u8]) -> Check
     ensures { λ r. ⌜ r ≡ decide Check.Passed (dataRows (now (current .entry)) (now (successor .entry))) ⌝ }
@@ -60,6 +62,22 @@ fn check_successor(current: &[u8], successor: &[u8]) -> Check
         .require(next, ProtocolError::InvalidSequence)
 }
 
+// The state's wait, of which 0 is none, against the since of its input.
+fn check_wait(wait: u64, since: u64) -> Check
+    ensures { λ r. ⌜ r ≡ decide Check.Passed (waitRows wait since) ⌝ }
+{
+    if wait == 0 {
+        return Check::Passed;
+    }
+    let state = is_well_formed(wait);
+    let input = is_well_formed(since);
+    let over = is_reached(wait, since);
+    Check::Passed
+        .require(state, ProtocolError::InvalidSince)
+        .require(input, ProtocolError::InvalidSince)
+        .require(over, ProtocolError::RecoveryLocked)
+}
+
 fn check_recovery(since: u64, current: &[u8]) -> Check
     ensures { λ r. ⌜ r ≡ decide Check.Passed (recoveryRows since (now (current .entry))) ⌝ }
 {
@@ -68,10 +86,7 @@ fn check_recovery(since: u64, current: &[u8]) -> Check
             recovery_enabled(flags_of(current)),
             ProtocolError::InvalidCapability,
         )
-        .require(
-            recovery_since_of(current) <= since,
-            ProtocolError::RecoveryLocked,
-        )
+        .and(check_wait(recovery_since_of(current), since))
 }
 
 // The rows of an operation that changes the state.

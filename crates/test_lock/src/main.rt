@@ -1,6 +1,6 @@
 // Reads and decides recorded scenes, and compares with the recorded answers: 40 where a hash differs, 44 where an aux is too long,
-// 49 where a successor carries a session, else what the original answered. It writes the answers that are not given, and then how
-// many passed. Standard input has for each scene
+// 49 where a successor carries a session, RFC 0017's where a recovery's wait is answered otherwise than by plain numbers, else what
+// the original answered. It writes the answers that are not given, and then how many passed. Standard input has for each scene
 //   LENGTH                              its length
 //   the scene
 //   answer,NUMBER,COUNT,LENGTH,DIGEST   its answer

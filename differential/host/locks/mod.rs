@@ -8,14 +8,18 @@ pub mod record;
 mod room;
 mod runs;
 pub mod sample_files;
+mod sinces;
 mod tables;
+mod waits;
 
 pub use faults::{about_limit, about_session};
+pub use sinces::any as any_waits;
 
 use crate::cell_hashes::Difference;
 use crate::prng::Prng;
 use crate::report::Report;
 use crate::session;
+use crate::since;
 use faults::{any_hash, build, damage, rows, Fault, Row};
 use plan::Plan;
 use runs::Runs;
@@ -30,8 +34,8 @@ const LONG_TURNS: usize = 7;
 /// How often each number is met at least.
 const LEAST: usize = 20;
 /// The numbers that the lock can give.
-const NUMBERS: [u32; 23] = [
-    0, 5, 7, 20, 21, 22, 23, 24, 25, 26, 27, 28, 29, 30, 31, 32, 33, 34, 35, 38, 40, 44, 49,
+const NUMBERS: [u32; 24] = [
+    0, 5, 7, 20, 21, 22, 23, 24, 25, 26, 27, 28, 29, 30, 31, 32, 33, 34, 35, 38, 40, 42, 44, 49,
 ];
 
 /// Each row of the documents' table, on plans that are accepted without it.
@@ -141,9 +145,12 @@ pub fn run(report: &mut Report, long: bool) {
     longest_answer(&mut runs);
     tables::run(&mut runs);
     room::run(&mut runs);
+    waits::run(&mut runs);
     report.expect_each("lock", &NUMBERS, LEAST);
     let differences: Vec<&str> = Difference::all().map(Difference::name).collect();
     report.expect_met(&differences, LEAST);
     report.expect_met(&session::OPERATIONS, LEAST);
     report.expect_met(&session::KINDS, LEAST);
+    report.expect_met(&since::kinds(), LEAST);
+    report.expect_met(&since::CHANGED, LEAST);
 }

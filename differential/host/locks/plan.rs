@@ -1,5 +1,6 @@
 //! What an account is about to do, before it becomes a scene.
 
+use super::sinces;
 use crate::formats::states;
 use crate::formats::witnesses::Witness;
 use crate::prng::Prng;
@@ -53,6 +54,9 @@ pub fn successor(prng: &mut Prng, entries: usize, sequence: u64) -> AccountState
     let mut state = states::valid(prng, entries);
     clear_session(&mut state);
     state.sequence = sequence;
+    if state.flags & 1 == 1 {
+        [state.recovery_since, _] = sinces::passing(prng);
+    }
     state
 }
 
@@ -101,8 +105,13 @@ fn entries(prng: &mut Prng) -> usize {
 }
 
 impl Plan {
-    /// Every entry with the capability gives a proof, and each is approved.
+    /// Every entry with the capability gives a proof, and each is approved. A recovery has waited; of the other operations the
+    /// state's recovery_since is any number.
     pub fn of_state(prng: &mut Prng, operation: u8, mut state: AccountState) -> Self {
+        let [recovery_since, since] = sinces::passing(prng);
+        if operation == 3 {
+            state.recovery_since = recovery_since;
+        }
         let programs = programs(&mut state);
         let bit = capability(operation);
         let mut proofs = Vec::new();
@@ -115,7 +124,6 @@ impl Plan {
         }
         let count = 1 + prng.up_to(1);
         let successor = successor(prng, count, state.sequence.wrapping_add(1));
-        let later = [0, 1, prng.next()][prng.up_to(2)];
         let length = prng.up_to(12);
         Plan {
             type_script: [&[9], &prng.bytes(length)[..]].concat(),
@@ -127,7 +135,7 @@ impl Plan {
                 sequence: state.sequence,
                 proofs,
             },
-            since: state.recovery_since.saturating_add(later),
+            since,
             state,
         }
     }
@@ -179,13 +187,20 @@ impl Plan {
         plan
     }
 
-    /// Some proofs are left out, verdicts are of every kind, and some successors carry a session.
+    /// Some proofs are left out, verdicts are of every kind, some successors carry a session or have any recovery_since, and
+    /// some recoveries have any waits.
     pub fn random(prng: &mut Prng) -> Self {
         let operation = 1 + prng.up_to(2) as u8;
         let count = entries(prng);
         let mut plan = Plan::valid(prng, operation, count);
         if prng.up_to(14) == 0 {
             give_session(&mut plan.successor, prng);
+        }
+        if operation == 3 && prng.up_to(2) == 0 {
+            [plan.state.recovery_since, plan.since] = sinces::any(prng);
+        }
+        if plan.successor.flags & 1 == 1 && prng.up_to(1) == 0 {
+            plan.successor.recovery_since = prng.next();
         }
         if prng.up_to(2) == 0 {
             plan.lock.proofs.retain(|_| prng.up_to(3) > 0);

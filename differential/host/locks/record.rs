@@ -14,7 +14,7 @@ use std::io;
 
 const SCENES: usize = 2_000;
 /// The length of a scene that counts as short.
-const SHORT: usize = 1_380;
+const SHORT: usize = 1_365;
 /// Numbers that need a long proof or a long aux, and how many scenes with them there are.
 const NEED_LONG: [(i8, usize); 2] = [(35, 2), (44, 16)];
 /// Rows with successors of several entries, which short scenes seldom have, and operations.
@@ -64,6 +64,19 @@ const SEVERAL_ENTRIES: [(&str, u8); 12] = [
         "state has flag 2 and capabilities 0x0008, its successor cleaned",
         3,
     ),
+];
+/// Rows of recoveries that have waited, which are accepted as many others are.
+const WAITED: [&str; 10] = [
+    "absolute blocks, 1000 for 999",
+    "relative blocks, 72057594037927935 for 72057594037927935",
+    "absolute seconds, 1000 for 1000",
+    "relative seconds, 4294967296 for 4294967295",
+    "relative epochs, 0 2/4 for 0 1/2",
+    "absolute epochs, 0 0/0 for 0 0/1",
+    "relative epochs, 6 1/10 for 5 9/10",
+    "absolute epochs, 256 0/4096 for 255 4095/4096",
+    "relative epochs, 16777215 0/0 for 16777214 65534/65535",
+    "every bit, no wait",
 ];
 /// Document 01's marked rows that a program runs, and the limit of document 02 among those of an aux.
 const MARKED: [&str; 8] = [
@@ -168,6 +181,13 @@ impl Recorder {
         }
     }
 
+    fn waited(&mut self, rows: &[Row]) {
+        for name in WAITED {
+            let scene = self.with(3, &named(rows, name).faults);
+            self.offer(&scene, usize::MAX);
+        }
+    }
+
     /// Accepted scenes with many proofs.
     fn many_proofs(&mut self) {
         for entries in [4, 8, 16] {
@@ -218,6 +238,7 @@ pub fn records() -> Vec<Record> {
     recorder.long(&rows);
     recorder.many_proofs();
     recorder.several_entries(&rows);
+    recorder.waited(&rows);
     recorder.each_row(&rows);
     recorder.random(&rows);
     recorder.records

@@ -5,14 +5,15 @@ use crate::aux_limit::state_number;
 use crate::cell_hashes::first_difference;
 use crate::hex::Hex;
 use crate::lent::Lent;
-use crate::measure::{self, cells};
-use crate::original::Outcome;
+use crate::measure::{self, cells, Waits};
+use crate::original::{self, Outcome};
 use crate::prng::Prng;
 use crate::report::Report;
 use crate::scene::ENTRIES;
 use crate::scene_exports;
 use crate::scene_text::text;
 use crate::session::{self, SESSION_WITHDRAWN};
+use crate::since::{self, RECOVERY_LOCKED};
 use crate::table;
 use ckb_account_protocol::validate_state;
 use ckb_std::{Cell, Scene};
@@ -73,17 +74,41 @@ impl Runs<'_> {
         self.report.compare(name, 0, input, &result, &expected);
     }
 
-    /// What the lock has to answer. A hash that differs is counted by its place, a session by who left it and how.
+    /// The waits are those that the original compares: it gives 34 for a since of their input that is one below their
+    /// recovery_since, whatever the others have, and does not for one that equals it.
+    fn check_waits(&mut self, scene: &Scene, waits: &Waits) {
+        let locked = |since, others| {
+            let mut scene = scene.clone();
+            for (place, input) in scene.inputs.iter_mut().enumerate() {
+                input.since = if place == waits.place { since } else { others };
+            }
+            original::lock(&scene).number == RECOVERY_LOCKED
+        };
+        let first = waits.recovery_since;
+        let result = (locked(first - 1, u64::MAX), locked(first, 0));
+        let (name, input) = ("waits by the original", || format!("{scene:?}"));
+        self.report.compare(name, 0, input, &result, &(true, false));
+    }
+
+    /// What the lock has to answer. A hash that differs is counted by its place, a session by who left it and how, waits by
+    /// what comes of them.
     fn measure(&mut self, scene: &Scene) -> Outcome {
         self.check_model(scene);
         if let Some(difference) = first_difference(scene) {
             self.report.meet(difference.name());
         }
-        let outcome = measure::lock(scene);
+        let (outcome, waits) = measure::lock_and_waits(scene);
         if outcome.number == SESSION_WITHDRAWN {
             for kind in session::met(scene) {
                 self.report.meet(kind);
             }
+        }
+        if let Some(waits) = waits {
+            self.check_waits(scene, &waits);
+            let (recovery_since, since) = (waits.recovery_since, waits.since);
+            self.report.meet(since::test(recovery_since, since).kind);
+            let changed = since::changed(recovery_since, since);
+            changed.into_iter().for_each(|kind| self.report.meet(kind));
         }
         outcome
     }

@@ -1,6 +1,6 @@
-//! Sample scenes as files: the smallest spend, a spend, a rotation and a recovery with two proofs each, one for each number
-//! of the reader and of the lock that a scene of up to 65,536 bytes gives, and a spend of just that many bytes, with the
-//! answer to each in `answers.txt`.
+//! Sample scenes as files: the smallest spend, a spend, a rotation and two recoveries with two proofs each, one for each
+//! number of the reader and of the lock that a scene of up to 65,536 bytes gives, and a spend of just that many bytes, with
+//! the answer to each in `answers.txt`.
 
 use super::faults::{build, rows, Row};
 use super::plan::Plan;
@@ -18,8 +18,17 @@ const LONGEST: usize = 65_536;
 const LONG_PROOF: usize = 31_000;
 
 /// Names, operations and rows.
-const ACCEPTED: [(&str, u8); 3] = [("spend_two_proofs", 1), ("rotation", 2), ("recovery", 3)];
-const REFUSED: [(&str, u8, &str); 19] = [
+const ACCEPTED: [(&str, u8, Option<&str>); 4] = [
+    ("spend_two_proofs", 1, None),
+    ("rotation", 2, None),
+    ("recovery", 3, Some("absolute blocks, 1000 for 999")),
+    (
+        "recovery_epochs",
+        3,
+        Some("relative epochs, 0 2/4 for 0 1/2"),
+    ),
+];
+const REFUSED: [(&str, u8, &str); 20] = [
     ("20_invalid_args", 1, "args of 32 bytes"),
     ("21_invalid_state", 1, "state has weight 0"),
     ("22_invalid_witness", 1, "second proof's zeros"),
@@ -34,13 +43,18 @@ const REFUSED: [(&str, u8, &str); 19] = [
     ("31_verifier_failure", 1, "first verdict 2"),
     ("32_unsupported_version", 1, "args starting 0x02"),
     ("33_unsupported_algorithm", 1, "state has algorithm 0"),
-    ("34_recovery_locked", 3, "since one below"),
+    ("34_recovery_locked", 3, "relative epochs, 5 1/3 for 5 1/2"),
     (
         "38_unsatisfiable_threshold",
         1,
         "state has spend threshold 0",
     ),
     ("40_hash_mismatch", 1, "state's type script edited"),
+    (
+        "42_invalid_since",
+        3,
+        "relative epochs with bit 56 for relative epochs",
+    ),
     ("44_aux_too_long", 1, "aux 2,594"),
     (
         "49_session_withdrawn",
@@ -139,8 +153,8 @@ pub fn write(folder: &str) -> io::Result<()> {
     let smallest = smallest_spend();
     samples.scene("spend", &smallest, 0)?;
     samples.reader(&scene_text::text(&smallest))?;
-    for (name, operation) in ACCEPTED {
-        samples.lock(name, operation, None)?;
+    for (name, operation, row) in ACCEPTED {
+        samples.lock(name, operation, row.map(named))?;
     }
     for (name, operation, row) in REFUSED {
         samples.lock(name, operation, Some(named(row)))?;

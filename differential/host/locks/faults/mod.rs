@@ -1,6 +1,6 @@
 //! Faults, and what document 01 says of each, row by row of its table "Where each refusal is raised", with the rows that
-//! changes 1 and 10 of document 02 put into it and the limit that change 6 puts into a state's checks. A row with number 0 is a
-//! limit that still passes.
+//! changes 1, 4 and 10 of document 02 put into it and the limit that change 6 puts into a state's checks. A row with number 0
+//! is a limit that still passes.
 
 mod cells;
 mod hash_changes;
@@ -17,6 +17,8 @@ mod session_order;
 mod session_own;
 mod states;
 mod transition;
+mod waits;
+mod waits_order;
 mod witness;
 
 use super::assembly::{self, first_group, plain_cell, plain_input, Bytes};
@@ -49,6 +51,8 @@ type OnCell = fn(&mut Cell, &mut Prng);
 #[derive(Clone, Copy)]
 pub enum Fault {
     Plan(OnPlan),
+    /// A recovery_since, if the state has one, and the since of the input that holds the state. Made behind those of a plan.
+    Waits(u64, u64),
     Bytes(Part, OnBytes),
     Scene(OnScene),
     /// Of any cell that stands there; a plain one is added where there is none.
@@ -141,11 +145,13 @@ pub fn rows() -> Vec<Row> {
     rows.extend(states::rows());
     rows.extend(session::rows());
     rows.extend(transition::rows());
+    rows.extend(waits::rows());
     rows.extend(hashes::rows());
     rows.extend(long_aux::rows());
     rows.extend(long_aux_order::rows());
     rows.extend(session_own::rows());
     rows.extend(session_order::rows());
+    rows.extend(waits_order::rows());
     // These come before the digest.
     for row in rows.iter_mut().filter(|row| row.number != 0) {
         row.made = Some(Made::Nothing);
@@ -214,13 +220,25 @@ fn any_cell<'a>(scene: &'a mut Scene, place: Place, prng: &mut Prng) -> &'a mut 
     cells.swap_remove(prng.up_to(cells.len() - 1))
 }
 
-/// The scene of a plan, each fault made as soon as what it changes is there.
-pub fn build(prng: &mut Prng, mut plan: Plan, faults: &[Fault]) -> Scene {
+fn change_plan(plan: &mut Plan, faults: &[Fault], prng: &mut Prng) {
     for fault in faults {
         if let Fault::Plan(change) = fault {
-            change(&mut plan, prng);
+            change(plan, prng);
         }
     }
+    for fault in faults {
+        match fault {
+            Fault::Waits(recovery_since, since) if plan.state.flags & 1 == 1 => {
+                (plan.state.recovery_since, plan.since) = (*recovery_since, *since);
+            }
+            _ => {}
+        }
+    }
+}
+
+/// The scene of a plan, each fault made as soon as what it changes is there.
+pub fn build(prng: &mut Prng, mut plan: Plan, faults: &[Fault]) -> Scene {
+    change_plan(&mut plan, faults, prng);
     let mut bytes = assembly::bytes(&plan);
     for fault in faults {
         if let Fault::Bytes(part, change) = fault {
@@ -232,7 +250,7 @@ pub fn build(prng: &mut Prng, mut plan: Plan, faults: &[Fault]) -> Scene {
     let mut scene = assembly::scene(prng, &plan, bytes);
     for fault in faults {
         match fault {
-            Fault::Plan(_) => {}
+            Fault::Plan(_) | Fault::Waits(..) => {}
             Fault::Cell(place, change) => change(any_cell(&mut scene, *place, prng), prng),
             Fault::NewCell(place, change) => change(new_cell(&mut scene, *place, prng), prng),
             Fault::Bytes(part, change) => {

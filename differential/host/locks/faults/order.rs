@@ -1,6 +1,8 @@
 //! The rows of the table that stand before the states and behind them, to be met beside a fault of a state.
 
-use super::{cells, hashes, proofs, requests, script, transition, witness, Fault, Row, CHANGING};
+use super::{
+    cells, hashes, proofs, requests, script, transition, witness, Fault, Row, CHANGING, RECOVERY,
+};
 
 /// Before the current state.
 pub fn earlier() -> Vec<Row> {
@@ -14,7 +16,13 @@ pub fn earlier() -> Vec<Row> {
 /// Behind the successor.
 pub fn later() -> Vec<Row> {
     let mut rows = transition::later_rows();
-    rows.extend(witness::hashed_rows());
+    rows.extend(behind_waits());
+    rows
+}
+
+/// Behind the waiting period of a recovery.
+pub fn behind_waits() -> Vec<Row> {
+    let mut rows = witness::hashed_rows();
     rows.extend(proofs::rows());
     rows.extend(requests::rows());
     rows
@@ -28,6 +36,13 @@ pub fn changing(mut row: Row) -> Option<Row> {
         operations => operations,
     };
     Some(row)
+}
+
+/// The row as one of a recovery.
+pub fn recovering(mut row: Row) -> Option<Row> {
+    let recovered = row.operations.contains(&3);
+    row.operations = RECOVERY;
+    recovered.then_some(row)
 }
 
 /// The row with another fault, which is made before its own, and the number of both.

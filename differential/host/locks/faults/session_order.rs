@@ -53,7 +53,7 @@ fn beside_each(rows: fn() -> Vec<Row>, number: fn(&Row) -> i8) -> Vec<Row> {
 }
 
 /// The current state's own checks.
-fn current() -> Vec<Row> {
+pub fn current() -> Vec<Row> {
     let changes = HEADER.into_iter().chain(ENTRIES);
     let changes = changes.chain([SHORT]).chain(BEHIND);
     let mut rows: Vec<Row> = changes

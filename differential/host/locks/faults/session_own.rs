@@ -24,7 +24,7 @@ fn then(mut row: Row, name: &str, change: OnBytes) -> Row {
 }
 
 /// Faults of the header, of the first entry, and behind the entries.
-fn whole() -> Vec<Row> {
+pub fn whole() -> Vec<Row> {
     let changes = HEADER.into_iter().chain(ENTRIES);
     successor_rows(changes.chain([SHORT]).chain(BEHIND))
 }

@@ -1,19 +1,16 @@
 //! The rows of sequences, and those of recovery.
 
 use super::parts::set;
+use super::waits::waits;
 use super::{on_plan, row, Fault, Part, Row, ALL, CHANGING, RECOVERY};
 use crate::locks::plan::Plan;
+use crate::prng::Prng;
+use crate::since::{INVALID_SINCE, RECOVERY_LOCKED};
 
 /// The last sequence there is.
 fn last_sequence(plan: &mut Plan) {
     plan.state.sequence = u64::MAX;
     plan.lock.sequence = u64::MAX;
-}
-
-/// A state that recovers from this since on, and its input's since.
-fn wait(plan: &mut Plan, recovery_since: u64, since: u64) {
-    plan.state.recovery_since = recovery_since;
-    plan.since = since;
 }
 
 fn of_version_2(part: Part) -> Fault {
@@ -39,7 +36,7 @@ pub fn witness_rows() -> Vec<Row> {
     ]
 }
 
-fn successor_rows() -> Vec<Row> {
+pub fn successor_rows() -> Vec<Row> {
     vec![
         on_plan(27, CHANGING, "successor's sequence the same", |plan, _| {
             plan.successor.sequence = plan.state.sequence;
@@ -80,51 +77,22 @@ fn successor_rows() -> Vec<Row> {
     ]
 }
 
+/// Turns recovery off in the current state.
+pub fn turn_off(plan: &mut Plan, _: &mut Prng) {
+    plan.state.flags &= 2;
+    plan.state.recovery_threshold = 0;
+    plan.state.recovery_since = 0;
+}
+
+/// Recovery that is off, and some waiting periods: the others stand in `waits`.
 fn recovery_rows() -> Vec<Row> {
     vec![
-        on_plan(29, RECOVERY, "recovery off", |plan, _| {
-            plan.state.flags &= 2;
-            plan.state.recovery_threshold = 0;
-            wait(plan, 0, 0);
-        }),
-        on_plan(34, RECOVERY, "since one below", |plan, _| {
-            wait(plan, 1_000, 999)
-        }),
-        on_plan(0, RECOVERY, "since equal", |plan, _| {
-            wait(plan, 1_000, 1_000)
-        }),
-        on_plan(34, RECOVERY, "since 0", |plan, _| wait(plan, 1, 0)),
-        on_plan(0, RECOVERY, "no wait", |plan, _| wait(plan, 0, 0)),
-        on_plan(34, RECOVERY, "since 2^64-2", |plan, _| {
-            wait(plan, u64::MAX, u64::MAX - 1)
-        }),
-        on_plan(0, RECOVERY, "since 2^64-1", |plan, _| {
-            wait(plan, u64::MAX, u64::MAX)
-        }),
-        on_plan(34, RECOVERY, "since above in low bytes", |plan, _| {
-            wait(plan, 1 << 32, u64::from(u32::MAX));
-        }),
-        on_plan(
-            34,
-            RECOVERY,
-            "another input waits long enough",
-            |plan, _| wait(plan, 1_000, 5),
-        )
-        .and(Fault::Scene(|scene, plan, _| {
-            for input in &mut scene.inputs {
-                let state = input.cell.type_hash == Some(plan.id());
-                input.since = if state { 5 } else { 2_000 };
-            }
-        })),
-        on_plan(0, RECOVERY, "no other input waits", |plan, _| {
-            wait(plan, 1_000, 1_000)
-        })
-        .and(Fault::Scene(|scene, plan, _| {
-            for input in &mut scene.inputs {
-                let state = input.cell.type_hash == Some(plan.id());
-                input.since = if state { 1_000 } else { 0 };
-            }
-        })),
+        on_plan(29, RECOVERY, "recovery off", turn_off),
+        waits(RECOVERY_LOCKED, "since one below", 1_000, 999),
+        waits(0, "since equal", 1_000, 1_000),
+        waits(0, "no wait", 0, 0),
+        waits(INVALID_SINCE, "since 2^64-2", u64::MAX, u64::MAX - 1),
+        waits(INVALID_SINCE, "since 2^64-1", u64::MAX, u64::MAX),
     ]
 }
 

@@ -1,0 +1,2 @@
+pub mod EpochOrder
+pub mod SinceLaws

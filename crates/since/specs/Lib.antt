@@ -1,0 +1,3 @@
+pub mod Epoch
+pub mod EpochOrder
+pub mod Since
