@@ -186,18 +186,13 @@ pub current-early : (sequence : ℕ) (current : List ℕ) → Each PlainOrLimits
 unfolding transition.currentRows
 current-early sequence current = each-append PlainOrLimits (state.stateRows current) _ (state-early current) (inl (search arith), tt)
 
--- what the state waits for
-pub wait-early : (wait since : ℕ) → Each PlainOrMalformed (transition.waitRows wait since)
-unfolding transition.waitRows
-wait-early wait since = each-cond PlainOrMalformed (eqb wait 0) [] _ tt (inr refl, (inr refl, (inl (search arith), tt)))
-
--- the recovery, which only some operations have
+-- the recovery and what its state waits for, which only some operations have
 pub recovery-early : (operation since : ℕ) (current : List ℕ)
     → Each PlainOrMalformed (cond (eqb operation 3) (transition.recoveryRows since current) [])
-unfolding transition.recoveryRows
+unfolding transition.recoveryRows transition.waitRows
 recovery-early operation since current =
     each-cond PlainOrMalformed (eqb operation 3) (transition.recoveryRows since current) []
-    (inl (search arith), wait-early (recoverySinceOf current) since) tt
+    (inl (search arith), each-cond PlainOrMalformed (eqb (recoverySinceOf current) 0) [] _ tt (inr refl, (inr refl, (inl (search arith), tt)))) tt
 
 -- the successor and the recovery
 change-early : (operation since : ℕ) (current successor : List ℕ) → Each Behind (transition.successionRows operation since current successor)
