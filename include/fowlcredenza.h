@@ -55,6 +55,7 @@ enum fowlcredenza_number {
     FOWLCREDENZA_HASH_MISMATCH = 40,
     FOWLCREDENZA_INVALID_SINCE = 42,
     FOWLCREDENZA_AUX_TOO_LONG = 44,
+    FOWLCREDENZA_OUTPUTS_EXCEED_INPUTS = 48,
     FOWLCREDENZA_SESSION_WITHDRAWN = 49
 };
 
@@ -95,7 +96,7 @@ enum fowlcredenza_size {
     FOWLCREDENZA_WITNESS_LOCK_OUT_LEN = 16,
     FOWLCREDENZA_SCRIPT_ARGS_OUT_LEN = 16,
     FOWLCREDENZA_REQUEST_NUMBERS_OUT_LEN = 32,
-    FOWLCREDENZA_LOCK_OUT_LEN = 56
+    FOWLCREDENZA_LOCK_OUT_LEN = 64
 };
 
 /* The hash, 32 bytes. */
@@ -218,14 +219,16 @@ uint32_t fowlcredenza_table_valid(const uint32_t *table, size_t table_len, size_
 /* The lock. */
 
 /* Decides what table and store hold; the requests go to the front of `answer`. Whatever the number, `out` takes count and
- * length of the requests and 1 where there is a digest, as words, then the digest's 32 bytes, zeros where there is none. An
- * `out` below 56 bytes is 7 before all else, and then nothing is written anywhere. A rotation or a recovery to a state with
- * flag 2, or with an entry that has capability 0x0008, is 49, after that state's own refusals and before its sequence's. */
+ * length of the requests and 1 where there is a digest, as words, then the digest's 32 bytes, zeros where there is none, then
+ * the fee as a word, which is what all inputs have less what all outputs have, and 0 where the number is not 0. An `out` below
+ * 64 bytes is 7 before all else, and then nothing is written anywhere. A rotation or a recovery to a state with flag 2, or with
+ * an entry that has capability 0x0008, is 49, after that state's own refusals and before its sequence's. After all others come
+ * the capacities': 39 where the inputs' total or the outputs' passes 2^64-1, then 48 where the outputs' exceeds the inputs'. */
 uint32_t fowlcredenza_lock(const uint32_t *table, size_t table_len, const uint8_t *store,
                            size_t store_len, uint8_t *answer, size_t answer_len, uint8_t *out,
                            size_t out_len);
 
-/* Reads a scene as `fowlcredenza_read_scene` does, and decides it as `fowlcredenza_lock` does. An `out` below 56 bytes is 7
+/* Reads a scene as `fowlcredenza_read_scene` does, and decides it as `fowlcredenza_lock` does. An `out` below 64 bytes is 7
  * here too. */
 uint32_t fowlcredenza_decide_scene(const uint8_t *scene, size_t scene_len, uint8_t *store,
                                    size_t store_len, uint32_t *table, size_t table_len,

@@ -35,6 +35,7 @@ pub mod number {
     pub const HASH_MISMATCH: u32 = 40;
     pub const INVALID_SINCE: u32 = 42;
     pub const AUX_TOO_LONG: u32 = 44;
+    pub const OUTPUTS_EXCEED_INPUTS: u32 = 48;
     pub const SESSION_WITHDRAWN: u32 = 49;
 }
 
@@ -71,7 +72,7 @@ pub mod size {
     pub const WITNESS_LOCK_OUT_LEN: usize = 16;
     pub const SCRIPT_ARGS_OUT_LEN: usize = 16;
     pub const REQUEST_NUMBERS_OUT_LEN: usize = 32;
-    pub const LOCK_OUT_LEN: usize = 56;
+    pub const LOCK_OUT_LEN: usize = 64;
 }
 
 #[link(name = "fowlcredenza", kind = "static")]

@@ -4,6 +4,11 @@ use crate::lent::Lent;
 use crate::scene::{DEP, ENTRIES, FIRST_ROW, INPUT, OUTPUT, SCRIPT, TX, VERDICTS, WITNESS};
 use ckb_std::{Cell, Scene};
 
+/// The low half first.
+fn halves(number: u64) -> [u32; 2] {
+    [number, number >> 32].map(|half| half as u32)
+}
+
 impl Lent {
     /// A line's record at the end of the table, its bytes at the end of the store.
     fn put(&mut self, kind: usize, numbers: &[u32], fields: &[&[u8]]) {
@@ -17,13 +22,14 @@ impl Lent {
         self.put(kind, &[bytes.len() as u32], &[bytes]);
     }
 
-    fn put_cell(&mut self, kind: usize, numbers: &[u32], cell: &Cell) {
+    /// Numbers stand before the lengths of a cell's fields and behind them.
+    fn put_cell(&mut self, kind: usize, before: &[u32], cell: &Cell, behind: &[u32]) {
         let type_hash = cell.type_hash.as_ref().map_or(&[][..], |hash| hash);
         let type_script = cell.type_script.as_deref().unwrap_or(&[]);
         let lengths = [type_script, &cell.data].map(|field| field.len() as u32);
         self.put(
             kind,
-            &[numbers, &lengths].concat(),
+            &[before, &lengths, behind].concat(),
             &[type_hash, &cell.data_hash, type_script, &cell.data],
         );
     }
@@ -37,11 +43,15 @@ impl Lent {
         lent.put_bytes(SCRIPT, &scene.script);
         lent.put(TX, &[], &[&scene.tx_hash]);
         for input in &scene.inputs {
-            let [low, high] = [input.since, input.since >> 32].map(|half| half as u32);
-            lent.put_cell(INPUT, &[u32::from(input.group), low, high], &input.cell);
+            let [low, high] = halves(input.since);
+            let before = [u32::from(input.group), low, high];
+            lent.put_cell(INPUT, &before, &input.cell, &halves(input.capacity));
         }
-        for (kind, cells) in [(OUTPUT, &scene.outputs), (DEP, &scene.deps)] {
-            cells.iter().for_each(|cell| lent.put_cell(kind, &[], cell));
+        for output in &scene.outputs {
+            lent.put_cell(OUTPUT, &[], &output.cell, &halves(output.capacity));
+        }
+        for cell in &scene.deps {
+            lent.put_cell(DEP, &[], cell, &[]);
         }
         for witness in &scene.witnesses {
             lent.put_bytes(WITNESS, witness);

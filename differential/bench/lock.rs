@@ -1,5 +1,7 @@
-//! The speed of the lock: the original with the test of hashes before it and the port, on the same scenes in one process.
+//! The speed of the lock: the original with the test of hashes before it and the totals of capacities behind it, and the port,
+//! on the same scenes in one process.
 
+use crate::capacity::Totals;
 use crate::formats::{print_row, print_row_of, AUX, CALLS, ROUNDS, SHORTER_AUX};
 use crate::lent::Lent;
 use crate::lock_scenes::{scene_of, scene_of_64_cells};
@@ -23,23 +25,30 @@ fn hashes_true(cell: &Cell) -> bool {
         && (cell.data.is_empty() || plain_hash(&cell.data) == cell.data_hash)
 }
 
-/// The test of hashes by the plain hash, then the original. The scene is not copied; the stub keeps digests until they are
-/// taken.
-fn original(scene: &Rc<Scene>) -> (i8, Vec<Vec<u8>>) {
+/// Number, fee and requests: the test of hashes by the plain hash, then the original, then the plain totals. The scene is not
+/// copied; the stub keeps digests until they are taken.
+fn original(scene: &Rc<Scene>) -> (i8, u64, Vec<Vec<u8>>) {
     let inputs = scene.inputs.iter().map(|input| &input.cell);
-    let mut cells = inputs.chain(&scene.outputs).chain(&scene.deps);
+    let outputs = scene.outputs.iter().map(|output| &output.cell);
+    let mut cells = inputs.chain(outputs).chain(&scene.deps);
     if !cells.all(hashes_true) {
-        return (HASH_MISMATCH, vec![]);
+        return (HASH_MISMATCH, 0, vec![]);
     }
-    let answer = serve_shared(scene.clone(), ckb_account_lock::entry);
+    let (number, requests) = serve_shared(scene.clone(), ckb_account_lock::entry);
     ckb_hash::take_finished();
-    answer
+    if number != 0 {
+        return (number, 0, requests);
+    }
+    match Totals::of(scene).fee() {
+        Ok(fee) => (0, fee, requests),
+        Err(number) => (number, 0, requests),
+    }
 }
 
 /// What a run of the lock writes.
 struct Written {
     answer: Vec<u8>,
-    out: [u8; 56],
+    out: [u8; 64],
 }
 
 fn port(lent: &Lent, written: &mut Written) -> u32 {
@@ -47,15 +56,16 @@ fn port(lent: &Lent, written: &mut Written) -> u32 {
     lock(&lent.table, &lent.store, answer, out)
 }
 
-/// What the port writes on a scene, on which both give this number and the same requests.
+/// What the port writes on a scene, on which both give this number, the same fee and the same requests.
 fn agreed(scene: &Rc<Scene>, lent: &Lent, number: u32) -> Written {
     let mut written = Written {
         answer: vec![0; ANSWER],
-        out: [0; 56],
+        out: [0; 64],
     };
     assert_eq!(port(lent, &mut written), number);
-    let (original_number, requests) = original(scene);
+    let (original_number, fee, requests) = original(scene);
     assert_eq!(original_number as u32, number);
+    assert_eq!(fee.to_le_bytes(), written.out[56..]);
     let requests = requests.concat();
     assert_eq!(requests, written.answer[..requests.len()]);
     written
@@ -108,8 +118,9 @@ fn row_of_64_cells(name: &str) {
 pub fn run() {
     println!();
     println!("The lock, nanoseconds for a run, best of {ROUNDS} times {CALLS} in turn ({FEW_CALLS} with 64 cells), hashing included.");
-    println!("Before the original the plain Rust hash works out the cells' hashes. The original allocates what it loads and sends;");
-    println!("it has no reader of scenes, so a plain one is timed with it. A ratio is of speeds.");
+    println!("Before the original the plain Rust hash works out the cells' hashes, behind it capacities are added up. The");
+    println!("original allocates what it loads and sends; it has no reader of scenes, so a plain one is timed with it. A");
+    println!("ratio is of speeds.");
     println!("                                                     Rust    Rattle  Rattle/Rust");
     rows("spend, 1 proof of 2,420", scene_of(OP_SPEND, 1, AUX), 0);
     rows("spend, 4 proofs", scene_of(OP_SPEND, 4, AUX), 0);

@@ -4,7 +4,7 @@ use crate::formats::{state, AUX, PROOF};
 use blake2b::ckb_hash;
 use ckb_account_host::{account_lock_args, encode_state, encode_witness, Proof};
 use ckb_account_protocol::OP_SPEND;
-use ckb_std::{Cell, Input, Scene};
+use ckb_std::{Cell, Input, Output, Scene};
 use ckb_types::molecule::{byte_vector, table};
 
 /// The type script of the cells that hold the account's states; its hash is the account's id.
@@ -13,6 +13,9 @@ const TYPE_SCRIPT: [u8; 53] = [0x55; 53];
 const VERIFIER: [u8; 32] = [0x22; 32];
 /// A cell's data where there is much.
 const MUCH: usize = 16_384;
+/// What an output has; an input has some more, so that there is a fee.
+const CAPACITY: u64 = 100_000_000_000;
+const FEE: u64 = 1_234;
 
 fn cell(type_script: Option<Vec<u8>>, data: Vec<u8>) -> Cell {
     let data_hash = if data.is_empty() {
@@ -25,6 +28,22 @@ fn cell(type_script: Option<Vec<u8>>, data: Vec<u8>) -> Cell {
         data_hash,
         type_script,
         data,
+    }
+}
+
+fn input(group: bool, cell: &Cell) -> Input {
+    Input {
+        group,
+        since: 0,
+        cell: cell.clone(),
+        capacity: CAPACITY + FEE,
+    }
+}
+
+fn output(cell: &Cell) -> Output {
+    Output {
+        cell: cell.clone(),
+        capacity: CAPACITY,
     }
 }
 
@@ -52,15 +71,10 @@ pub fn scene_of(operation: u8, proofs: u16, aux_len: usize) -> Scene {
     let (held, left) = (state_cell(current), state_cell(successor));
     let (verifier, plain) = (cell(None, vec![]), cell(None, vec![]));
     let spend = operation == OP_SPEND;
-    let (input, output) = if spend {
+    let (spent, made) = if spend {
         (&plain, &plain)
     } else {
         (&held, &left)
-    };
-    let input = Input {
-        group: true,
-        since: 0,
-        cell: input.clone(),
     };
     let state_dep = if spend { vec![held.clone()] } else { vec![] };
     Scene {
@@ -70,8 +84,8 @@ pub fn scene_of(operation: u8, proofs: u16, aux_len: usize) -> Scene {
             &byte_vector(&account_lock_args(&ckb_hash(&TYPE_SCRIPT))),
         ]),
         tx_hash: [0x66; 32],
-        inputs: vec![input],
-        outputs: vec![output.clone()],
+        inputs: vec![input(true, spent)],
+        outputs: vec![output(made)],
         deps: [state_dep, vec![verifier]].concat(),
         witnesses,
         verdicts: vec![0; usize::from(proofs)],
@@ -82,13 +96,8 @@ pub fn scene_of(operation: u8, proofs: u16, aux_len: usize) -> Scene {
 pub fn scene_of_64_cells() -> Scene {
     let mut scene = scene_of(OP_SPEND, 1, AUX);
     let cell = cell(None, vec![0x77; MUCH]);
-    let input = Input {
-        group: false,
-        since: 0,
-        cell: cell.clone(),
-    };
-    scene.inputs.extend(vec![input; 16]);
-    scene.outputs.extend(vec![cell.clone(); 16]);
+    scene.inputs.extend(vec![input(false, &cell); 16]);
+    scene.outputs.extend(vec![output(&cell); 16]);
     scene.deps.extend(vec![cell; 32]);
     scene
 }

@@ -1,5 +1,9 @@
 //! Speeds of the port beside plain programs and the originals.
 
+#[cfg(originals)]
+#[allow(dead_code)]
+#[path = "../host/capacity.rs"]
+mod capacity;
 // The comparison calls the functions that are not measured here.
 #[allow(dead_code)]
 #[path = "../host/exports.rs"]

@@ -22,17 +22,24 @@ fn cell(random: &mut Prng, data: usize) -> String {
     format!("{hash},{data_hash},{script},{data}")
 }
 
+/// A number of 19 or 20 digits.
+fn long_number(random: &mut Prng) -> u64 {
+    random.next() | 1 << 63
+}
+
 /// A scene with so many lines of each kind, each with so many bytes of data.
 fn text(random: &mut Prng, lines: usize, data: usize) -> String {
     let mut text = format!("script,{}\ntx,{}\n", hex(random, 53), hex(random, 32));
     for _ in 0..lines {
-        let since = random.next() | 1 << 63;
-        text += &format!("input,1,{since},{}\n", cell(random, data));
+        let (since, capacity) = (long_number(random), long_number(random));
+        text += &format!("input,1,{since},{},{capacity}\n", cell(random, data));
     }
-    for kind in ["output", "dep"] {
-        for _ in 0..lines {
-            text += &format!("{kind},{}\n", cell(random, data));
-        }
+    for _ in 0..lines {
+        let capacity = long_number(random);
+        text += &format!("output,{},{capacity}\n", cell(random, data));
+    }
+    for _ in 0..lines {
+        text += &format!("dep,{}\n", cell(random, data));
     }
     for _ in 0..lines {
         text += &format!("witness,{}\n", hex(random, data));

@@ -70,7 +70,7 @@ pub fn first_difference(scene: &Scene) -> Option<Difference> {
         false => Place::ForeignInput,
     };
     let inputs = scene.inputs.iter().map(|i| (input(i.group), &i.cell));
-    let outputs = scene.outputs.iter().map(|cell| (Place::Output, cell));
+    let outputs = scene.outputs.iter().map(|o| (Place::Output, &o.cell));
     let deps = scene.deps.iter().map(|cell| (Place::Dep, cell));
     let mut cells = inputs.chain(outputs).chain(deps);
     cells.find_map(|(place, cell)| of_cell(cell).map(|of| Difference { place, of }))

@@ -5,7 +5,7 @@ use crate::changes;
 use crate::lent::Lent;
 use crate::locks::answer::{Answer, ENOUGH};
 use crate::locks::record::{records, Record};
-use crate::locks::{about_limit, about_session, any_waits};
+use crate::locks::{about_limit, about_session, any_capacities, any_waits};
 use crate::prng::Prng;
 use crate::report::Report;
 use crate::scene::{self, ENTRIES};
@@ -224,6 +224,7 @@ impl<'a> Fuzz<'a> {
                 1 => take_line(&mut self.prng, &mut text, &self.recorded[other].text),
                 2 => change_state(&mut self.prng, &mut text),
                 3 => change_waits(&mut self.prng, &mut text),
+                4 => change_scene(&mut text, |scene| any_capacities(scene, &mut self.prng)),
                 _ => change_bytes(&mut self.prng, &mut text),
             }
         }

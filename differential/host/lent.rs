@@ -1,7 +1,7 @@
 //! A store and a table as the lock is lent them.
 
 use crate::scene::{self, DEP, ENTRIES, FIRST_ROW, HASH, INPUT, OUTPUT, WITNESS};
-use ckb_std::{Cell, Input, Scene};
+use ckb_std::{Cell, Input, Output, Scene};
 
 #[derive(Clone)]
 pub struct Lent {
@@ -31,7 +31,7 @@ impl Lent {
             script,
             tx_hash,
             inputs: count(INPUT).map(|_| rows.input()).collect(),
-            outputs: count(OUTPUT).map(|_| rows.cell_row()).collect(),
+            outputs: count(OUTPUT).map(|_| rows.output()).collect(),
             deps: count(DEP).map(|_| rows.cell_row()).collect(),
             witnesses: count(WITNESS).map(|_| rows.bytes_row()).collect(),
             verdicts: rows.verdicts(),
@@ -46,7 +46,7 @@ pub struct Filled {
 }
 
 pub fn filled(table: &[u32]) -> Filled {
-    let widths = [2, 1, 6, 3, 3, 2];
+    let widths = [2, 1, 8, 5, 3, 2];
     let rows = widths.iter().zip(&table[1..]);
     let verdicts = FIRST_ROW
         + rows
@@ -94,10 +94,25 @@ impl<'a> Rows<'a> {
     fn input(&mut self) -> Input {
         self.next();
         let group = self.next() == 1;
+        Input {
+            group,
+            since: self.halves(),
+            cell: self.cell(),
+            capacity: self.halves(),
+        }
+    }
+
+    fn output(&mut self) -> Output {
+        Output {
+            cell: self.cell_row(),
+            capacity: self.halves(),
+        }
+    }
+
+    /// A number of 64 bits, its low half first.
+    fn halves(&mut self) -> u64 {
         let [low, high] = [self.next(), self.next()].map(u64::from);
-        let since = low | high << 32;
-        let cell = self.cell();
-        Input { group, since, cell }
+        low | high << 32
     }
 
     fn cell_row(&mut self) -> Cell {

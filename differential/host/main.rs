@@ -1,6 +1,6 @@
 //! Runs the port beside the original and compares. A comparison is a module with a function `run`. The lock is measured by
-//! document 02's test of hashes first, states by its limit of an aux, successors by its row of sessions, and waiting periods by
-//! its rows of them where these answer otherwise than the original.
+//! document 02's test of hashes first, states by its limit of an aux, successors by its row of sessions, waiting periods by its
+//! rows of them where these answer otherwise than the original, and what passes all of these by its totals of capacities.
 //! `originals` is set where the original files are at hand; what needs none runs without them too.
 //! Without arguments all is compared; `--long` takes many more random scenes of the lock. `--record FILE` writes scenes
 //! with their answers into a file, and `--samples FOLDER` sample scenes into a folder. `--fuzz`, with limits
@@ -10,6 +10,10 @@
 mod account;
 #[cfg(originals)]
 mod aux_limit;
+#[cfg(originals)]
+mod capacity;
+#[cfg(originals)]
+mod capacity_kinds;
 #[cfg(originals)]
 mod cell_hashes;
 #[cfg_attr(not(originals), allow(dead_code))]

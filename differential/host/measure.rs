@@ -1,9 +1,11 @@
 //! What the port's lock is compared with: document 02's test of hashes, then its limit of an aux where the lock comes to a
 //! state above it, then its row of sessions where the lock comes to a successor that carries one, then its rows of waiting
-//! periods where they answer otherwise than the original does, and else the original.
+//! periods where they answer otherwise than the original does, and else the original; where all of these accept, document 02's
+//! totals of capacities.
 
 use crate::account::owns;
 use crate::aux_limit::{self, AUX_TOO_LONG, MAX_AUX, UNSUPPORTED_ALGORITHM};
+use crate::capacity::Totals;
 use crate::cell_hashes::first_difference;
 use crate::original::{self, Outcome};
 use crate::samples;
@@ -17,7 +19,8 @@ pub const HASH_MISMATCH: i8 = 40;
 
 pub fn cells(scene: &Scene) -> impl Iterator<Item = &Cell> {
     let inputs = scene.inputs.iter().map(|input| &input.cell);
-    inputs.chain(&scene.outputs).chain(&scene.deps)
+    let outputs = scene.outputs.iter().map(|output| &output.cell);
+    inputs.chain(outputs).chain(&scene.deps)
 }
 
 /// A state that the original refuses with 33.
@@ -62,8 +65,13 @@ fn meets_long_aux(scene: &Scene) -> bool {
 /// to is not 44, which was answered before, so the original reads the current state as the lock does.
 fn meets_session(scene: &Scene) -> bool {
     let asked = session::carried;
-    let there = scene.outputs.iter().any(|cell| asked(&cell.data));
-    there && comes_to(scene, |scene| mark(&mut scene.outputs, asked))
+    let mut outputs = scene.outputs.iter();
+    let there = outputs.any(|output| asked(&output.cell.data));
+    let mark_outputs = |scene: &mut Scene| {
+        let outputs = scene.outputs.iter_mut();
+        mark(outputs.map(|output| &mut output.cell), asked);
+    };
+    there && comes_to(scene, mark_outputs)
 }
 
 /// The two numbers of a recovery's waiting period, where the lock compares them.
@@ -132,6 +140,7 @@ pub fn refused(number: i8) -> Outcome {
         number,
         requests: vec![],
         digest: None,
+        fee: None,
     }
 }
 
@@ -146,15 +155,28 @@ fn before_waits(scene: &Scene) -> Option<i8> {
     meets_session(scene).then_some(SESSION_WITHDRAWN)
 }
 
+/// The outcome with the rows of totals behind it. They leave requests and digest as they are.
+pub fn with_totals(scene: &Scene, mut outcome: Outcome) -> Outcome {
+    if outcome.number == 0 {
+        match Totals::of(scene).fee() {
+            Ok(fee) => outcome.fee = Some(fee),
+            Err(number) => outcome.number = number,
+        }
+    }
+    outcome
+}
+
 /// What the lock has to answer, and the waits that it comes to.
 pub fn lock_and_waits(scene: &Scene) -> (Outcome, Option<Waits>) {
     if let Some(number) = before_waits(scene) {
         return (refused(number), None);
     }
-    match waits(scene) {
-        Some(waits) => (waited(scene, waits), Some(waits)),
-        None => (original::lock(scene), None),
-    }
+    let waits = waits(scene);
+    let outcome = match waits {
+        Some(waits) => waited(scene, waits),
+        None => original::lock(scene),
+    };
+    (with_totals(scene, outcome), waits)
 }
 
 pub fn lock(scene: &Scene) -> Outcome {

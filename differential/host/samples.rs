@@ -9,12 +9,14 @@ use ckb_account_protocol::{
     ALG_P256_WEBAUTHN, CAP_RECOVERY, CAP_ROTATE, CAP_SPEND, OP_RECOVERY, OP_SPEND, PROFILE_V1,
     STATE_FLAG_RECOVERY_ENABLED, VERIFIER_ABI_V1,
 };
-use ckb_std::{Cell, Input, Scene};
+use ckb_std::{Cell, Input, Output, Scene};
 use ckb_types::molecule::{byte_vector, table};
 
 pub const SEQUENCE: u64 = 7;
 pub const RECOVERY_SINCE: u64 = 1000;
 pub const PROOF: &[u8] = b"proof";
+/// What an output has.
+const CAPACITY: u64 = 6_100_000_000;
 /// The data of the verifier's cell.
 const VERIFIER: &[u8] = b"verifier";
 /// The type script of the smallest spend's account.
@@ -99,8 +101,19 @@ fn verifier_cell() -> Cell {
     cell(None, VERIFIER.to_vec())
 }
 
+/// Each input has as much as two outputs.
 pub fn input(group: bool, since: u64, cell: Cell) -> Input {
-    Input { group, since, cell }
+    Input {
+        group,
+        since,
+        cell,
+        capacity: 2 * CAPACITY,
+    }
+}
+
+fn output(cell: Cell) -> Output {
+    let capacity = CAPACITY;
+    Output { cell, capacity }
 }
 
 /// Two inputs, the second of them the account's, and one witness behind those of the inputs.
@@ -109,7 +122,7 @@ pub fn spend() -> Scene {
         script: script(),
         tx_hash: [0x66; 32],
         inputs: vec![input(false, 0, plain_cell()), input(true, 0, plain_cell())],
-        outputs: vec![plain_cell()],
+        outputs: vec![output(plain_cell())],
         deps: vec![state_cell(SEQUENCE), verifier_cell()],
         witnesses: vec![b"foreign".to_vec(), witness(OP_SPEND), b"extra".to_vec()],
         verdicts: vec![0],
@@ -121,7 +134,7 @@ pub fn recovery(since: u64) -> Scene {
     let state_input = input(true, since, state_cell(SEQUENCE));
     Scene {
         inputs: vec![input(false, 0, plain_cell()), state_input],
-        outputs: vec![plain_cell(), state_cell(SEQUENCE + 1)],
+        outputs: vec![output(plain_cell()), output(state_cell(SEQUENCE + 1))],
         deps: vec![plain_cell(), verifier_cell()],
         witnesses: vec![b"foreign".to_vec(), witness(OP_RECOVERY), b"extra".to_vec()],
         ..spend()
@@ -157,7 +170,7 @@ pub fn smallest_spend() -> Scene {
     let args = account_lock_args(&ckb_hash(SMALLEST_TYPE_SCRIPT));
     Scene {
         script: table(&[&[], &[], &byte_vector(&args)]),
-        inputs: vec![input(true, 0, plain_cell())],
+        inputs: vec![smallest_input(0, plain_cell())],
         outputs: Vec::new(),
         deps: vec![smallest_cell(smallest_state(SEQUENCE, None))],
         witnesses: smallest_witnesses(OP_SPEND),
@@ -165,16 +178,40 @@ pub fn smallest_spend() -> Scene {
     }
 }
 
-/// The same as a recovery: its only input holds the state, its only output the successor.
+/// The same with another input, a foreign one, and two outputs.
+pub fn two_by_two() -> Scene {
+    Scene {
+        inputs: [true, false]
+            .map(|group| input(group, 0, plain_cell()))
+            .into(),
+        outputs: vec![output(plain_cell()); 2],
+        ..smallest_spend()
+    }
+}
+
+/// The smallest spend as a recovery: its only input holds the state, its only output the successor.
 pub fn smallest_recovery(recovery_since: u64, since: u64) -> Scene {
     let state = |sequence| smallest_cell(smallest_state(sequence, Some(recovery_since)));
     Scene {
-        inputs: vec![input(true, since, state(SEQUENCE))],
-        outputs: vec![state(SEQUENCE + 1)],
+        inputs: vec![smallest_input(since, state(SEQUENCE))],
+        outputs: vec![smallest_output(state(SEQUENCE + 1))],
         deps: vec![smallest_cell(Vec::new())],
         witnesses: smallest_witnesses(OP_RECOVERY),
         ..smallest_spend()
     }
+}
+
+/// The only input, with a fee of one digit.
+fn smallest_input(since: u64, cell: Cell) -> Input {
+    Input {
+        capacity: 9,
+        ..input(true, since, cell)
+    }
+}
+
+fn smallest_output(cell: Cell) -> Output {
+    let capacity = 1;
+    Output { cell, capacity }
 }
 
 /// A cell of the smallest spend's account.

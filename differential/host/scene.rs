@@ -1,4 +1,4 @@
-//! A plain reader of scenes, written from document 01 alone.
+//! A plain reader of scenes, written from document 01 and change 9 of document 02 alone.
 
 const LONGEST: usize = 1_048_576;
 pub const ENTRIES: usize = 2_048;
@@ -8,7 +8,7 @@ pub const HASH: usize = 32;
 /// Where the rows of the table start: behind a number for each kind.
 pub const FIRST_ROW: usize = 8;
 /// The most fields of a line.
-const FIELDS: usize = 6;
+const FIELDS: usize = 7;
 pub const SCRIPT: usize = 1;
 pub const TX: usize = 2;
 pub const INPUT: usize = 3;
@@ -22,7 +22,8 @@ enum Form {
     Hex,
     Hash,
     Group,
-    Since,
+    /// SINCE and CAPACITY.
+    Decimal,
     TypeHash,
     TypeScript,
     Digits,
@@ -33,8 +34,9 @@ fn forms(kind: usize) -> &'static [Form] {
     use Form::*;
     match kind {
         TX => &[Hash],
-        INPUT => &[Group, Since, TypeHash, Hash, TypeScript, Hex],
-        OUTPUT | DEP => &[TypeHash, Hash, TypeScript, Hex],
+        INPUT => &[Group, Decimal, TypeHash, Hash, TypeScript, Hex, Decimal],
+        OUTPUT => &[TypeHash, Hash, TypeScript, Hex, Decimal],
+        DEP => &[TypeHash, Hash, TypeScript, Hex],
         VERDICTS => &[Digits],
         _ => &[Hex],
     }
@@ -95,7 +97,7 @@ fn is_hash(field: &[u8]) -> bool {
 }
 
 /// A decimal u64 without leading zeros.
-fn since(field: &[u8]) -> Option<u64> {
+fn decimal(field: &[u8]) -> Option<u64> {
     let plain = field == b"0" || matches!(field, [b'1'..=b'9', ..]);
     let digits = plain && field.iter().all(u8::is_ascii_digit);
     let grow = |sum: u64, digit: &u8| sum.checked_mul(10)?.checked_add(u64::from(digit - b'0'));
@@ -111,7 +113,7 @@ fn well_formed(form: Form, field: &[u8]) -> bool {
         Form::Hex | Form::TypeScript => is_hex(field),
         Form::Hash => is_hash(field),
         Form::Group => field == b"0" || field == b"1",
-        Form::Since => since(field).is_some(),
+        Form::Decimal => decimal(field).is_some(),
         Form::TypeHash => field.is_empty() || is_hash(field),
         Form::Digits => is_digits(field),
     }
@@ -144,11 +146,10 @@ impl<'a> Line<'a> {
     }
 
     fn well_formed(&self) -> bool {
+        let fields = &self.fields;
         let paired = match self.forms {
-            [.., Form::TypeHash, _, _, _] => {
-                let hash = self.forms.len() - 4;
-                self.fields[hash].is_empty() == self.fields[hash + 2].is_empty()
-            }
+            [Form::TypeHash, ..] => fields[0].is_empty() == fields[2].is_empty(),
+            [_, _, Form::TypeHash, ..] => fields[2].is_empty() == fields[4].is_empty(),
             _ => true,
         };
         paired && self.pairs().all(|(form, field)| well_formed(form, field))
@@ -156,7 +157,7 @@ impl<'a> Line<'a> {
 
     /// The fields whose bytes go to the store.
     fn hex_fields(&self) -> impl Iterator<Item = &'a [u8]> + '_ {
-        let is_number = |form| matches!(form, Form::Group | Form::Since | Form::Digits);
+        let is_number = |form| matches!(form, Form::Group | Form::Decimal | Form::Digits);
         let hex = self.pairs().filter(move |(form, _)| !is_number(*form));
         hex.map(|(_, field)| field)
     }
@@ -211,10 +212,10 @@ impl Reader<'_> {
             Form::Hash | Form::TypeHash => {}
             Form::Hex | Form::TypeScript => self.push(field.len() as u32 / 2),
             Form::Group => self.push(u32::from(value(field[0]))),
-            Form::Since => {
-                let since = since(field).expect("a well-formed number");
-                self.push(since as u32);
-                self.push((since >> 32) as u32);
+            Form::Decimal => {
+                let number = decimal(field).expect("a well-formed number");
+                self.push(number as u32);
+                self.push((number >> 32) as u32);
             }
             Form::Digits => {
                 self.push(field.len() as u32);

@@ -21,7 +21,8 @@ pub fn table_valid(table: &[u32], store_len: usize) -> u32 {
     unsafe { library::fowlcredenza_table_valid(table.as_ptr(), table.len(), store_len) }
 }
 
-/// Runs the lock. `out` takes count, length and 1 where there is a digest, as 64-bit words, then the digest.
+/// Runs the lock. `out` takes count, length and 1 where there is a digest, as 64-bit words, then the digest, then the fee as
+/// such a word.
 pub fn lock(table: &[u32], store: &[u8], answer: &mut [u8], out: &mut [u8]) -> u32 {
     unsafe {
         library::fowlcredenza_lock(

@@ -1,4 +1,4 @@
-//! Scenes as document 01's text.
+//! Scenes as document 01's text, with the capacities that change 9 of document 02 puts behind inputs and outputs.
 
 use ckb_std::{Cell, Scene};
 
@@ -24,8 +24,8 @@ impl Text {
         self.plain("\n");
     }
 
-    /// A line's start, then the four fields of a cell.
-    fn cell_line(&mut self, start: &str, cell: &Cell) {
+    /// A line's start, then the four fields of a cell, then its end.
+    fn cell_line(&mut self, start: &str, cell: &Cell, end: &str) {
         self.plain(start);
         let type_hash = cell.type_hash.as_ref().map_or(&[][..], |hash| hash);
         let type_script = cell.type_script.as_deref().unwrap_or(&[]);
@@ -33,6 +33,7 @@ impl Text {
             self.plain(",");
             self.hex(field);
         }
+        self.plain(end);
         self.plain("\n");
     }
 }
@@ -43,13 +44,14 @@ pub fn text(scene: &Scene) -> Vec<u8> {
     text.hex_line("tx", &scene.tx_hash);
     for input in &scene.inputs {
         let group = u8::from(input.group);
-        text.cell_line(&format!("input,{group},{}", input.since), &input.cell);
+        let start = format!("input,{group},{}", input.since);
+        text.cell_line(&start, &input.cell, &format!(",{}", input.capacity));
     }
-    for cell in &scene.outputs {
-        text.cell_line("output", cell);
+    for output in &scene.outputs {
+        text.cell_line("output", &output.cell, &format!(",{}", output.capacity));
     }
     for cell in &scene.deps {
-        text.cell_line("dep", cell);
+        text.cell_line("dep", cell, "");
     }
     for witness in &scene.witnesses {
         text.hex_line("witness", witness);

@@ -62,7 +62,7 @@ pub const OPERATIONS: [&str; 2] = ["session: left by a rotation", "session: left
 /// By which operation the successor is left and how it carries a session, in a scene that is refused for it. The witness lock
 /// stands behind the offsets of its table and its own length.
 pub fn met(scene: &Scene) -> [&'static str; 2] {
-    let mut outputs = scene.outputs.iter();
+    let mut outputs = scene.outputs.iter().map(|output| &output.cell);
     let successor = outputs.find(|cell| owns(scene, cell)).expect("a successor");
     let first = scene.inputs.iter().position(|input| input.group);
     let operation = scene.witnesses[first.expect("an input of the group")][20 + 5];

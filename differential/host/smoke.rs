@@ -47,6 +47,7 @@ fn expect(report: &mut Report, input: &str, scene: &Scene, number: i8, made: Opt
         number,
         requests: made.into_iter().map(bytes).collect(),
         digest: made.map(|operation| Hex(digest(scene, operation).to_vec())),
+        fee: None,
     };
     let outcome = original::lock(scene);
     report.compare("original lock", 0, || input.into(), &outcome, &expected);
@@ -131,7 +132,7 @@ const EDITS: [Edit; 9] = [
     ),
     (
         "data of an output",
-        |scene| scene.outputs[0].data.push(1),
+        |scene| scene.outputs[0].cell.data.push(1),
         Some((Place::Output, Of::Data)),
     ),
     (
@@ -156,7 +157,7 @@ const EDITS: [Edit; 9] = [
         "a dep's type hash and an output's data",
         |scene| {
             scene.deps[0].type_hash = Some([1; 32]);
-            scene.outputs[0].data.push(1);
+            scene.outputs[0].cell.data.push(1);
         },
         Some((Place::Output, Of::Data)),
     ),
@@ -166,7 +167,7 @@ const EDITS: [Edit; 9] = [
 fn believed(scene: &mut Scene) {
     scene.tx_hash = [1; 32];
     scene.inputs[0].cell.data_hash = [1; 32];
-    scene.outputs[0].data_hash = [1; 32];
+    scene.outputs[0].cell.data_hash = [1; 32];
 }
 
 fn differences(report: &mut Report) {

@@ -1,4 +1,4 @@
-//! The test of a lent table, written from document 01's row for 7.
+//! The test of a lent table, written from document 01's row for 7. Any two halves are a number.
 
 use crate::scene::{
     DEP, ENTRIES, FIRST_ROW, HASH, INPUT, MOST_DIGITS, MOST_LINES, OUTPUT, SCRIPT, TX, VERDICTS,
@@ -30,6 +30,10 @@ impl Walk<'_> {
         self.bytes();
     }
 
+    fn halves(&mut self) {
+        self.at += 2;
+    }
+
     fn digits(&mut self) -> bool {
         let count = self.next();
         count <= MOST_DIGITS as u32 && (0..count).all(|_| self.next() <= 2)
@@ -44,11 +48,16 @@ impl Walk<'_> {
             TX => self.used += HASH as u64,
             INPUT => {
                 let group = self.next();
-                self.at += 2;
+                self.halves();
                 self.cell();
+                self.halves();
                 return group <= 1;
             }
-            OUTPUT | DEP => self.cell(),
+            OUTPUT => {
+                self.cell();
+                self.halves();
+            }
+            DEP => self.cell(),
             VERDICTS => return self.digits(),
             _ => self.bytes(),
         }

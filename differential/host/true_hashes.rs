@@ -16,5 +16,6 @@ pub fn of_scene(scene: &mut Scene) {
 
 pub fn cells_mut(scene: &mut Scene) -> impl Iterator<Item = &mut Cell> {
     let inputs = scene.inputs.iter_mut().map(|input| &mut input.cell);
-    inputs.chain(&mut scene.outputs).chain(&mut scene.deps)
+    let outputs = scene.outputs.iter_mut().map(|output| &mut output.cell);
+    inputs.chain(outputs).chain(&mut scene.deps)
 }

@@ -2,7 +2,7 @@
 -- is lent.
 -- Assumes nothing.
 use mathlib.Core.Path.{_≡_, refl}
-use mathlib.Core.Logic.{_≢_}
+use mathlib.Core.Logic.{_≢_, _⊎_, inl, inr}
 use mathlib.Core.Bool.{Bool, true, false, cond}
 use mathlib.Core.List.{List}
 use Prim.Native.Nat.{ℕ, _≤_}
@@ -12,11 +12,13 @@ use Rattle.protocol.specs.Rows.{decide, AllPass, checkNumber}
 use Rattle.protocol.specs.declared.error.ProtocolError.the-variants.{SlicesDisagree}
 use Rattle.protocol.specs.declared.check.Check.{Check}
 use Rattle.protocol.specs.declared.check.Check.the-variants.{Passed, Failed}
-use Rattle.protocol.proofs.AllPass.{passed-all-pass}
+use Rattle.protocol.proofs.AllPass.{passed-all-pass, decide-failed}
 use Rattle.authorization.specs.Digest.{digestOf}
 use Rattle.scene_table.specs.Scene.{Scene}
 use Rattle.scene_table.specs.Lent.{sceneIn}
 use Rattle.scene_table.specs.Valid.{validTable}
+use Rattle.capacity.specs.Capacity.{capacityRows}
+use Rattle.capacity.proofs.TotalsTheorem.{totals-number}
 use Rattle.decision.specs.Proofs.{contextFor}
 use Rattle.decision.proofs.RoomEnough.{state-aux, witness-room}
 use Rattle.protocol.specs.Limits.{answerBufferLength}
@@ -26,12 +28,23 @@ use Rattle.account_lock.proofs.LockTheorem.{late, state-passes}
 use Rattle.account_lock.proofs.DigestTheorem.{length-hash}
 use Rattle.account_lock.proofs.Numbers.{early-high, early-number}
 
+-- the totals do not give 5
+totals-never-five : (s : Scene) (k : Check) → checkNumber k ≢ 5 → checkNumber (decide k (capacityRows s)) ≢ 5
+totals-never-five s Passed n q = go (totals-number s)
+  where
+    go : (checkNumber (decide Passed (capacityRows s)) ≡ 0) ⊎ (checkNumber (decide Passed (capacityRows s)) ≡ 39) ⊎ (checkNumber (decide Passed (capacityRows s)) ≡ 48) → ⊥
+    go (inl h) = omega arith
+    go (inr (inl h)) = omega arith
+    go (inr (inr h)) = omega arith
+totals-never-five s (Failed e) n q = n (rw (decide-failed (capacityRows s) e) at q)
+
 -- where the early rows pass, the walk has room for every request
 early-room : (s : Scene) (room : ℕ) → answerBufferLength ≤ room → AllPass (earlyRows s) → checkNumber (walkResult s room .found) ≢ 5
 unfolding walkResult walked contextOf contextFor digest digestOf
 early-room s room r h =
     let group = late s h .0 in
-    witness-room (contextOf s room) (witnessLock s) (length-hash _) (state-aux (current s) (state-passes s h)) (group-length s group) (group-count s group) r
+    totals-never-five s _
+    (witness-room (contextOf s room) (witnessLock s) (length-hash _) (state-aux (current s) (state-passes s h)) (group-length s group) (group-count s group) r)
 
 -- a scene with 148,992 bytes for the answer is never refused with 5
 scene-never-five : (s : Scene) (room : ℕ) → answerBufferLength ≤ room → checkNumber (lockScene s room .found) ≢ 5

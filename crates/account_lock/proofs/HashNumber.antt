@@ -43,6 +43,6 @@ module _ (table store : List ℕ) (room : ℕ) where
   pub lock-forty : (checkNumber (lock.lockOf table store room .found) ≡ 40)
       ↔ ((validTable table (length store) ≡ true) × ¬ AllPass (hashRows (sceneIn table store)))
   lock-forty =
-      let o = lock-own 40 (omega arith) table store room in
+      let o = lock-own 40 (omega arith) (λ q. omega arith) table store room in
       let e = early-40 (sceneIn table store) in
       (λ q. (o .0 q .0, e .0 (o .0 q .1)), λ h. o .1 (h .0, e .1 (h .1)))

@@ -13,3 +13,4 @@ pub mod HashNumber
 pub mod Session
 pub mod SessionNumber
 pub mod Waiting
+pub mod Fee

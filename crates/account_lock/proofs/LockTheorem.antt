@@ -1,4 +1,4 @@
--- Demand 3: the lock accepts exactly where every earlier row passes and a quorum of the current state approves.
+-- Demand 3: the lock accepts exactly where every earlier row passes, a quorum of the current state approves, and the totals pass.
 -- Assumes nothing.
 use mathlib.Core.Path.{_≡_, refl, sym, ap, _∙_}
 use mathlib.Core.Logic.{_↔_}
@@ -10,7 +10,7 @@ use lib.ListN.{length, drop}
 use borrow.Author.Tests.{leb-true}
 use Rattle.protocol.specs.Policy.{isOperation}
 use Rattle.protocol.specs.Rows.{AllPass, decide}
-use Rattle.protocol.proofs.AllPass.{passed-all-pass, all-pass-passed, all-pass-split, failed-passed}
+use Rattle.protocol.proofs.AllPass.{passed-all-pass, all-pass-passed, all-pass-split, failed-passed, decide-then, then-passed}
 use Rattle.protocol.specs.declared.error.ProtocolError.the-variants.{SlicesDisagree}
 use Rattle.protocol.specs.declared.check.Check.{Check}
 use Rattle.protocol.specs.declared.check.Check.the-variants.{Passed, Failed}
@@ -20,6 +20,8 @@ use Rattle.scene_table.specs.Scene.{Scene}
 use Rattle.scene_table.specs.Lent.{sceneIn}
 use Rattle.scene_table.specs.Valid.{validTable}
 use Rattle.cell_hashes.specs.Hashes.{hashRows}
+use Rattle.capacity.specs.Capacity.{capacityRows, TotalsPass}
+use Rattle.capacity.proofs.TotalsTheorem.{totals-pass}
 use Rattle.group_sighash.specs.Witnesses.{groupRows, otherRows}
 use Rattle.state_transition.specs.Resolve.{resolveRows, stateSince}
 use Rattle.state_transition.specs.Transition.{dataRows, currentRows, successorRows, recoveryRows, successionRows, transitionRows}
@@ -109,30 +111,34 @@ module _ (table store : List ℕ) (room : ℕ) where
   accepted-walk (Failed x) w e = failed-passed x e
 
   accepted : lockScene (sceneIn table store) room .found ≡ Passed → validTable table (length store) ≡ true
-      → EarlierPass table store room × LockQuorum table store room
+      → EarlierPass table store room × LockQuorum table store room × TotalsPass (sceneIn table store)
   unfolding lockScene walkResult walked contextOf contextFor
   accepted e v =
       let s = sceneIn table store in
       let z = accepted-walk (decide Passed (earlyRows s)) (walkResult s room) e in
       let early = passed-all-pass (earlyRows s) (z .0) in
-      let d = witness-decides (contextOf s room) (witnessLock s) .0 (z .1) in
-      (record { valid = v; early = early; proofs = d .0 }, d .1)
+      let w = then-passed _ _ (sym (decide-then _ (capacityRows s)) ∙ z .1) in
+      let d = witness-decides (contextOf s room) (witnessLock s) .0 (w .0) in
+      let totals = totals-pass s .0 (passed-all-pass (capacityRows s) (w .1)) in
+      (record { valid = v; early = early; proofs = d .0 }, d .1, totals)
 
-  pub lock-decision : (lockOf table store room .found ≡ Passed) ↔ (EarlierPass table store room × LockQuorum table store room)
+  pub lock-decision : (lockOf table store room .found ≡ Passed)
+      ↔ (EarlierPass table store room × LockQuorum table store room × TotalsPass (sceneIn table store))
   unfolding lockOf lockScene orWalked walkResult walked contextOf contextFor refused
   lock-decision = (there (validTable table (length store)) refl, back)
     where
       there : (b : Bool) → validTable table (length store) ≡ b
           → cond b (lockScene (sceneIn table store) room) (refused (Failed SlicesDisagree)) .found ≡ Passed
-          → EarlierPass table store room × LockQuorum table store room
+          → EarlierPass table store room × LockQuorum table store room × TotalsPass (sceneIn table store)
       there true v e = accepted e v
       there false v e = failed-passed SlicesDisagree e
 
-      back : EarlierPass table store room × LockQuorum table store room → lockOf table store room .found ≡ Passed
+      back : EarlierPass table store room × LockQuorum table store room × TotalsPass (sceneIn table store) → lockOf table store room .found ≡ Passed
       back h =
           let s = sceneIn table store in
-          rw (h .0 .valid, all-pass-passed (earlyRows s) (h .0 .early))
-          (witness-decides (contextOf s room) (witnessLock s) .1 (h .0 .proofs, h .1))
+          rw
+          (h .0 .valid, all-pass-passed (earlyRows s) (h .0 .early), witness-decides (contextOf s room) (witnessLock s) .1 (h .0 .proofs, h .1))
+          (all-pass-passed (capacityRows s) (totals-pass s .1 (h .2)))
 
 -- ---- what the lock promises, from what it found of its table
 

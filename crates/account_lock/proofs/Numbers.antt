@@ -1,5 +1,5 @@
--- The numbers that the lock gives, for every table, store and answer buffer: 0, its own 5 and 7, the original's 20 to 38, 40, 42,
--- 44 and 49. So it never gives 6 or 39, and 7 only where the table fails its test.
+-- The numbers that the lock gives, for every table, store and answer buffer: 0, its own 5 and 7, the original's 20 to 39, 40, 42,
+-- 44, 48 and 49. So it never gives 6, and 7 only where the table fails its test.
 -- Assumes nothing.
 use mathlib.Core.Path.{_≡_, refl, sym, _∙_}
 use mathlib.Core.Logic.{_≢_, _⊎_, inl, inr, _↔_}
@@ -16,7 +16,7 @@ use Rattle.protocol.specs.declared.error.ProtocolError.{ProtocolError}
 use Rattle.protocol.specs.declared.error.ProtocolError.the-variants.{SlicesDisagree, InvalidWitness, ThresholdUnsatisfied, InvalidCapability, InvalidVerifierRef, VerifierFailure, InvalidRequest}
 use Rattle.protocol.specs.declared.check.Check.{Check}
 use Rattle.protocol.specs.declared.check.Check.the-variants.{Passed, Failed}
-use Rattle.protocol.proofs.AllPass.{passed-all-pass}
+use Rattle.protocol.proofs.AllPass.{passed-all-pass, decide-failed}
 use Rattle.protocol.proofs.Each.{Each, Refuses, each-append, each-cond, each-more, each-refuses, each-failed, failing-refuses}
 use Rattle.molecule.specs.Table3.{tableRows}
 use Rattle.molecule.specs.Bytes as molecule
@@ -31,6 +31,7 @@ use Rattle.scene_table.specs.Valid.{validTable}
 use Rattle.cell_search.specs.declared.cells.Source.the-variants as source
 use Rattle.cell_search.specs.Search.{cellsOf}
 use Rattle.cell_hashes.specs.Hashes.{cellHashRows, cellsHashRows, hashRows}
+use Rattle.capacity.specs.Capacity.{totalRows, capacityRows}
 use Rattle.group_sighash.specs.Witnesses.{countRows, firstWitnessRows, groupRows, otherRows}
 use Rattle.state_transition.specs.Resolve as resolve
 use Rattle.state_transition.specs.Transition as transition
@@ -41,7 +42,7 @@ use Rattle.account_lock.specs.Lock as lock
 use Rattle.account_lock.specs.Decides.{LockNumber}
 use Rattle.account_lock.proofs.LongRequest.{entries-within}
 
--- 01: "Error numbers are 20 to 39": a refusal of the original, but for 39
+-- 01: "Error numbers are 20 to 39": a refusal of the original, but for 39, which no row before the totals' gives
 abbrev pub Original : ProtocolError → Type 0
 Original e = (20 ≤ errorNumber e) × (errorNumber e ≤ 38)
 
@@ -56,6 +57,10 @@ Malformed e = errorNumber e ≡ 42
 -- 02, change 6: an aux above the limit is 44
 abbrev pub Limits : ProtocolError → Type 0
 Limits e = errorNumber e ≡ 44
+
+-- 02, change 9: a total that a u64 does not hold is 39, outputs above inputs are 48
+abbrev pub Totals : ProtocolError → Type 0
+Totals e = (errorNumber e ≡ 39) ⊎ (errorNumber e ≡ 48)
 
 -- 02, change 10: a successor that carries a session is 49
 abbrev pub Withdraws : ProtocolError → Type 0
@@ -107,6 +112,19 @@ early-not-28 e (inl (inl (inr h))) = λ q. omega arith
 early-not-28 e (inl (inr (inl h))) = λ q. omega arith
 early-not-28 e (inl (inr (inr h))) = λ q. omega arith
 early-not-28 e (inr h) = λ q. omega arith
+
+-- none is of the totals,
+pub early-not-totals : (e : ProtocolError) → Early e → ¬ Totals e
+early-not-totals e (inl (inl (inl h))) (inl q) = omega (arith, h .0 .1)
+early-not-totals e (inl (inl (inl h))) (inr q) = omega (arith, h .0 .1)
+early-not-totals e (inl (inl (inr h))) (inl q) = omega arith
+early-not-totals e (inl (inl (inr h))) (inr q) = omega arith
+early-not-totals e (inl (inr (inl h))) (inl q) = omega arith
+early-not-totals e (inl (inr (inl h))) (inr q) = omega arith
+early-not-totals e (inl (inr (inr h))) (inl q) = omega arith
+early-not-totals e (inl (inr (inr h))) (inr q) = omega arith
+early-not-totals e (inr h) (inl q) = omega arith
+early-not-totals e (inr h) (inr q) = omega arith
 
 pub behind-not-40 : (e : ProtocolError) → Behind e → errorNumber e ≢ 40
 behind-not-40 e (inl (inl h)) = λ q. omega (arith, h .0 .1)
@@ -302,44 +320,67 @@ walk-low Passed h = omega arith
 walk-low (Failed e) (inl h) = omega arith
 walk-low (Failed e) (inr h) = h .1
 
+-- ---- the totals, behind the proofs
+
+pub totals-each : (s : Scene) → Each Totals (capacityRows s)
+unfolding capacityRows totalRows
+totals-each s = (inl refl, (inl refl, (inr refl, tt)))
+
+abbrev WalkedRefusal : ProtocolError → Type 0
+WalkedRefusal e = WalkRefusal e ⊎ Totals e
+
+walked-refusal : (s : Scene) (k : Check) → Refuses WalkRefusal k → Refuses WalkedRefusal (decide k (capacityRows s))
+walked-refusal s Passed h =
+    each-refuses WalkedRefusal (capacityRows s) (each-more Totals WalkedRefusal (λ e t. inr t) (capacityRows s) (totals-each s))
+walked-refusal s (Failed e) h = rw (decide-failed (capacityRows s) e) (inl h)
+
 -- ---- the lock
 
 -- a refusal behind the table's test
 abbrev LockRefusal : ProtocolError → Type 0
-LockRefusal e = WalkRefusal e ⊎ Early e
+LockRefusal e = WalkedRefusal e ⊎ Early e
 
 -- over a scene
 scene-refusal : (s : Scene) (room : ℕ) → Refuses LockRefusal (lock.lockScene s room .found)
 unfolding lock.lockScene lock.orWalked lock.refused lock.walkResult lock.walked
 scene-refusal s room = go (decide Passed (lock.earlyRows s)) refl (each-refuses Early _ (early-each s))
   where
-    walk-lock : (k : Check) → Refuses WalkRefusal k → Refuses LockRefusal k
+    walk-lock : (k : Check) → Refuses WalkedRefusal k → Refuses LockRefusal k
     walk-lock Passed h = tt
     walk-lock (Failed e) h = inl h
 
     go : (k : Check) → decide Passed (lock.earlyRows s) ≡ k → Refuses Early k → Refuses LockRefusal (lock.orWalked k (lock.walkResult s room) .found)
-    go Passed q h = walk-lock (walkLock (lock.contextOf s room) (lock.witnessLock s) .found) (scene-walk s room (passed-all-pass (lock.earlyRows s) q))
+    go Passed q h =
+        let w = walkLock (lock.contextOf s room) (lock.witnessLock s) .found in
+        walk-lock (decide w (capacityRows s)) (walked-refusal s w (scene-walk s room (passed-all-pass (lock.earlyRows s) q)))
     go (Failed e) q h = inr h
 
 -- the number of what it finds there
+original-number : (e : ProtocolError) → Original e → LockNumber (errorNumber e)
+original-number e h = inr (inr (inr (inl (h .0, omega (arith, h .1)))))
+
 scene-number : (k : Check) → Refuses LockRefusal k → LockNumber (checkNumber k)
 scene-number Passed h = inl refl
-scene-number (Failed e) (inl (inl h)) = inr (inl h)
-scene-number (Failed e) (inl (inr h)) = inr (inr (inr (inl h)))
-scene-number (Failed e) (inr (inl (inl (inl h)))) = inr (inr (inr (inl (h .0))))
+scene-number (Failed e) (inl (inl (inl h))) = inr (inl h)
+scene-number (Failed e) (inl (inl (inr h))) = original-number e h
+scene-number (Failed e) (inl (inr (inl h))) = inr (inr (inr (inl (omega arith, omega arith))))
+scene-number (Failed e) (inl (inr (inr h))) = inr (inr (inr (inr (inr (inr (inr (inl h)))))))
+scene-number (Failed e) (inr (inl (inl (inl h)))) = original-number e (h .0)
 scene-number (Failed e) (inr (inl (inl (inr h)))) = inr (inr (inr (inr (inr (inr (inl h))))))
-scene-number (Failed e) (inr (inl (inr (inl h)))) = inr (inr (inr (inr (inr (inr (inr h))))))
+scene-number (Failed e) (inr (inl (inr (inl h)))) = inr (inr (inr (inr (inr (inr (inr (inr h)))))))
 scene-number (Failed e) (inr (inl (inr (inr h)))) = inr (inr (inr (inr (inr (inl h)))))
 scene-number (Failed e) (inr (inr h)) = inr (inr (inr (inr (inl h))))
 
 not-seven : (k : Check) → Refuses LockRefusal k → checkNumber k ≢ 7
 not-seven Passed h q = absurd (omega arith)
-not-seven (Failed e) (inl (inl h)) q = absurd (omega arith)
-not-seven (Failed e) (inl (inr h)) q = absurd (omega (arith, h .0))
+not-seven (Failed e) (inl (inl (inl h))) q = absurd (omega arith)
+not-seven (Failed e) (inl (inl (inr h))) q = absurd (omega (arith, h .0))
+not-seven (Failed e) (inl (inr (inl h))) q = absurd (omega arith)
+not-seven (Failed e) (inl (inr (inr h))) q = absurd (omega arith)
 not-seven (Failed e) (inr h) q = absurd (omega (arith, early-high e h))
 
 module _ (table store : List ℕ) (room : ℕ) where
-  -- every number that the lock gives is 0, 5, 7, 20 to 38, 40, 42, 44 or 49
+  -- every number that the lock gives is 0, 5, 7, 20 to 39, 40, 42, 44, 48 or 49
   pub lock-numbers : LockNumber (checkNumber (lock.lockOf table store room .found))
   unfolding lock.lockOf lock.refused
   lock-numbers = go (validTable table (length store))
@@ -370,7 +411,8 @@ not-six n (inr (inr (inr (inl h)))) q = absurd (omega (arith, h .0))
 not-six n (inr (inr (inr (inr (inl h))))) q = absurd (omega arith)
 not-six n (inr (inr (inr (inr (inr (inl h)))))) q = absurd (omega arith)
 not-six n (inr (inr (inr (inr (inr (inr (inl h))))))) q = absurd (omega arith)
-not-six n (inr (inr (inr (inr (inr (inr (inr h))))))) q = absurd (omega arith)
+not-six n (inr (inr (inr (inr (inr (inr (inr (inl h)))))))) q = absurd (omega arith)
+not-six n (inr (inr (inr (inr (inr (inr (inr (inr h)))))))) q = absurd (omega arith)
 
 -- the lock never gives 6
 pub lock-never-six : (table store : List ℕ) (room : ℕ) → checkNumber (lock.lockOf table store room .found) ≢ 6

@@ -4,7 +4,7 @@ use mathlib.Core.Path.{_≡_, refl, _∙_}
 use mathlib.Core.Logic.{_≢_, inl, inr, _↔_}
 use mathlib.Core.Bool.{Bool, true, false, cond, false≢true}
 use mathlib.Core.List.{List, [], _++_}
-use Prim.Native.Nat.{ℕ, _<_}
+use Prim.Native.Nat.{ℕ, _≤_, _<_}
 use native.Mathlib.Omega.{arith}
 use lib.ListN.{length}
 use Rattle.protocol.specs.Errors.{errorNumber}
@@ -13,20 +13,21 @@ use Rattle.protocol.specs.declared.error.ProtocolError.{ProtocolError}
 use Rattle.protocol.specs.declared.error.ProtocolError.the-variants.{SlicesDisagree}
 use Rattle.protocol.specs.declared.check.Check.{Check}
 use Rattle.protocol.specs.declared.check.Check.the-variants.{Passed, Failed}
-use Rattle.protocol.proofs.AllPass.{decide-both, passed-all-pass, all-pass-passed}
+use Rattle.protocol.proofs.AllPass.{decide-both, decide-failed, passed-all-pass, all-pass-passed}
 use Rattle.protocol.proofs.Each.{Each, Refuses, each-append, each-more, each-refuses}
 use Rattle.account_state.specs.State.{stateRows}
 use Rattle.scene_table.specs.Scene.{Scene}
 use Rattle.scene_table.specs.Lent.{sceneIn}
 use Rattle.scene_table.specs.Valid.{validTable}
 use Rattle.cell_hashes.specs.Hashes.{hashRows}
+use Rattle.capacity.specs.Capacity.{capacityRows}
 use Rattle.group_sighash.specs.Witnesses.{groupRows, otherRows}
 use Rattle.state_transition.specs.Resolve.{spendRows, changeRows, resolveRows}
 use Rattle.state_transition.specs.Transition.{dataRows, currentRows}
 use Rattle.decision.specs.Walk.{walkLock}
 use Rattle.account_lock.specs.Lock.{scriptRows, account, witnessLock, witnessSequence, current, successor, earlyRows, contextOf, refused, walked, orWalked, walkResult, lockScene, lockOf}
 use Rattle.account_lock.specs.Session.{earlySpendRows, beforeSessionRows}
-use Rattle.account_lock.proofs.Numbers.{Differs, PlainOrLimits, hashes-differ, script-early, group-early, resolve-early, data-early, current-early, state-early, other-early, scene-walk, walk-low}
+use Rattle.account_lock.proofs.Numbers.{Differs, Totals, PlainOrLimits, hashes-differ, script-early, group-early, resolve-early, data-early, current-early, state-early, other-early, scene-walk, walk-low, totals-each}
 
 -- a refusal with another number than n
 abbrev pub Other : ℕ → ProtocolError → Type 0
@@ -61,6 +62,18 @@ module _ (n : ℕ) (above : 38 < n) where
       back Passed h = absurd (omega arith)
       back (Failed e) h = h
 
+-- ---- a number that is not of the totals either
+
+module _ (n : ℕ) (above : 39 < n) (exceed : n ≢ 48) where
+  -- what the walk and the totals find has another
+  walked-other : (s : Scene) (k : Check) → checkNumber k ≤ 38 → checkNumber (decide k (capacityRows s)) ≢ n
+  walked-other s Passed h = others-not n (omega arith) (capacityRows s) (each-more Totals (Other n) go (capacityRows s) (totals-each s))
+    where
+      go : (e : ProtocolError) → Totals e → Other n e
+      go e (inl t) q = omega arith
+      go e (inr t) q = exceed (omega arith)
+  walked-other s (Failed e) h = rw (decide-failed (capacityRows s) e) (λ q. omega arith)
+
   -- over a scene it is of the rows before the proofs
   scene-own : (s : Scene) (room : ℕ) → (checkNumber (lockScene s room .found) ≡ n) ↔ (checkNumber (decide Passed (earlyRows s)) ≡ n)
   unfolding lockScene orWalked refused walkResult walked
@@ -69,8 +82,9 @@ module _ (n : ℕ) (above : 38 < n) where
       go : (k : Check) → decide Passed (earlyRows s) ≡ k
           → (checkNumber (orWalked k (walkResult s room) .found) ≡ n) ↔ (checkNumber k ≡ n)
       go Passed e =
-          let w = walk-low (walkLock (contextOf s room) (witnessLock s) .found) (scene-walk s room (passed-all-pass (earlyRows s) e)) in
-          (λ q. absurd (omega arith), λ q. absurd (omega arith))
+          let w = walkLock (contextOf s room) (witnessLock s) .found in
+          let low = walk-low w (scene-walk s room (passed-all-pass (earlyRows s) e)) in
+          (λ q. absurd (walked-other s w low q), λ q. absurd (omega arith))
       go (Failed e) _ = (λ q. q, λ q. q)
 
   -- and the table has passed its test

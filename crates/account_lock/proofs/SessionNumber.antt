@@ -81,7 +81,7 @@ module _ (table store : List ℕ) (room : ℕ) where
 
       there : checkNumber (lockOf table store room .found) ≡ 49 → SessionRefused table store
       there q =
-          let o = lock-own 49 (omega arith) table store room .0 q in
+          let o = lock-own 49 (omega arith) (λ q. omega arith) table store room .0 q in
           let n : operation s ≢ 1 = λ e. spend-not-49 s e (o .1) in
           let z = change-49 s n .0 (o .1) in
           record { valid = o .0; changes = n; earlier = z .0; session = session-carried (stateReading (successor s)) .0 (z .1) }
@@ -89,4 +89,4 @@ module _ (table store : List ℕ) (room : ℕ) where
       back : SessionRefused table store → checkNumber (lockOf table store room .found) ≡ 49
       back h =
           let c = change-49 s (h .changes) .1 (h .earlier, session-carried (stateReading (successor s)) .1 (h .session)) in
-          lock-own 49 (omega arith) table store room .1 (h .valid, c)
+          lock-own 49 (omega arith) (λ q. omega arith) table store room .1 (h .valid, c)

@@ -1,78 +1,141 @@
--- 28 from both sides: the lock's number is 0 or 28 exactly where every earlier row passes, and 28 exactly where there is no quorum
--- then.
+-- What the lock gives where every earlier row passes: 28 exactly where there is no quorum, and with one what the totals give. So its
+-- number is 0, 28, 39 or 48 exactly where every earlier row passes.
 -- Assumes nothing.
-use mathlib.Core.Path.{_≡_, refl, ap}
+use mathlib.Core.Path.{_≡_, refl, sym, ap, _∙_}
 use mathlib.Core.Logic.{_↔_, _⊎_, inl, inr}
 use mathlib.Core.Bool.{Bool, true, false, cond}
 use mathlib.Core.List.{List}
 use Prim.Native.Nat.{ℕ}
 use native.Mathlib.Omega.{arith}
 use lib.ListN.{length}
+use Rattle.protocol.specs.Errors.{errorNumber}
 use Rattle.protocol.specs.Rows.{decide, checkNumber}
+use Rattle.protocol.specs.declared.error.ProtocolError.{ProtocolError}
 use Rattle.protocol.specs.declared.error.ProtocolError.the-variants.{SlicesDisagree}
 use Rattle.protocol.specs.declared.check.Check.{Check}
 use Rattle.protocol.specs.declared.check.Check.the-variants.{Passed, Failed}
 use Rattle.protocol.proofs.ErrorNumbers.{not-0}
-use Rattle.protocol.proofs.AllPass.{passed-all-pass}
+use Rattle.protocol.proofs.AllPass.{passed-all-pass, decide-failed, failed-passed}
 use Rattle.protocol.proofs.Each.{Refuses, each-refuses}
+use Rattle.scene_table.specs.Scene.{Scene}
 use Rattle.scene_table.specs.Lent.{sceneIn}
 use Rattle.scene_table.specs.Valid.{validTable}
+use Rattle.capacity.specs.Capacity.{capacityRows}
+use Rattle.capacity.proofs.TotalsTheorem.{totals-number}
+use Rattle.decision.specs.Walk.{walkLock}
 use Rattle.decision.proofs.Quorum.{ZeroOr28}
 use Rattle.decision.proofs.DecisionTheorem as walk
 use Rattle.account_lock.specs.Lock.{witnessLock, earlyRows, contextOf, Result, refused, walked, orWalked, walkResult, lockScene, lockOf}
 use Rattle.account_lock.specs.Decides.{EarlierPass, LockQuorum}
-use Rattle.account_lock.proofs.LockTheorem.{lock-decision}
 use Rattle.account_lock.proofs.DigestTheorem.{early-walked}
-use Rattle.account_lock.proofs.Numbers.{Early, early-not-28, early-each}
+use Rattle.account_lock.proofs.Numbers.{Early, early-not-28, early-not-totals, early-each, WalkRefusal, scene-walk}
 
--- no row before the proofs gives 0 or 28
-early-last : (k : Check) (w : Result) → Refuses Early k → ZeroOr28 (checkNumber (orWalked k w .found))
-    → (k ≡ Passed) × ZeroOr28 (checkNumber (w .found))
+-- the numbers of the last row of the proofs and of the totals
+abbrev pub LastNumber : ℕ → Type 0
+LastNumber n = ZeroOr28 n ⊎ (n ≡ 39) ⊎ (n ≡ 48)
+
+-- no row before the proofs gives one of them
+early-last : (k : Check) (w : Result) → Refuses Early k → LastNumber (checkNumber (orWalked k w .found))
+    → (k ≡ Passed) × LastNumber (checkNumber (w .found))
 unfolding orWalked refused
 early-last Passed w r h = (refl, h)
-early-last (Failed e) w r (inl h) = absurd (not-0 e h)
-early-last (Failed e) w r (inr h) = absurd (early-not-28 e r h)
+early-last (Failed e) w r (inl (inl h)) = absurd (not-0 e h)
+early-last (Failed e) w r (inl (inr h)) = absurd (early-not-28 e r h)
+early-last (Failed e) w r (inr h) = absurd (early-not-totals e r h)
+
+module _ (s : Scene) where
+  -- where the walk and the totals give one of them, the walk gives 0 or 28,
+  walk-last : (k : Check) → Refuses WalkRefusal k → LastNumber (checkNumber (decide k (capacityRows s))) → ZeroOr28 (checkNumber k)
+  walk-last Passed r h = inl refl
+  walk-last (Failed e) r h = go r (rw (decide-failed (capacityRows s) e) at h)
+    where
+      go : WalkRefusal e → LastNumber (errorNumber e) → ZeroOr28 (errorNumber e)
+      go q (inl z) = z
+      go (inl q) (inr (inl z)) = absurd (omega arith)
+      go (inl q) (inr (inr z)) = absurd (omega arith)
+      go (inr q) (inr (inl z)) = absurd (omega (arith, q .1))
+      go (inr q) (inr (inr z)) = absurd (omega (arith, q .1))
+
+  -- and the other way round
+  last-walk : (k : Check) → ZeroOr28 (checkNumber k) → LastNumber (checkNumber (decide k (capacityRows s)))
+  last-walk Passed h = go (totals-number s)
+    where
+      go : {n : ℕ} → (n ≡ 0) ⊎ (n ≡ 39) ⊎ (n ≡ 48) → LastNumber n
+      go (inl z) = inl (inl z)
+      go (inr z) = inr z
+  last-walk (Failed e) h = rw (decide-failed (capacityRows s) e) (inl h)
 
 module _ (table store : List ℕ) (room : ℕ) where
-  -- the lock's number is 0 or 28 exactly where every earlier row passes
-  pub lock-zero-or-28 : ((checkNumber (lockOf table store room .found) ≡ 0) ⊎ (checkNumber (lockOf table store room .found) ≡ 28))
-      ↔ EarlierPass table store room
+  -- the lock's number is 0, 28, 39 or 48 exactly where every earlier row passes
+  pub lock-last : LastNumber (checkNumber (lockOf table store room .found)) ↔ EarlierPass table store room
   unfolding lockOf lockScene refused walkResult walked
-  lock-zero-or-28 = (there (validTable table (length store)) refl, back)
+  lock-last = (there (validTable table (length store)) refl, back)
     where
       there : (b : Bool) → validTable table (length store) ≡ b
-          → ZeroOr28 (checkNumber (cond b (lockScene (sceneIn table store) room) (refused (Failed SlicesDisagree)) .found))
+          → LastNumber (checkNumber (cond b (lockScene (sceneIn table store) room) (refused (Failed SlicesDisagree)) .found))
           → EarlierPass table store room
       there true v h =
           let s = sceneIn table store in
           let z = early-last (decide Passed (earlyRows s)) (walkResult s room) (each-refuses Early _ (early-each s)) h in
-          let proofs = walk.witness-zero-or-28 (contextOf s room) (witnessLock s) .0 (z .1) in
-          record { valid = v; early = passed-all-pass (earlyRows s) (z .0); proofs = proofs }
-      there false v (inl h) = absurd (omega arith)
-      there false v (inr h) = absurd (omega arith)
+          let early = passed-all-pass (earlyRows s) (z .0) in
+          let w = walkLock (contextOf s room) (witnessLock s) .found in
+          let proofs = walk.witness-zero-or-28 (contextOf s room) (witnessLock s) .0 (walk-last s w (scene-walk s room early) (z .1)) in
+          record { valid = v; early = early; proofs = proofs }
+      there false v (inl (inl h)) = absurd (omega arith)
+      there false v (inl (inr h)) = absurd (omega arith)
+      there false v (inr (inl h)) = absurd (omega arith)
+      there false v (inr (inr h)) = absurd (omega arith)
 
-      back : EarlierPass table store room → ZeroOr28 (checkNumber (lockOf table store room .found))
+      back : EarlierPass table store room → LastNumber (checkNumber (lockOf table store room .found))
       back h =
           let s = sceneIn table store in
-          rw (early-walked table store room (h .valid) (h .early)) (walk.witness-zero-or-28 (contextOf s room) (witnessLock s) .1 (h .proofs))
+          let w = walkLock (contextOf s room) (witnessLock s) .found in
+          rw (early-walked table store room (h .valid) (h .early))
+          (last-walk s w (walk.witness-zero-or-28 (contextOf s room) (witnessLock s) .1 (h .proofs)))
 
-  -- and 28 exactly where there is no quorum then
-  pub lock-unsatisfied : (checkNumber (lockOf table store room .found) ≡ 28)
-      ↔ (EarlierPass table store room × ¬ LockQuorum table store room)
-  lock-unsatisfied = (there, back)
+  module _ (pass : EarlierPass table store room) where
+    abbrev s : Scene
+    s = sceneIn table store
+
+    abbrev w : Check
+    w = walkLock (contextOf s room) (witnessLock s) .found
+
+    found : lockOf table store room .found ≡ decide w (capacityRows s)
+    unfolding walkResult walked
+    found = ap (λ (r : Result). r .found) (early-walked table store room (pass .valid) (pass .early))
+
+    -- with a quorum the totals decide
+    pub quorum-found : LockQuorum table store room → lockOf table store room .found ≡ decide Passed (capacityRows s)
+    quorum-found q =
+        found ∙ ap (λ (k : Check). decide k (capacityRows s)) (walk.witness-decides (contextOf s room) (witnessLock s) .1 (pass .proofs, q))
+
+    -- and without one it is 28
+    no-quorum : ¬ LockQuorum table store room → checkNumber (lockOf table store room .found) ≡ 28
+    no-quorum n = go w refl (walk.witness-zero-or-28 (contextOf s room) (witnessLock s) .1 (pass .proofs))
+      where
+        go : (k : Check) → w ≡ k → ZeroOr28 (checkNumber w) → checkNumber (lockOf table store room .found) ≡ 28
+        go Passed e h = absurd (n (walk.witness-decides (contextOf s room) (witnessLock s) .0 e .1))
+        go (Failed x) e (inl h) = absurd (not-0 x (rw e at h))
+        go (Failed x) e (inr h) = rw (found, e, decide-failed (capacityRows s) x) (rw e at h)
+
+    -- one of the two it is
+    pub quorum-or-none : LockQuorum table store room ⊎ ¬ LockQuorum table store room
+    quorum-or-none = go w refl
+      where
+        go : (k : Check) → w ≡ k → LockQuorum table store room ⊎ ¬ LockQuorum table store room
+        go Passed e = inl (walk.witness-decides (contextOf s room) (witnessLock s) .0 e .1)
+        go (Failed x) e = inr (λ q. failed-passed x (sym e ∙ walk.witness-decides (contextOf s room) (witnessLock s) .1 (pass .proofs, q)))
+
+  -- 28 exactly where every earlier row passes and there is no quorum
+  pub lock-unsatisfied : (checkNumber (lockOf table store room .found) ≡ 28) ↔ (EarlierPass table store room × ¬ LockQuorum table store room)
+  lock-unsatisfied = (there, λ h. no-quorum (h .0) (h .1))
     where
+      totals-not-28 : {n : ℕ} → (n ≡ 0) ⊎ (n ≡ 39) ⊎ (n ≡ 48) → n ≡ 28 → ⊥
+      totals-not-28 (inl z) e = omega arith
+      totals-not-28 (inr (inl z)) e = omega arith
+      totals-not-28 (inr (inr z)) e = omega arith
+
       there : checkNumber (lockOf table store room .found) ≡ 28 → EarlierPass table store room × ¬ LockQuorum table store room
       there h =
-          let pass = lock-zero-or-28 .0 (inr h) in
-          (pass, λ q. let z = ap checkNumber (lock-decision table store room .1 (pass, q)) in omega arith)
-
-      accepted : (k : Check) → checkNumber k ≡ 0 → k ≡ Passed
-      accepted Passed h = refl
-      accepted (Failed e) h = absurd (not-0 e h)
-
-      back : EarlierPass table store room × ¬ LockQuorum table store room → checkNumber (lockOf table store room .found) ≡ 28
-      back h = go (lock-zero-or-28 .1 (h .0))
-        where
-          go : ZeroOr28 (checkNumber (lockOf table store room .found)) → checkNumber (lockOf table store room .found) ≡ 28
-          go (inl z) = absurd (h .1 (lock-decision table store room .0 (accepted (lockOf table store room .found) z) .1))
-          go (inr z) = z
+          let pass = lock-last .0 (inl (inr h)) in
+          (pass, λ q. totals-not-28 (totals-number (sceneIn table store)) (rw (quorum-found pass q) at h))

@@ -98,10 +98,10 @@ module _ (table store : List ℕ) (room : ℕ) where
 
       there : checkNumber (lockOf table store room .found) ≡ 42 → WaitRefused table store
       there q =
-          let o = lock-own 42 (omega arith) table store room .0 q in
+          let o = lock-own 42 (omega arith) (λ q. omega arith) table store room .0 q in
           let e = only-recovery s (o .1) in
           let z = recovery-42 s e .0 (o .1) in
           record { valid = o .0; recovers = e; earlier = z .0; wait = z .1 }
 
       back : WaitRefused table store → checkNumber (lockOf table store room .found) ≡ 42
-      back h = lock-own 42 (omega arith) table store room .1 (h .valid, recovery-42 s (h .recovers) .1 (h .earlier, h .wait))
+      back h = lock-own 42 (omega arith) (λ q. omega arith) table store room .1 (h .valid, recovery-42 s (h .recovers) .1 (h .earlier, h .wait))

@@ -1,4 +1,6 @@
 -- Demand 3 for the lock: what an acceptance follows from, and what its answer then holds; and the numbers that it gives.
+-- 02, change 9: "A set of slots is still needed for acceptance, and, every earlier check passing, suffices only where the tests below
+-- pass too, and then does."
 use Prim.Native.Nat.{ℕ, _≤_}
 use mathlib.Core.Path.{_≡_}
 use mathlib.Core.Logic.{_⊎_, _↔_}
@@ -13,6 +15,7 @@ use Rattle.authorization.specs.Digest.{digestInput}
 use Rattle.authorization.specs.Sighash.{sighashInput}
 use Rattle.scene_table.specs.Lent.{sceneIn}
 use Rattle.scene_table.specs.Valid.{validTable}
+use Rattle.capacity.specs.Capacity.{TotalsPass}
 use Rattle.group_sighash.specs.Witnesses.{firstWitness, otherWitnesses}
 use Rattle.account_state.specs.Fields.{sequenceOf}
 use Rattle.decision.specs.Proofs.{requestsOf}
@@ -34,6 +37,10 @@ abbrev pub LockQuorum : List ℕ → List ℕ → ℕ → Type 0
 LockQuorum table store room =
     Quorum (contextOf (sceneIn table store) room) (witnessProofs (witnessLock (sceneIn table store)))
 
+-- every earlier row passes, and a quorum stands
+abbrev pub QuorumStands : List ℕ → List ℕ → ℕ → Type 0
+QuorumStands table store room = EarlierPass table store room × LockQuorum table store room
+
 -- what the lock promises, for an answer buffer that holds `before`: the answer r is the lock's, row by row
 abbrev pub LockOutcome : List ℕ → List ℕ → List ℕ → LockAnswer → Type 0
 LockOutcome table store before r = r ≡ answerOf (lockOf table store (length before))
@@ -44,8 +51,8 @@ LockRequests table store before after = after ≡ answered before (lockOf table 
 
 -- demand 3
 abbrev pub LockDecision : List ℕ → List ℕ → List ℕ → LockAnswer → Type 0
-LockDecision table store before r =
-    (r .found ≡ Passed) ↔ (EarlierPass table store (length before) × LockQuorum table store (length before))
+LockDecision table store before r = (r .found ≡ Passed)
+    ↔ (EarlierPass table store (length before) × LockQuorum table store (length before) × TotalsPass (sceneIn table store))
 
 -- what stands in the answer where every earlier row passes; 01: "Each request is written into the rest of the answer buffer, behind
 -- the last one. Bytes after that total are unchanged."
@@ -68,7 +75,7 @@ pub record Answers (table store before : List ℕ) : Type 0 where
 
 -- the numbers that the lock gives; 01, "Where each refusal is raised": its own are "answer buffer too short for this request", 5,
 -- and "a table that the reader, scene length aside, leaves for no accepted scene with a store this long", 7; the original's are 20 to
--- 38, as 02, change 6 has it: "The lock's 39 for a long request then never occurs"; change 1: "40 where a hash differs"; change 4: 42;
--- change 6: 44; change 10: 49
+-- 39, of which 39 is a total's (02, change 9); change 1: "40 where a hash differs"; change 4: 42; change 6: 44; change 9: "48 where
+-- outputs exceed inputs"; change 10: 49
 abbrev pub LockNumber : ℕ → Type 0
-LockNumber n = (n ≡ 0) ⊎ (n ≡ 5) ⊎ (n ≡ 7) ⊎ ((20 ≤ n) × (n ≤ 38)) ⊎ (n ≡ 40) ⊎ (n ≡ 42) ⊎ (n ≡ 44) ⊎ (n ≡ 49)
+LockNumber n = (n ≡ 0) ⊎ (n ≡ 5) ⊎ (n ≡ 7) ⊎ ((20 ≤ n) × (n ≤ 39)) ⊎ (n ≡ 40) ⊎ (n ≡ 42) ⊎ (n ≡ 44) ⊎ (n ≡ 48) ⊎ (n ≡ 49)

@@ -1,5 +1,5 @@
 -- The lock, row by row: 01, "Where each refusal is raised".
-use Prim.Native.Nat.{ℕ}
+use Prim.Native.Nat.{ℕ, _-_}
 use mathlib.Core.Bool.{Bool, true, false, cond}
 use mathlib.Core.List.{List, [], _∷_, _++_}
 use lib.ListN.{length, replicate}
@@ -15,6 +15,7 @@ use Rattle.scene_table.specs.Scene.{Scene}
 use Rattle.scene_table.specs.Lent.{sceneIn}
 use Rattle.scene_table.specs.Valid.{validTable}
 use Rattle.cell_hashes.specs.Hashes.{hashRows}
+use Rattle.capacity.specs.Capacity.{inputTotal, outputTotal, capacityRows, feeWhere}
 use Rattle.group_sighash.specs.Witnesses.{firstWitness, lockIn, groupRows, otherRows}
 use Rattle.group_sighash.specs.GroupSighash.{groupSighash}
 use Rattle.state_transition.specs.Resolve.{resolveRows, currentState, successorState, stateSince}
@@ -78,19 +79,29 @@ digest s = digestOf (operation s) (account s) (sequenceOf (current s)) (current 
 unfoldable pub contextOf : Scene → ℕ → Context
 contextOf s room = contextFor (current s) (s .deps) (s .digits) (operation s) (digest s) room
 
--- what the lock finds, how many requests it made and their bytes end to end, and the digest, where it was reached
+-- what the lock finds, how many requests it made and their bytes end to end, the digest, where it was reached, and the fee
 pub record Result : Type 0 where
   pub found : Check
   pub count : ℕ
   pub made : List ℕ
   pub reached : Bool
   pub digest : List ℕ
+  pub fee : ℕ
 
 unfoldable pub refused : Check → Result
-refused found = record { found = found; count = 0; made = []; reached = false; digest = replicate 32 0 }
+refused found = record { found = found; count = 0; made = []; reached = false; digest = replicate 32 0; fee = 0 }
 
-unfoldable pub walked : WalkOutcome → List ℕ → Result
-walked o d = record { found = o .found; count = o .count; made = o .made; reached = true; digest = d }
+-- 02, change 9: 39 and 48 stand "both after 28", which is the walk's last row; "On acceptance .. FEE, inputs' total less outputs'
+-- total", and on refusal none
+unfoldable pub walked : WalkOutcome → Scene → Result
+walked o s = record {
+  found = decide (o .found) (capacityRows s);
+  count = o .count;
+  made = o .made;
+  reached = true;
+  digest = digest s;
+  fee = feeWhere (decide (o .found) (capacityRows s)) (inputTotal s - outputTotal s);
+}
 
 -- a refusal by the early rows, or what the walk over the proofs gives
 unfoldable pub orWalked : Check → Result → Result
@@ -98,7 +109,7 @@ orWalked Passed w = w
 orWalked (Failed e) w = refused (Failed e)
 
 unfoldable pub walkResult : Scene → ℕ → Result
-walkResult s room = walked (walkLock (contextOf s room) (witnessLock s)) (digest s)
+walkResult s room = walked (walkLock (contextOf s room) (witnessLock s)) s
 
 unfoldable pub lateResult : Scene → ℕ → Result
 lateResult s room = orWalked (decide Passed (lateRows s)) (walkResult s room)
@@ -111,6 +122,14 @@ unfoldable pub lockOf : List ℕ → List ℕ → ℕ → Result
 lockOf table store room =
     cond (validTable table (length store)) (lockScene (sceneIn table store) room) (refused (Failed SlicesDisagree))
 
--- "The lock returns number (0 accepted), count and total length of the requests made, and the digest, none if unreached."
+-- "The lock returns number (0 accepted), count and total length of the requests made, and the digest, none if unreached."; 02,
+-- change 9: and the fee
 unfoldable pub answerOf : Result → LockAnswer
-answerOf r = record { found = r .found; count = r .count; length = length (r .made); reached = r .reached; digest = r .digest }
+answerOf r = record {
+  found = r .found;
+  count = r .count;
+  length = length (r .made);
+  reached = r .reached;
+  digest = r .digest;
+  fee = r .fee;
+}

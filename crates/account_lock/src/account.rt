@@ -5,6 +5,8 @@ use account_state::sequence_of;
 use account_witness::operation_of;
 use account_witness::witness_sequence_of;
 use authorization::digest_of;
+use capacity::check_totals;
+use capacity::fee_where;
 use group_sighash::check_others;
 use group_sighash::sighash_with;
 use molecule::lock_of;
@@ -42,7 +44,7 @@ fn lock_digest(
     digest_of(operation, account, sequence_of(current), current, sighash)
 }
 
-// The proofs, walked against the current state.
+// The proofs, walked against the current state, and then the totals of the capacities.
 fn walk_account(
     table: &[u32],
     store: &[u8],
@@ -60,15 +62,19 @@ fn walk_account(
     let operation = operation_of(lock);
     let authorization = Authorization { operation, digest };
     let walked = walk_proofs(table, store, current, lock, authorization, answer);
-    let found = walked.found;
+    let weighed = walked.found;
     let count = walked.count;
     let length = walked.length;
+    let totals = check_totals(table, store);
+    let covered = totals.found;
+    let found = weighed.and(covered);
     LockAnswer {
         found,
         count,
         length,
         reached: true,
         digest,
+        fee: fee_where(found, totals.fee),
     }
 }
 

@@ -1,7 +1,9 @@
--- The line that the program prints: 01, "one line `answer,NUMBER,COUNT,LENGTH,DIGEST`. The line ends with byte 10."
+-- The line that the program prints: 01, "one line `answer,NUMBER,COUNT,LENGTH,DIGEST`. The line ends with byte 10."; 02, change 9:
+-- "On acceptance the answer line ends with a further field FEE".
 use Prim.Native.Nat.{ℕ}
 use mathlib.Core.Bool.{Bool, cond}
 use mathlib.Core.List.{List, [], _∷_, _++_}
+use lib.Dec.{eqb}
 use Rattle.scene_text.specs.Print.{lineText, hexText, decimalText}
 use Rattle.scene_text.specs.Text.{lineEnd}
 
@@ -17,6 +19,11 @@ numberText n = decimalText 20 n
 unfoldable pub digestText : Bool → List ℕ → List ℕ
 digestText reached digest = cond reached (hexText digest) []
 
-unfoldable pub lineOf : ℕ → ℕ → ℕ → Bool → List ℕ → List ℕ
-lineOf number count total reached digest =
-    lineText answerWord (numberText number ∷ numberText count ∷ numberText total ∷ digestText reached digest ∷ []) ++ (lineEnd ∷ [])
+-- 02, change 9: "On refusal that field is empty"; 0 is an acceptance's number
+unfoldable pub feeText : ℕ → ℕ → List ℕ
+feeText number fee = cond (eqb number 0) (numberText fee) []
+
+unfoldable pub lineOf : ℕ → ℕ → ℕ → Bool → List ℕ → ℕ → List ℕ
+lineOf number count total reached digest fee =
+    lineText answerWord (numberText number ∷ numberText count ∷ numberText total ∷ digestText reached digest ∷ feeText number fee ∷ [])
+    ++ (lineEnd ∷ [])

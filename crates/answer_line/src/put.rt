@@ -15,7 +15,7 @@ pub(crate) fn put_byte(out: &mut [u8], at: usize, byte: u8)
 }
 
 // The decimal form of a value, of at most `most` digits; where it ends.
-pub(crate) fn put_decimal(out: &mut [u8], at: usize, most: usize, value: usize) -> usize
+pub(crate) fn put_decimal(out: &mut [u8], at: usize, most: usize, value: u64) -> usize
     requires { ⌜ at + most ≤ 10000 ⌝ }
     ensures { λ r. ⌜ r ≡ at + length (decimalText most value) ⌝ }
     ensures { λ r. ⌜ r ≤ at + most ⌝ }

@@ -1,23 +1,22 @@
 -- The cells of a list, one by one, and a search over them.
 -- Assumes nothing.
-use mathlib.Core.Path.{_≡_, refl, sym, ap, _∙_}
+use mathlib.Core.Path.{_≡_, refl, sym}
 use mathlib.Core.Bool.{Bool, true, false, cond, not}
 use lib.Dec.{eqb, leb, ltb}
 use borrow.Author.Tests.{ne-eqb, le-leb, lt-leb, ltb-true, ltb-false}
 use mathlib.Core.Logic.{_⊎_, ⊎-elim}
-use mathlib.Core.List.{List, [], _∷_, _++_, map}
-use Prim.Native.Nat.{ℕ, zero, suc, _+_, _≤_, _<_}
-use native.Mathlib.Nat.{not-suc-le-zero, le-of-suc-le-suc}
+use mathlib.Core.List.{List, [], _∷_, _++_}
+use Prim.Native.Nat.{ℕ, _+_, _≤_, _<_}
 use native.Mathlib.Omega.{arith}
-use lib.ListN.{length, length-map, getD, drop, List·getD-eq-default}
+use lib.ListN.{length, drop, List·getD-eq-default}
 use denote.Enum.Declared.{tagOf, declared}
 use Rattle.octets.specs.Lists.{same}
 use Rattle.octets.specs.Places.{bytesAt}
-use Rattle.scene_table.specs.Scene.{Cell, Input}
+use Rattle.scene_table.specs.Scene.{Cell, Input, Output}
 use Rattle.scene_table.specs.Lent.{sceneIn, cellFrom}
 use Rattle.scene_table.specs.Places as places
-use Rattle.scene_table.proofs.Records.{Listed, listed}
-use Rattle.scene_table.proofs.PlaceLaws.{lentInput, lent-given}
+use Rattle.scene_table.proofs.Records.{Listed, map-listed}
+use Rattle.scene_table.proofs.PlaceLaws.{lentInput, lentOutput, lent-given}
 use Rattle.cell_search.specs.declared.cells.Source.{Source}
 use Rattle.cell_search.specs.declared.cells.Source.the-variants as source
 use Rattle.cell_search.specs.declared.cells.CellField.{CellField}
@@ -27,23 +26,14 @@ use Rattle.cell_search.specs.Search.{cellsOf, cellHash, matching, search
 use Rattle.cell_search.specs.Cells.{cellCount, sourcePlaces, noPlaces, placesWithin}
 use Rattle.cell_search.proofs.search.Search.{enum}
 
-map-nth : {A B : Type 0} (f : A → B) (l : List A) (i : ℕ) (d : B) (a : A) → i < length l → getD (map f l) i d ≡ f (getD l i a)
-map-nth f [] i d a h = absurd (not-suc-le-zero h)
-map-nth f (x ∷ l) zero d a h = refl
-map-nth f (x ∷ l) (suc i) d a h = map-nth f l i d a (le-of-suc-le-suc h)
-
-map-listed : {A B : Type 0} (f : A → B) (l : List A) (n : ℕ) (g : ℕ → A) → Listed l n g → Listed (map f l) n (λ i. f (g i))
-map-listed f l n g h =
-    listed (map f l) n (λ i. f (g i)) (length-map l f ∙ h .long)
-    (λ i d k. map-nth f l i d (g i) (rw (h .long) k) ∙ ap f (h .nth i (g i) k))
-
 -- the cells of a list are the table's records
 pub cells-listed : (from : Source) (table store : List ℕ)
     → Listed (cellsOf from (sceneIn table store)) (cellCount from table) (λ i. places.cellIn store (sourcePlaces from table i))
-unfolding cellsOf cellCount sourcePlaces lentInput
+unfolding cellsOf cellCount sourcePlaces lentInput lentOutput
 cells-listed source.Input table store =
     map-listed (λ (i : Input). i .cell) (sceneIn table store .inputs) _ (lentInput table store) (lent-given table store .inputs)
-cells-listed source.Output table store = lent-given table store .outputs
+cells-listed source.Output table store =
+    map-listed (λ (o : Output). o .cell) (sceneIn table store .outputs) _ (lentOutput table store) (lent-given table store .outputs)
 cells-listed source.CellDep table store = lent-given table store .deps
 
 module _ (from : Source) (table store : List ℕ) (i : ℕ) where

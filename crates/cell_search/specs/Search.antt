@@ -4,7 +4,7 @@ use mathlib.Core.Bool.{Bool, true, false, cond}
 use mathlib.Core.List.{List, [], _∷_, map}
 use lib.ListN.{getD}
 use Rattle.octets.specs.Lists.{same}
-use Rattle.scene_table.specs.Scene.{Cell, Input, Scene}
+use Rattle.scene_table.specs.Scene.{Cell, Input, Output, Scene}
 use Rattle.cell_search.specs.declared.cells.Source.{Source}
 use Rattle.cell_search.specs.declared.cells.Source.the-variants as source
 use Rattle.cell_search.specs.declared.cells.CellField.{CellField}
@@ -14,7 +14,7 @@ use Rattle.cell_search.specs.declared.search.Search.the-variants.{Missin
 
 unfoldable pub cellsOf : Source → Scene → List Cell
 cellsOf source.Input s = map (λ (i : Input). i .cell) (s .inputs)
-cellsOf source.Output s = s .outputs
+cellsOf source.Output s = map (λ (o : Output). o .cell) (s .outputs)
 cellsOf source.CellDep s = s .deps
 
 unfoldable pub cellHash : CellField → Cell → List ℕ

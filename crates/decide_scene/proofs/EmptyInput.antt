@@ -1,4 +1,4 @@
--- 01: "Empty input prints exactly `answer,2,0,0,`." With its byte 10:
+-- 02, change 9: "empty input prints `answer,2,0,0,,`." With its byte 10:
 -- Assumes nothing.
 use mathlib.Core.Path.{_≡_, refl}
 use mathlib.Core.List.{[], _∷_}
@@ -6,10 +6,10 @@ use Rattle.protocol.specs.Rows.{_▷_, decide}
 use Rattle.scene_text.specs.Text.{pieces}
 use Rattle.scene_reader.specs.Reader.{sceneEndRows, linesRows, linesPut, readerStart, sceneLimitRows, sceneRows, readOf}
 use Rattle.account_lock.specs.Lock as lock
-use Rattle.answer_line.specs.Line.{answerWord, numberText, digestText, lineOf}
+use Rattle.answer_line.specs.Line.{answerWord, numberText, digestText, feeText, lineOf}
 use Rattle.scene_text.specs.Print.{partedBy, lineText, decimalText}
 use Rattle.decide_scene.specs.Decided.{decidedBy, decided, programDecides, resultLine, programLine}
 
-pub empty-input : programLine [] ≡ 97 ∷ 110 ∷ 115 ∷ 119 ∷ 101 ∷ 114 ∷ 44 ∷ 50 ∷ 44 ∷ 48 ∷ 44 ∷ 48 ∷ 44 ∷ 10 ∷ []
-unfolding programLine resultLine programDecides decided decidedBy readOf sceneRows sceneLimitRows linesRows linesPut sceneEndRows readerStart decide _▷_ pieces lock.refused lineOf lineText partedBy answerWord numberText digestText decimalText
+pub empty-input : programLine [] ≡ 97 ∷ 110 ∷ 115 ∷ 119 ∷ 101 ∷ 114 ∷ 44 ∷ 50 ∷ 44 ∷ 48 ∷ 44 ∷ 48 ∷ 44 ∷ 44 ∷ 10 ∷ []
+unfolding programLine resultLine programDecides decided decidedBy readOf sceneRows sceneLimitRows linesRows linesPut sceneEndRows readerStart decide _▷_ pieces lock.refused lineOf lineText partedBy answerWord numberText digestText feeText decimalText
 empty-input = refl

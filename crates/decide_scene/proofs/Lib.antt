@@ -2,3 +2,4 @@ pub mod Outcomes
 pub mod StoreEnough
 pub mod EmptyInput
 pub mod Numbers
+pub mod TextFee

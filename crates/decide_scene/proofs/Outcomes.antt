@@ -30,7 +30,7 @@ held-decides (readerRefuses d) n m room h = failed-passed d h
 held-decides (readerHolds x) n m room h = refl
 
 -- the line of an answer
-pub told-line : (a : LockAnswer) (r : lock.Result) → a ≡ lock.answerOf r → lineOf (checkNumber (a .found)) (a .count) (a .length) (a .reached) (a .digest) ≡ resultLine r
+pub told-line : (a : LockAnswer) (r : lock.Result) → a ≡ lock.answerOf r → lineOf (checkNumber (a .found)) (a .count) (a .length) (a .reached) (a .digest) (a .fee) ≡ resultLine r
 unfolding resultLine lock.answerOf
 told-line a r e = rw e
 

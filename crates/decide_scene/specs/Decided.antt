@@ -37,13 +37,13 @@ programDecides scene =
     cond (ltb programSceneMaxLength (length scene)) (lock.refused (Failed SceneTooLong))
     (decided scene programSceneMaxLength tableMinEntries answerBufferLength)
 
--- "prints one line `answer,NUMBER,COUNT,LENGTH,DIGEST`"
+-- "prints one line `answer,NUMBER,COUNT,LENGTH,DIGEST`"; 02, change 9: "On acceptance the answer line ends with a further field FEE"
 unfoldable pub resultLine : lock.Result → List ℕ
-resultLine r = lineOf (checkNumber (r .found)) (r .count) (length (r .made)) (r .reached) (r .digest)
+resultLine r = lineOf (checkNumber (r .found)) (r .count) (length (r .made)) (r .reached) (r .digest) (r .fee)
 
 -- the line of what the lock answers in the code
 abbrev pub lockAnswerLine : LockAnswer → List ℕ
-lockAnswerLine found = lineOf (checkNumber (found .found)) (found .count) (found .length) (found .reached) (found .digest)
+lockAnswerLine found = lineOf (checkNumber (found .found)) (found .count) (found .length) (found .reached) (found .digest) (found .fee)
 
 -- the line that the program prints of a scene
 unfoldable pub programLine : List ℕ → List ℕ

@@ -24,7 +24,7 @@ pub const PROGRAM_SCENE_MAX_LEN: usize = 65_536;
 
 // The line that the program prints: the first `length` bytes.
 pub struct ProgramLine {
-    pub bytes: [u8; 135],
+    pub bytes: [u8; 156],
     pub length: usize,
 }
 
@@ -49,7 +49,7 @@ pub fn decide_scene(
 
 fn put_answer(found: LockAnswer, line: &mut [u8]) -> usize
     ensures { λ r. ⌜ r ≡ length (lockAnswerLine found) ⌝ }
-    ensures { λ r. ⌜ r ≤ 135 ⌝ }
+    ensures { λ r. ⌜ r ≤ 156 ⌝ }
     ensures { λ _. ⌜ now (line .exit) ≡ sets (now (line .entry)) 0 (lockAnswerLine found) ⌝ }
 {
     let check = found.found;
@@ -60,6 +60,7 @@ fn put_answer(found: LockAnswer, line: &mut [u8]) -> usize
         found.length,
         found.reached,
         digest,
+        found.fee,
         line,
     )
 }
@@ -82,10 +83,10 @@ fn program_answer(scene: &[u8]) -> LockAnswer
 // The program's line of a scene, zeros behind it.
 pub fn program_line(scene: &[u8]) -> ProgramLine
     ensures { λ r. ⌜ r .length ≡ length (programLine (now (scene .entry))) ⌝ }
-    ensures { λ r. ⌜ r .length ≤ 135 ⌝ }
-    ensures { λ r. ⌜ r .bytes ≡ arrayOf 135 (programLine (now (scene .entry))) ⌝ }
+    ensures { λ r. ⌜ r .length ≤ 156 ⌝ }
+    ensures { λ r. ⌜ r .bytes ≡ arrayOf 156 (programLine (now (scene .entry))) ⌝ }
 {
-    let mut bytes = [0u8; 135];
+    let mut bytes = [0u8; 156];
     let length = put_answer(program_answer(scene), &mut bytes);
     ProgramLine { bytes, length }
 }

@@ -15,9 +15,9 @@ use Rattle.account_lock.specs.Lock.{Result, answerOf}
 use Rattle.scene_reader.specs.Reader.{readOf, readerStore, readerTable}
 use Rattle.account_lock.specs.declared.answer.LockAnswer.{LockAnswer}
 
--- 01: "slices that don't agree with each other are 7, before all else": `out` is lent for the answer's 56 bytes
+-- 01: "slices that don't agree with each other are 7, before all else": `out` is lent for the answer's 64 bytes
 unfoldable pub answerFits : List ℕ → Bool
-answerFits out = leb 56 (length out)
+answerFits out = leb 64 (length out)
 
 -- the number: the lock's own, 7 where there is no room
 unfoldable pub roomNumber : List ℕ → ℕ → ℕ
@@ -31,9 +31,10 @@ roomAfter out after before = cond (answerFits out) after before
 unfoldable pub answerWords : LockAnswer → List ℕ
 answerWords a = a .count ∷ a .length ∷ cond (a .reached) 1 0 ∷ []
 
--- the words, and the digest behind them, zeros where it is not reached; what is behind it stays
+-- the words, and the digest behind them, zeros where it is not reached; then the fee as the word at bytes 56 to 63, 0 on refusal; what
+-- is behind it stays
 unfoldable pub answerStored : LockAnswer → List ℕ → List ℕ
-answerStored a out = sets out 0 (wordBytes (answerWords a) ++ a .digest)
+answerStored a out = sets (sets out 0 (wordBytes (answerWords a) ++ a .digest)) 56 (wordBytes (a .fee ∷ []))
 
 -- The promise of the lock: the number r that it returns, the requests in the answer buffer, and its answer in `out`.
 abbrev pub StoresDecision : Result → List ℕ → List ℕ → ℕ → List ℕ → List ℕ → Type 0

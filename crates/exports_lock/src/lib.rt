@@ -4,6 +4,7 @@ use account_lock::lock;
 use decide_scene::decide_scene;
 use export_answers::store_words;
 use octets::store_bytes;
+use octets::store_number;
 use protocol::ProtocolError;
 use protocol::check_number;
 use protocol::error_number;
@@ -14,12 +15,12 @@ ghost use Rattle.account_lock.specs.Lock.{lockOf};
 ghost use Rattle.decide_scene.specs.Decided.{decided};
 ghost use Rattle.exports_lock.specs.Stored.{answerStored, StoresDecision, StoresScene};
 
-// Three words and the digest.
-const ANSWER_LEN: usize = 56;
+// Three words, the digest, and the fee.
+const ANSWER_LEN: usize = 64;
 
-// Stores count, length and whether the digest is reached, as words, and the digest behind them.
+// Stores count, length and whether the digest is reached, as words, the digest behind them, and the fee as a further word.
 fn store_answer(answer: LockAnswer, out: &mut [u8])
-    requires { ⌜ 56 ≤ length (now out) ⌝ }
+    requires { ⌜ 64 ≤ length (now out) ⌝ }
     ensures { λ _. ⌜ now (out .exit) ≡ answerStored answer (now (out .entry)) ⌝ }
 {
     let words = [
@@ -30,6 +31,7 @@ fn store_answer(answer: LockAnswer, out: &mut [u8])
     store_words(&words, out);
     let digest = answer.digest;
     store_bytes(out, 24, &digest);
+    store_number(out, 56, 8, answer.fee);
 }
 
 // Decides the transaction that table and store hold, writes the requests to the front of `answer`, and returns document

@@ -8,7 +8,7 @@ use borrow.Author.Tests.{leb-true}
 use lib.Dec.{leb}
 use Rattle.protocol.specs.Errors.{errorNumber}
 use Rattle.protocol.specs.declared.error.ProtocolError.{ProtocolError}
-use Rattle.protocol.specs.declared.error.ProtocolError.the-variants.{SceneTooLong, InvalidLine, InvalidField, TooManyLines, BufferTooShort, StoreTooShort, SlicesDisagree, InvalidArgs, InvalidState, InvalidWitness, StateNotFound, DuplicateState, StateConsumedOnSpend, InvalidTransition, InvalidSequence, ThresholdUnsatisfied, InvalidCapability, InvalidVerifierRef, VerifierFailure, UnsupportedVersion, UnsupportedAlgorithm, RecoveryLocked, InvalidRequest, InvalidProof, InvalidOperation, UnsatisfiableThreshold, LengthOverflow, HashMismatch, InvalidSince, AuxTooLong, SessionWithdrawn}
+use Rattle.protocol.specs.declared.error.ProtocolError.the-variants.{SceneTooLong, InvalidLine, InvalidField, TooManyLines, BufferTooShort, StoreTooShort, SlicesDisagree, InvalidArgs, InvalidState, InvalidWitness, StateNotFound, DuplicateState, StateConsumedOnSpend, InvalidTransition, InvalidSequence, ThresholdUnsatisfied, InvalidCapability, InvalidVerifierRef, VerifierFailure, UnsupportedVersion, UnsupportedAlgorithm, RecoveryLocked, InvalidRequest, InvalidProof, InvalidOperation, UnsatisfiableThreshold, LengthOverflow, HashMismatch, InvalidSince, AuxTooLong, OutputsExceedInputs, SessionWithdrawn}
 
 -- every refusal has a number of at least 1
 numbered : (e : ProtocolError) → leb 1 (errorNumber e) ≡ true
@@ -42,6 +42,7 @@ numbered LengthOverflow = refl
 numbered HashMismatch = refl
 numbered InvalidSince = refl
 numbered AuxTooLong = refl
+numbered OutputsExceedInputs = refl
 numbered SessionWithdrawn = refl
 
 -- so none has 0

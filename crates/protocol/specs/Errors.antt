@@ -1,9 +1,10 @@
 -- The number of each refusal: error.rs has 20 to 39 ("Error numbers are 20 to 39."), document 01's table "Where each refusal is
 -- raised" the port's own, 1 to 7, and document 02 those from 40 on: "40 where a hash differs", "42 where either number has a
--- reserved bit", "44 in each entry", "49, after the successor's own checks".
+-- reserved bit", "44 in each entry", "48 where outputs exceed inputs", "49, after
+-- the successor's own checks".
 use Prim.Native.Nat.{ℕ}
 use Rattle.protocol.specs.declared.error.ProtocolError.{ProtocolError}
-use Rattle.protocol.specs.declared.error.ProtocolError.the-variants.{SceneTooLong, InvalidLine, InvalidField, TooManyLines, BufferTooShort, StoreTooShort, SlicesDisagree, InvalidArgs, InvalidState, InvalidWitness, StateNotFound, DuplicateState, StateConsumedOnSpend, InvalidTransition, InvalidSequence, ThresholdUnsatisfied, InvalidCapability, InvalidVerifierRef, VerifierFailure, UnsupportedVersion, UnsupportedAlgorithm, RecoveryLocked, InvalidRequest, InvalidProof, InvalidOperation, UnsatisfiableThreshold, LengthOverflow, HashMismatch, InvalidSince, AuxTooLong, SessionWithdrawn}
+use Rattle.protocol.specs.declared.error.ProtocolError.the-variants.{SceneTooLong, InvalidLine, InvalidField, TooManyLines, BufferTooShort, StoreTooShort, SlicesDisagree, InvalidArgs, InvalidState, InvalidWitness, StateNotFound, DuplicateState, StateConsumedOnSpend, InvalidTransition, InvalidSequence, ThresholdUnsatisfied, InvalidCapability, InvalidVerifierRef, VerifierFailure, UnsupportedVersion, UnsupportedAlgorithm, RecoveryLocked, InvalidRequest, InvalidProof, InvalidOperation, UnsatisfiableThreshold, LengthOverflow, HashMismatch, InvalidSince, AuxTooLong, OutputsExceedInputs, SessionWithdrawn}
 
 abbrev pub errorNumber : ProtocolError → ℕ
 errorNumber SceneTooLong = 1
@@ -36,4 +37,5 @@ errorNumber LengthOverflow = 39
 errorNumber HashMismatch = 40
 errorNumber InvalidSince = 42
 errorNumber AuxTooLong = 44
+errorNumber OutputsExceedInputs = 48
 errorNumber SessionWithdrawn = 49

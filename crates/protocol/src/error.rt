@@ -33,6 +33,7 @@ pub enum ProtocolError {
     HashMismatch,
     InvalidSince,
     AuxTooLong,
+    OutputsExceedInputs,
     SessionWithdrawn,
 }
 
@@ -71,6 +72,7 @@ pub fn error_number(error: ProtocolError) -> u8
         ProtocolError::HashMismatch => 40,
         ProtocolError::InvalidSince => 42,
         ProtocolError::AuxTooLong => 44,
+        ProtocolError::OutputsExceedInputs => 48,
         ProtocolError::SessionWithdrawn => 49,
     }
 }

@@ -21,12 +21,12 @@ rank Witness = 6
 rank Verdicts = 7
 rank Unknown = 0
 
--- how many fields follow the word, as 01 lists them
+-- how many fields follow the word, as 01 lists them; 02, change 9: "Input and output lines end with a new field CAPACITY"
 abbrev pub fieldCount : Kind → ℕ
 fieldCount Script = 1
 fieldCount Tx = 1
-fieldCount Input = 6
-fieldCount Output = 4
+fieldCount Input = 7
+fieldCount Output = 5
 fieldCount Dep = 4
 fieldCount Witness = 1
 fieldCount Verdicts = 1

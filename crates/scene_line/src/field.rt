@@ -5,17 +5,17 @@ use protocol::DIGITS_MAX_COUNT;
 use scene_text::Decimal;
 use scene_text::all_between;
 use scene_text::hex_ok;
-use scene_text::since;
+use scene_text::read_decimal;
 ghost use mathlib.Core.Path.{_≡_};
 ghost use Prim.Native.Nat.{_≤_};
 ghost use lib.ListN.{length};
-ghost use Rattle.scene_text.specs.Text.{sinceOf};
+ghost use Rattle.scene_text.specs.Text.{decimalOf};
 ghost use Rattle.scene_line.specs.Line.{isNumber, hashTextOk, fieldOk, bareAfter, fieldBytes};
 
 fn number_ok(f: &[u8]) -> bool
-    ensures { λ r. ⌜ r ≡ isNumber (sinceOf (now (f .entry))) ⌝ }
+    ensures { λ r. ⌜ r ≡ isNumber (decimalOf (now (f .entry))) ⌝ }
 {
-    match since(f) {
+    match read_decimal(f) {
         Decimal::Value(_) => true,
         Decimal::Invalid => false,
     }
@@ -63,6 +63,7 @@ pub(crate) fn field_ok(bare: bool, t: Form, f: &[u8]) -> bool
         Form::Hash => hash_ok(f),
         Form::TypeScript => type_script_ok(bare, f),
         Form::Hex => hex_ok(f),
+        Form::Capacity => number_ok(f),
         Form::Digits => {
             if DIGITS_MAX_COUNT < f.len() {
                 return false;
@@ -83,6 +84,7 @@ pub(crate) fn bare_after(bare: bool, t: Form, f: &[u8]) -> bool
         Form::Hash => bare,
         Form::TypeScript => bare,
         Form::Hex => bare,
+        Form::Capacity => bare,
         Form::Digits => bare,
     }
 }

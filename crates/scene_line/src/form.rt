@@ -9,6 +9,7 @@ pub enum Form {
     Hash,
     TypeScript,
     Hex,
+    Capacity,
     Digits,
 }
 
@@ -22,7 +23,8 @@ pub fn next_form(t: Form) -> Form
         Form::TypeHash => Form::Hash,
         Form::Hash => Form::TypeScript,
         Form::TypeScript => Form::Hex,
-        Form::Hex => Form::Hex,
+        Form::Hex => Form::Capacity,
+        Form::Capacity => Form::Capacity,
         Form::Digits => Form::Digits,
     }
 }
@@ -38,6 +40,7 @@ pub fn hex_form(t: Form) -> bool
         Form::Hash => true,
         Form::TypeScript => true,
         Form::Hex => true,
+        Form::Capacity => false,
         Form::Digits => false,
     }
 }

@@ -50,8 +50,8 @@ fn field_count(k: Kind) -> usize
     match k {
         Kind::Script => 1,
         Kind::Tx => 1,
-        Kind::Input => 6,
-        Kind::Output => 4,
+        Kind::Input => 7,
+        Kind::Output => 5,
         Kind::Dep => 4,
         Kind::Witness => 1,
         Kind::Verdicts => 1,

@@ -1,91 +1,82 @@
 -- A line's numbers fit into the table. Assumes nothing.
-use Prim.Native.Nat.{ℕ, suc, _+_, _-_, _*_, _≤_, _<_}
+use Prim.Native.Nat.{ℕ, zero, suc, _+_, _≤_, _<_}
 use mathlib.Core.Bool.{Bool, true, false, cond, not, _&&_, false≢true}
 use mathlib.Core.Path.{_≡_, refl, sym, _∙_}
 use mathlib.Core.List.{List, [], _∷_}
 use mathlib.Core.Logic.{_⊎_, inl, inr, ⊎-elim}
 use native.Mathlib.Omega.{arith}
-use native.Mathlib.Nat.{eq-or-lt-of-le}
-use lib.ListN.{length, length-append, length-map}
+use native.Mathlib.Nat.{eq-or-lt-of-le, le-of-suc-le-suc, mul-le-mul-left}
+use lib.ListN.{length, getD, length-append, length-map}
 use lib.Dec.{ltb, leb, eqb}
-use borrow.Author.Tests.{eq-eqb, eqb-true, leb-true, ltb-true, ltb-false, eqb-false}
+use borrow.Author.Tests.{eq-eqb, eqb-true, leb-true, lt-ltb, ltb-true, ltb-false, eqb-false}
 use Rattle.octets.specs.Lists.{every}
 use Rattle.scene_line.specs.declared.form.Form.{Form}
-use Rattle.scene_line.specs.declared.form.Form.the-variants.{Group, Since, TypeHash, Hash, TypeScript, Hex, Digits}
+use Rattle.scene_line.specs.declared.form.Form.the-variants.{Group, Since, TypeHash, Hash, TypeScript, Hex, Capacity, Digits}
 use Rattle.scene_line.specs.declared.kind.Kind.{Kind}
 use Rattle.scene_line.specs.declared.kind.Kind.the-variants.{Script, Tx, Input, Output, Dep, Witness, Verdicts, Unknown}
-use Rattle.scene_text.specs.Text.{hexVal, sinceOf, inRange}
-use Rattle.scene_line.specs.Line.{nextForm, fieldEntries, lineEntries, formsOk}
+use Rattle.scene_text.specs.Text.{hexVal, inRange}
+use Rattle.scene_line.specs.Line.{nextForm, fieldOk, bareAfter, fieldEntries, lineEntries, formsOk}
 use Rattle.scene_line.proofs.KindLaws.{rank-small}
 use Rattle.scene_line.specs.Kind.{rank, fieldCount, firstForm, follows}
 use Rattle.protocol.specs.Limits.{tableMinEntries}
 use Rattle.octets.proofs.Truth.{and-left, and-right}
 use Rattle.scene_reader.specs.Reader.{seenWith}
-use Rattle.scene_reader.specs.Room.{entriesLimit}
-use Rattle.scene_reader.proofs.NumberLaws.{halves-length}
+use Rattle.scene_reader.specs.Room.{entriesBefore, entriesEach, entriesLimit}
 
--- how many numbers n fields have at most, the first of form t; DIGITS apart
+-- how many entries a field of form t has at most
+fieldMost : Form → ℕ
+fieldMost Group = 1
+fieldMost Since = 2
+fieldMost TypeHash = 0
+fieldMost Hash = 0
+fieldMost TypeScript = 1
+fieldMost Hex = 1
+fieldMost Capacity = 2
+fieldMost Digits = 17
+
+field-few : (b : Bool) (t : Form) (f : List ℕ) → fieldOk b t f ≡ true → length (fieldEntries t f) ≤ fieldMost t
+unfolding fieldMost
+field-few b Group f ok = omega arith
+field-few b Since f ok = omega arith
+field-few b TypeHash f ok = omega arith
+field-few b Hash f ok = omega arith
+field-few b TypeScript f ok = omega arith
+field-few b Hex f ok = omega arith
+field-few b Capacity f ok = omega arith
+field-few b Digits f ok = omega (arith, length-map f hexVal, leb-true (length f) 16 (and-left (leb (length f) 16) (every (inRange 48 50) f) ok))
+
+-- the same of n fields, the first of form t
 most : Form → ℕ → ℕ
-most Group n = 3 + (n - 4)
-most Since n = 2 + (n - 3)
-most TypeHash n = n - 2
-most Hash n = n - 1
-most TypeScript n = n
-most Hex n = n
-most Digits n = 0
+most t zero = 0
+most t (suc n) = fieldMost t + most (nextForm t) n
 
-notDigits : Form → Bool
-notDigits Group = true
-notDigits Since = true
-notDigits TypeHash = true
-notDigits Hash = true
-notDigits TypeScript = true
-notDigits Hex = true
-notDigits Digits = false
+numbers-few : (b : Bool) (t : Form) (fs : List (List ℕ)) → formsOk b t fs ≡ true → length (lineEntries t fs) ≤ most t (length fs)
+unfolding lineEntries formsOk most
+numbers-few b t [] ok = omega arith
+numbers-few b t (f ∷ fs) ok =
+    let rest = formsOk (bareAfter b t f) (nextForm t) fs in
+    let few = field-few b t f (and-left (fieldOk b t f) rest ok) in
+    let others = numbers-few (bareAfter b t f) (nextForm t) fs (and-right (fieldOk b t f) rest ok) in
+    omega (arith, length-append (fieldEntries t f) (lineEntries (nextForm t) fs))
 
--- the same at the first field: what it adds and what is left
-adds : (t : Form) (f : List ℕ) (n : ℕ) → notDigits t ≡ true → length (fieldEntries t f) + most (nextForm t) n ≤ most t (suc n)
-unfolding most notDigits
-adds Group f n e = omega arith
-adds Since f n e = omega (arith, halves-length (sinceOf f))
-adds TypeHash f n e = omega arith
-adds Hash f n e = omega arith
-adds TypeScript f n e = omega arith
-adds Hex f n e = omega arith
-adds Digits f n e = absurd (false≢true e)
+-- how many a line of the kind of rank k takes at most, with its offset in the store
+takes : ℕ → ℕ
+takes k = getD (2 ∷ 2 ∷ 1 ∷ 8 ∷ 5 ∷ 3 ∷ 2 ∷ 18 ∷ []) k 0
 
-stays : (t : Form) → notDigits t ≡ true → notDigits (nextForm t) ≡ true
-unfolding notDigits
-stays Group e = refl
-stays Since e = refl
-stays TypeHash e = refl
-stays Hash e = refl
-stays TypeScript e = refl
-stays Hex e = refl
-stays Digits e = e
+most-takes : (k : Kind) → 1 + most (firstForm k) (fieldCount k) ≡ takes (rank k)
+unfolding most fieldMost takes
+most-takes Script = refl
+most-takes Tx = refl
+most-takes Input = refl
+most-takes Output = refl
+most-takes Dep = refl
+most-takes Witness = refl
+most-takes Verdicts = refl
+most-takes Unknown = refl
 
-numbers-few : (t : Form) (fs : List (List ℕ)) → notDigits t ≡ true → length (lineEntries t fs) ≤ most t (length fs)
-unfolding lineEntries
-numbers-few t [] e = omega arith
-numbers-few t (f ∷ fs) e =
-    omega (arith, length-append (fieldEntries t f) (lineEntries (nextForm t) fs), numbers-few (nextForm t) fs (stays t e), adds t f (length fs) e)
-
--- what a line adds to the table: at most 6 entries, or 18 for verdicts
-pub entries-few : (k : Kind) (fs : List (List ℕ)) → length fs ≡ fieldCount k → formsOk true (firstForm k) fs ≡ true
-    → 1 + length (lineEntries (firstForm k) fs) ≤ 6 + 12 * (rank k - 6)
-unfolding most notDigits lineEntries formsOk
-entries-few Script fs n ok = omega (arith, numbers-few Hex fs refl)
-entries-few Tx fs n ok = omega (arith, numbers-few Hash fs refl)
-entries-few Input fs n ok = omega (arith, numbers-few Group fs refl)
-entries-few Output fs n ok = omega (arith, numbers-few TypeHash fs refl)
-entries-few Dep fs n ok = omega (arith, numbers-few TypeHash fs refl)
-entries-few Witness fs n ok = omega (arith, numbers-few Hex fs refl)
-entries-few Verdicts [] n ok = omega arith
-entries-few Verdicts (f ∷ []) n ok =
-    let short : length f ≤ 16 = leb-true (length f) 16 (and-left (leb (length f) 16) (every (inRange 48 50) f) (and-left (leb (length f) 16 && every (inRange 48 50) f) true ok)) in
-    omega (arith, length-map f hexVal, length-append (fieldEntries Digits f) [])
-entries-few Verdicts (f ∷ g ∷ fs) n ok = absurd (omega arith)
-entries-few Unknown fs n ok = omega (arith, numbers-few Hex fs refl)
+entries-few : (k : Kind) (fs : List (List ℕ)) → length fs ≡ fieldCount k → formsOk true (firstForm k) fs ≡ true
+    → 1 + length (lineEntries (firstForm k) fs) ≤ takes (rank k)
+entries-few k fs n ok = omega (arith, rw n at (numbers-few true (firstForm k) fs ok), most-takes k)
 
 pub seen-few : (last seen k : ℕ) → seenWith last seen k ≤ seen + 1
 seen-few last seen k = go (eqb k last)
@@ -111,31 +102,48 @@ order last k e = go (ltb last 2) refl e
           λ q. let z : not (eqb last 7) ≡ false = rw (eq-eqb last 7 q) in false≢true (sym z ∙ and-right (leb last k) (not (eqb last 7)) r),
         )
 
--- the limit, without its least and its differences
-entries-limit-late : (k n : ℕ) → 3 ≤ k → n ≤ 64 → entriesLimit k n ≡ 20 + 400 * (k - 3) + 6 * n
+-- a test of all numbers below n, by computing it at each
+allBelow : ℕ → (ℕ → Bool) → Bool
+allBelow zero p = true
+allBelow (suc n) p = p n && allBelow n p
+
+below : (n : ℕ) (p : ℕ → Bool) (k : ℕ) → k < n → allBelow n p ≡ true → p k ≡ true
+unfolding allBelow
+below zero p k h e = absurd (omega arith)
+below (suc n) p k h e =
+    ⊎-elim
+    (λ q. rw q (and-left (p n) (allBelow n p) e))
+    (λ q. below n p k q (and-right (p n) (allBelow n p) e))
+    (eq-or-lt-of-le (le-of-suc-le-suc h))
+
+-- the most lines of one kind leave room for a line of a later kind
+laterFits : ℕ → ℕ → Bool
+laterFits last k = cond (ltb last k) (leb (entriesLimit last 64 + takes k) (entriesLimit k 1)) true
+
+-- the limit has room for one more line of a kind that may stand many times
+sameFits : ℕ → Bool
+sameFits k = cond (ltb 2 k && ltb k 7) (leb (takes k) (entriesEach k)) true
+
+later-fits : (last k : ℕ) → last < k → k < 8 → entriesLimit last 64 + takes k ≤ entriesLimit k 1
+unfolding allBelow laterFits takes entriesLimit entriesBefore entriesEach
+later-fits last k h hk =
+    let all : laterFits last k ≡ true = below 8 (laterFits last) k hk (below 8 (λ (l : ℕ). allBelow 8 (laterFits l)) last (omega arith) refl) in
+    leb-true _ _ (rw (lt-ltb last k h) at all)
+
+same-fits : (k : ℕ) → 2 < k → k < 7 → takes k ≤ entriesEach k
+unfolding allBelow sameFits takes entriesEach
+same-fits k a b =
+    let all : sameFits k ≡ true = below 8 sameFits k (omega arith) refl in
+    leb-true _ _ (rw (lt-ltb 2 k a, lt-ltb k 7 b) at all)
+
+-- no more than with 64 lines of the last kind
+entries-limit-most : (k n : ℕ) → n ≤ 64 → entriesLimit k n ≤ entriesLimit k 64
 unfolding entriesLimit
-entries-limit-late k n hk hn = omega arith
+entries-limit-most k n h = omega (arith, mul-le-mul-left (entriesEach k) h)
 
-entries-limit-early : (k n : ℕ) → k ≤ 2 → entriesLimit k n ≡ 8 + 6 * k
+entries-limit-next : (k n : ℕ) → entriesLimit k (n + 1) ≡ entriesLimit k n + entriesEach k
 unfolding entriesLimit
-entries-limit-early k n hk = omega arith
-
-module _ (last seen k n c filled : ℕ) (hk : k < 8) (hs : seen ≤ 64) (hn : n ≤ 64) (hf : filled ≤ entriesLimit last seen) (hc : c ≤ 6 + 12 * (k - 6)) where
-  -- a line of c entries: script or tx
-  grows-first : last < 2 → k ≡ last + 1 → filled + c ≤ entriesLimit k n
-  grows-first a b = omega (arith, entries-limit-early last seen (omega arith), entries-limit-early k n (omega arith))
-
-  -- one behind tx
-  grows-second : last ≡ 2 → 3 ≤ k → 1 ≤ n → filled + c ≤ entriesLimit k n
-  grows-second a b d = omega (arith, entries-limit-early last seen (omega arith), entries-limit-late k n b hn)
-
-  -- one of the same kind as the last
-  grows-same : 3 ≤ last → k ≡ last → (last ≡ 7 → ⊥) → n ≡ seen + 1 → filled + c ≤ entriesLimit k n
-  grows-same a b d e = omega (arith, entries-limit-late last seen a hs, entries-limit-late k n (omega arith) hn)
-
-  -- one of a later kind
-  grows-later : 3 ≤ last → last < k → n ≡ 1 → filled + c ≤ entriesLimit k n
-  grows-later a b e = omega (arith, entries-limit-late last seen a hs, entries-limit-late k n (omega arith) hn)
+entries-limit-next k n = omega arith
 
 seen-either : (last seen k : ℕ) → ((k ≡ last) × (seenWith last seen k ≡ seen + 1)) ⊎ ((k ≡ last → ⊥) × (seenWith last seen k ≡ 1))
 seen-either last seen k = go (eqb k last) refl
@@ -144,26 +152,35 @@ seen-either last seen k = go (eqb k last) refl
     go true t = inl (eqb-true k last t, refl)
     go false t = inr (eqb-false k last t, refl)
 
--- the entries in use stay within the limit
-grows : (last seen k n c filled : ℕ) → k < 8 → seen ≤ 64 → n ≤ 64 → filled ≤ entriesLimit last seen → c ≤ 6 + 12 * (k - 6)
-    → ((last < 2) × (k ≡ last + 1)) ⊎ ((2 ≤ last) × (3 ≤ k) × (last ≤ k) × (last ≡ 7 → ⊥)) → ((k ≡ last) × (n ≡ seen + 1)) ⊎ ((k ≡ last → ⊥) × (n ≡ 1))
-    → filled + c ≤ entriesLimit k n
-grows last seen k n c filled hk hs hn hf hc (inl a) w = grows-first last seen k n c filled hk hs hn hf hc (a .0) (a .1)
-grows last seen k n c filled hk hs hn hf hc (inr a) (inl u) = grows-same last seen k n c filled hk hs hn hf hc (omega arith) (u .0) (a .3) (u .1)
-grows last seen k n c filled hk hs hn hf hc (inr a) (inr u) =
-    ⊎-elim
-    (λ e. grows-second last seen k n c filled hk hs hn hf hc (sym e) (a .1) (omega arith))
-    (λ h. grows-later last seen k n c filled hk hs hn hf hc h (omega arith) (u .1))
-    (eq-or-lt-of-le (a .0))
+module _ (last seen k n c filled : ℕ) (hk : k < 8) (hs : seen ≤ 64) (hf : filled ≤ entriesLimit last seen) (hc : c ≤ takes k) where
+  -- a line of c entries: one of the same kind as the last
+  grows-same : k ≡ last → 2 < k → k < 7 → n ≡ seen + 1 → filled + c ≤ entriesLimit k n
+  grows-same e a b q =
+      let same : entriesLimit k seen ≡ entriesLimit last seen = rw e in
+      rw q (omega (arith, entries-limit-next k seen, same-fits k a b))
 
-pub fits : (last seen filled : ℕ) (k : Kind) (fs : List (List ℕ)) → last < 8 → seen ≤ 64 → filled ≤ entriesLimit last seen → seenWith last seen (rank k) ≤ 64
+  -- one of a later kind
+  grows-later : last < k → n ≡ 1 → filled + c ≤ entriesLimit k n
+  grows-later h q = rw q (omega (arith, entries-limit-most last seen hs, later-fits last k h hk))
+
+  -- the entries in use stay within the limit
+  grows : ((last < 2) × (k ≡ last + 1)) ⊎ ((2 ≤ last) × (3 ≤ k) × (last ≤ k) × (last ≡ 7 → ⊥)) → ((k ≡ last) × (n ≡ seen + 1)) ⊎ ((k ≡ last → ⊥) × (n ≡ 1))
+      → filled + c ≤ entriesLimit k n
+  grows (inl a) (inl u) = absurd (omega arith)
+  grows (inr a) (inl u) = grows-same (u .0) (omega arith) (omega arith) (u .1)
+  grows (inl a) (inr u) = grows-later (omega arith) (u .1)
+  grows (inr a) (inr u) = grows-later (omega arith) (u .1)
+
+pub fits : (last seen filled : ℕ) (k : Kind) (fs : List (List ℕ)) → seen ≤ 64 → filled ≤ entriesLimit last seen
     → length fs ≡ fieldCount k → follows last (rank k) ≡ true → formsOk true (firstForm k) fs ≡ true
     → filled + 1 + length (lineEntries (firstForm k) fs) ≤ entriesLimit (rank k) (seenWith last seen (rank k))
-fits last seen filled k fs hl hs hf hn n o ok =
-    let h = grows last seen (rank k) (seenWith last seen (rank k)) (1 + length (lineEntries (firstForm k) fs)) filled (rank-small k) hs hn hf (entries-few k fs n ok) (order last (rank k) o) (seen-either last seen (rank k)) in
+fits last seen filled k fs hs hf n o ok =
+    let h = grows last seen (rank k) (seenWith last seen (rank k)) (1 + length (lineEntries (firstForm k) fs)) filled (rank-small k) hs hf (entries-few k fs n ok) (order last (rank k) o) (seen-either last seen (rank k)) in
     let e : filled + 1 + length (lineEntries (firstForm k) fs) ≡ filled + (1 + length (lineEntries (firstForm k) fs)) = omega arith in
     rw e h
 
 pub entries-limit-small : (k n : ℕ) → k < 8 → n ≤ 64 → entriesLimit k n ≤ tableMinEntries
-unfolding entriesLimit
-entries-limit-small k n hk hn = omega arith
+unfolding allBelow entriesLimit entriesBefore entriesEach
+entries-limit-small k n hk hn =
+    let all : leb (entriesLimit k 64) tableMinEntries ≡ true = below 8 (λ (r : ℕ). leb (entriesLimit r 64) tableMinEntries) k hk refl in
+    omega (arith, entries-limit-most k n hn, leb-true (entriesLimit k 64) tableMinEntries all)

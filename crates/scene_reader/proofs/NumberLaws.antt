@@ -1,17 +1,10 @@
--- The numbers of fields: how many the halves are, and digits one by one. Assumes nothing.
+-- Digits one by one. Assumes nothing.
 use Prim.Native.Nat.{ℕ, _+_, _≤_, _<_}
-use mathlib.Core.Path.{_≡_, refl}
+use mathlib.Core.Path.{_≡_}
 use mathlib.Core.List.{List, [], _∷_, map}
 use native.Mathlib.Numerals.{add-one}
 use lib.ListN.{length, drop, getD, drop-of-length-le}
 use lib.Seq.{drop-cons}
-use Rattle.scene_text.specs.declared.decimal.Decimal.{Decimal}
-use Rattle.scene_text.specs.declared.decimal.Decimal.the-variants.{Value, Invalid}
-use Rattle.scene_line.specs.Line.{sinceHalves}
-
-pub halves-length : (n : Decimal) → length (sinceHalves n) ≡ 2
-halves-length (Value v) = refl
-halves-length Invalid = refl
 
 pub map-on : (g : ℕ → ℕ) (s : List ℕ) (i : ℕ) → i < length s → map g (drop i s) ≡ g (getD s i 0) ∷ map g (drop (i + 1) s)
 map-on g s i h = rw (add-one, drop-cons s i 0)

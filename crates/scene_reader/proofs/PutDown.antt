@@ -46,7 +46,7 @@ module _ (s : State) (st tb : List ℕ) (k : Kind) (fs : List (List ℕ)) where
     within : s .filled + 1 + length (lineEntries (firstForm k) fs) ≤ entriesLimit (rank k) (seenWith (s .last) (s .seen) (rank k))
     within =
         let o = shape (z .real) in
-        fits (s .last) (s .seen) (s .filled) k fs (ready .known) (ready .few) (ready .fits) (z .few) (o .0) (o .1) (z .forms)
+        fits (s .last) (s .seen) (s .filled) k fs (ready .few) (ready .fits) (o .0) (o .1) (z .forms)
 
     -- the table has room for the line
     pub room : (rank k < length tb) × (s .filled + 1 + length (lineEntries (firstForm k) fs) ≤ length tb)

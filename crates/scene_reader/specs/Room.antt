@@ -1,14 +1,14 @@
 -- Private: no public contract cites this file.
 -- The state in the code beside its definition, one line by its rows, and what private functions keep so that all that is written
 -- fits.
-use Prim.Native.Nat.{ℕ, _+_, _-_, _*_, _≤_, _<_, min}
-use mathlib.Core.List.{List}
+use Prim.Native.Nat.{ℕ, _+_, _*_, _≤_, _<_}
+use mathlib.Core.List.{List, [], _∷_}
 use Rattle.protocol.specs.Rows.{decide}
 use Rattle.protocol.specs.declared.check.Check.the-variants.{Passed}
 use Rattle.scene_line.specs.declared.kind.Kind.{Kind}
 use Rattle.protocol.specs.Limits.{sceneMaxLength, tableMinEntries, kindMaxLines}
 use mathlib.Core.Path.{_≡_}
-use lib.ListN.{length}
+use lib.ListN.{length, getD}
 use Rattle.protocol.specs.declared.check.Check.{Check}
 use Rattle.scene_line.specs.declared.fields.FieldsFound.{FieldsFound}
 use Rattle.scene_line.specs.Line.{fieldsFound}
@@ -45,10 +45,19 @@ lineOutcome h line = outcomeAfter (decide Passed (rowsOfLine h line)) (linePut h
 abbrev pub sceneEndOutcome : ReaderState → List ℕ → ReaderOutcome
 sceneEndOutcome h rest = outcomeAfter (decide Passed (sceneEndRows h rest)) h
 
--- the table's entries in use after lines up to the seen-th of the kind of rank last, at most: 8 counts, 6 for each line before
--- verdicts, 18 for verdicts
+-- how many entries of the table are in use, at most, with all lines before the kind of rank last, and where only one line may be
+-- of that kind with it: 8 counts, 2 for script, 1 for tx, then 64 of 8, 5, 3 and 2 for inputs, outputs, deps and witnesses,
+-- 18 for verdicts
+unfoldable pub entriesBefore : ℕ → ℕ
+entriesBefore last = getD (8 ∷ 10 ∷ 11 ∷ 11 ∷ 523 ∷ 843 ∷ 1035 ∷ 1181 ∷ []) last 0
+
+-- how many each further line of that kind takes
+unfoldable pub entriesEach : ℕ → ℕ
+entriesEach last = getD (0 ∷ 0 ∷ 0 ∷ 8 ∷ 5 ∷ 3 ∷ 2 ∷ 0 ∷ []) last 0
+
+-- the table's entries in use after lines up to the seen-th of the kind of rank last, at most
 unfoldable pub entriesLimit : ℕ → ℕ → ℕ
-entriesLimit last seen = 8 + 6 * min last 2 + 400 * (last - 3) + 6 * min seen (kindMaxLines * (last - 2))
+entriesLimit last seen = entriesBefore last + entriesEach last * seen
 
 -- a state with n bytes of text to come, a store of that many bytes and a table of that many entries
 pub record ReaderReady (s : State) (n store table : ℕ) : Type 0 where

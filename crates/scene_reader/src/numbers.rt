@@ -2,14 +2,15 @@
 use scene_line::Form;
 use scene_text::Decimal;
 use scene_text::hex_value;
-use scene_text::since;
+use scene_text::read_decimal;
 ghost use mathlib.Core.Path.{_≡_};
 ghost use Prim.Native.Nat.{_+_, _≤_};
 ghost use mathlib.Core.List.{_∷_, map};
 ghost use lib.ListN.{length, getD};
 ghost use lib.Seq.{sets};
-ghost use Rattle.scene_text.specs.Text.{hexVal, sinceOf};
-ghost use Rattle.scene_line.specs.Line.{sinceHalves, fieldEntries};
+ghost use Rattle.scene_text.specs.Text.{hexVal, decimalOf, numberIn};
+ghost use Rattle.octets.specs.Le.{u64Halves};
+ghost use Rattle.scene_line.specs.Line.{fieldEntries};
 ghost use Rattle.protocol.specs.Limits.{sceneMaxLength};
 
 // The value of the first digit of f.
@@ -23,11 +24,11 @@ fn digit(f: &[u8]) -> u8
 }
 
 // Puts the halves of the number that f is into the table at `at`.
-fn put_since(f: &[u8], table: &mut [u32], at: usize)
+fn put_halves(f: &[u8], table: &mut [u32], at: usize)
     requires { ⌜ at + 2 ≤ length (now table) ⌝ }
-    ensures { λ _. ⌜ now (table .exit) ≡ sets (now (table .entry)) at (sinceHalves (sinceOf (now (f .entry)))) ⌝ }
+    ensures { λ _. ⌜ now (table .exit) ≡ sets (now (table .entry)) at (u64Halves (numberIn (decimalOf (now (f .entry))))) ⌝ }
 {
-    match since(f) {
+    match read_decimal(f) {
         Decimal::Value(v) => {
             table[at] = (v % 4294967296) as u32;
             table[at + 1] = (v / 4294967296) as u32;
@@ -66,7 +67,7 @@ pub(crate) fn put_number(t: Form, f: &[u8], table: &mut [u32], at: usize) -> usi
             1
         }
         Form::Since => {
-            put_since(f, table, at);
+            put_halves(f, table, at);
             2
         }
         Form::TypeHash => 0,
@@ -78,6 +79,10 @@ pub(crate) fn put_number(t: Form, f: &[u8], table: &mut [u32], at: usize) -> usi
         Form::Hex => {
             table[at] = (f.len() / 2) as u32;
             1
+        }
+        Form::Capacity => {
+            put_halves(f, table, at);
+            2
         }
         Form::Digits => {
             put_digits(f, table, at);

@@ -25,7 +25,7 @@ use Rattle.scene_reading.proofs.Accepts.{accepted-passes, passes-accept
 use Rattle.scene_reading.proofs.Leaves.{scene-bytes-fit, passes-leaves}
 use Rattle.scene_reading.proofs.PrintBack.{reading-ok}
 use Rattle.scene_table.proofs.SceneBack.{numbers-few}
-use Rattle.scene_reading.proofs.SceneAccepts.{scene-accepts, scene-encodes}
+use Rattle.scene_reading.proofs.SceneAccepts.{reader-accepts, scene-encodes}
 use Rattle.scene_reading.proofs.Printed.{printed-passes, printed-lines, printed-reading}
 
 -- the lent table and store of an accepted text are read as its scene
@@ -42,7 +42,7 @@ module _ (table : List ℕ) (n : ℕ) (long : tableMinEntries ≤ length table) 
       let p = printed-passes s n ok fits in
       let r = passes-accepted (textOf s) n (length table) p in
       let l : sceneOf (p .lines) ≡ s = ap sceneOf (printed-lines s n ok fits) ∙ printed-reading s ok in
-      let w : length (sceneNumbers s) ≤ 925 = numbers-few s ok in
+      let w : length (sceneNumbers s) ≤ 1181 = numbers-few s ok in
       let f : length (sceneNumbers (sceneOf (p .lines))) ≤ length table = rw l (omega arith) in
       record { text = textOf s; left = r .0; ran = r .1; same = passes-leaves (textOf s) n p (length table) (r .0) (r .1) .1 f ∙ (rw l (sym e)) }
 
@@ -52,7 +52,7 @@ module _ (table : List ℕ) (n : ℕ) (long : tableMinEntries ≤ length table) 
       let p = accepted-passes (l .text) n (length table) (l .left) (l .ran) in
       let s = sceneOf (p .lines) in
       let ok = reading-ok (l .text) n p in
-      let w : length (sceneNumbers (sceneOf (p .lines))) ≤ 925 = numbers-few (sceneOf (p .lines)) ok in
+      let w : length (sceneNumbers (sceneOf (p .lines))) ≤ 1181 = numbers-few (sceneOf (p .lines)) ok in
       let f : length (sceneNumbers (sceneOf (p .lines))) ≤ length table = omega arith in
       (s, ok, scene-bytes-fit (l .text) n p, sym (l .same) ∙ passes-leaves (l .text) n p (length table) (l .left) (l .ran) .1 f)
 
@@ -73,7 +73,7 @@ module _ (text : List ℕ) (n m : ℕ) (e : readerCheck (readOf text n m) ≡ Pa
   pub left-store-length : length (reader.readerStore n (readOf text n m)) ≡ n
   unfolding sceneStore
   left-store-length =
-      let p = scene-accepts text n m .0 e .1 .1 in
+      let p = reader-accepts text n m .0 e .1 .1 in
       let l = scene-encodes text n m e p in
       rw (l .store) (padded-length (sceneBytes (sceneOf (p .lines))) n (l .fits))
 
@@ -81,7 +81,7 @@ module _ (text : List ℕ) (n m : ℕ) (e : readerCheck (readOf text n m) ≡ Pa
   pub reader-leaves-valid : validTable (reader.readerTable m (readOf text n m)) n ≡ true
   unfolding sceneTable
   reader-leaves-valid =
-      let a = scene-accepts text n m .0 e in
+      let a = reader-accepts text n m .0 e in
       let l = scene-encodes text n m e (a .1 .1) in
       let s = sceneOf (a .1 .1 .lines) in
       let k : length (sceneTable s m) ≡ m = padded-length (sceneNumbers s) m (l .few) in

@@ -1,20 +1,18 @@
 -- What the reader puts down of a line's fields is what they say.
 -- Assumes nothing.
-use Prim.Native.Nat.{ℕ, _/_, _%_, _^_}
-use mathlib.Core.Path.{_≡_, refl}
+use Prim.Native.Nat.{ℕ}
+use mathlib.Core.Path.{_≡_}
 use mathlib.Core.List.{List, [], _∷_, map, append-assoc, append-nil}
 use lib.ListN.{length-map}
-use Rattle.scene_text.specs.declared.decimal.Decimal.{Decimal}
-use Rattle.scene_text.specs.declared.decimal.Decimal.the-variants.{Value, Invalid}
 use Rattle.scene_text.specs.Text.{hexVal, hexBytes}
 use Rattle.scene_text.proofs.HexLaws.{hex-length}
 use Rattle.scene_line.specs.declared.form.Form.{Form}
 use Rattle.scene_line.specs.declared.form.Form.the-variants.{Group, TypeHash, Hash, Hex, Digits}
 use Rattle.scene_line.specs.Kind.{firstForm}
-use Rattle.scene_line.specs.Line.{sinceHalves, fieldBytes, lineBytes, lineEntries}
-use Rattle.scene_table.specs.Scene.{Line, cellBytes, cellLengths, bytesLine, hashLine, inputLine, cellLine, digitsLine}
+use Rattle.scene_line.specs.Line.{fieldBytes, lineBytes, lineEntries}
+use Rattle.scene_table.specs.Scene.{Line, cellBytes, cellLengths, bytesLine, hashLine, inputLine, outputLine, cellLine, digitsLine}
 use Rattle.scene_reading.specs.Lines.{kindOfLine, fieldsOfLine}
-use Rattle.scene_reading.specs.Reading.{numberIn, cellOf, inputOf}
+use Rattle.scene_reading.specs.Reading.{cellOf, decimalField, inputOf, outputOf}
 
 -- what the reader puts down of fields, the first of them of a form
 unfoldable pub lineIn : Form → List (List ℕ) → Line
@@ -38,18 +36,16 @@ module _ (f : List ℕ) where
   unfolding lineIn lineBytes lineEntries fieldBytes digitsLine
   digits-put = simp (append-nil, length-map)
 
--- the halves of SINCE
-halves-number : (n : Decimal) → sinceHalves n ≡ numberIn n % 2 ^ 32 ∷ numberIn n / 2 ^ 32 ∷ []
-unfolding numberIn
-halves-number (Value v) = refl
-halves-number Invalid = refl
-
--- a line with the fields of a cell, and with those of an input
+-- a line with the fields of a cell, with its capacity behind them, and with those of an input
 module _ (a b c d : List ℕ) where
   pub cell-put : lineIn TypeHash (a ∷ b ∷ c ∷ d ∷ []) ≡ cellLine (cellOf 0 (a ∷ b ∷ c ∷ d ∷ []))
   unfolding lineIn lineBytes lineEntries fieldBytes cellLine cellBytes cellLengths cellOf
   cell-put = simp (append-assoc, append-nil, hex-length)
 
-  pub input-put : (g t : List ℕ) → lineIn Group (g ∷ t ∷ a ∷ b ∷ c ∷ d ∷ []) ≡ inputLine (inputOf (g ∷ t ∷ a ∷ b ∷ c ∷ d ∷ []))
-  unfolding lineIn lineBytes lineEntries fieldBytes inputLine cellBytes cellLengths inputOf cellOf
-  input-put g t = simp (append-assoc, append-nil, hex-length, halves-number)
+  pub output-put : (v : List ℕ) → lineIn TypeHash (a ∷ b ∷ c ∷ d ∷ v ∷ []) ≡ outputLine (outputOf (a ∷ b ∷ c ∷ d ∷ v ∷ []))
+  unfolding lineIn lineBytes lineEntries fieldBytes outputLine cellBytes cellLengths outputOf cellOf decimalField
+  output-put v = simp (append-assoc, append-nil, hex-length)
+
+  pub input-put : (g t v : List ℕ) → lineIn Group (g ∷ t ∷ a ∷ b ∷ c ∷ d ∷ v ∷ []) ≡ inputLine (inputOf (g ∷ t ∷ a ∷ b ∷ c ∷ d ∷ v ∷ []))
+  unfolding lineIn lineBytes lineEntries fieldBytes inputLine cellBytes cellLengths inputOf cellOf decimalField
+  input-put g t v = simp (append-assoc, append-nil, hex-length)

@@ -10,13 +10,13 @@ use lib.ListN.{length, replicate}
 use Rattle.octets.specs.Lists.{every}
 use Rattle.scene_line.specs.declared.kind.Kind.{Kind}
 use Rattle.scene_line.specs.declared.kind.Kind.the-variants as kind
-use Rattle.scene_line.specs.Kind.{script, tx, output, dep, witness, verdicts}
+use Rattle.scene_line.specs.Kind.{script, tx, witness, verdicts}
 use Rattle.scene_table.specs.Scene.{Input, Scene}
-use Rattle.scene_table.specs.Valid.{bytesOk, hashBytesOk, cellOk, inputOk, fewOf, digitsOk, sceneOk}
+use Rattle.scene_table.specs.Valid.{bytesOk, hashBytesOk, cellOk, inputOk, outputOk, fewOf, digitsOk, sceneOk}
 use Rattle.octets.proofs.Truth.{and-left, and-right}
 use Rattle.scene_text.specs.Print.{lineText, digitsText}
 use Rattle.scene_reading.specs.Lines.{LinesAccepted, kindsOf, kindOfLine, countOk, formOk}
-use Rattle.scene_reading.specs.Print.{inputText, cellText, bytesText, textLines, textOf}
+use Rattle.scene_reading.specs.Print.{inputText, outputText, depText, bytesText, textLines, textOf}
 use Rattle.scene_reading.specs.Reading.{sceneOf}
 use Rattle.scene_reading.proofs.PrintBackLines.{text-back, PrintOf, LinePasses, script-line, tx-line, input-line, output-line, dep-line, witness-line, verdicts-line}
 use Rattle.scene_reading.proofs.Printed.{printed-pieces, printed-reading}
@@ -121,15 +121,15 @@ join : {a b ls : List (List ℕ)} (c : List (List ℕ)) → a ≡ b → b ++ c �
 join c e w = ap (λ (x : List (List ℕ)). x ++ c) e ∙ w
 
 said-by : {ls : List (List ℕ)} {k₁ k₂ k₃ k₄ : List Kind} (v : Parted ls k₄ (kind.Verdicts ∷ [])) (w : Behind bytesOk (bytesText witness) k₃ (v .first))
-    (d : Behind cellOk (cellText dep) k₂ (w .first)) (o : Behind cellOk (cellText output) k₁ (d .first))
+    (d : Behind cellOk depText k₂ (w .first)) (o : Behind outputOk outputText k₁ (d .first))
     (i : Behind inputOk inputText (kind.Script ∷ kind.Tx ∷ []) (o .first)) → Said ls
 unfolding sceneOk textLines
 said-by v w d o i =
     let head = front (i .firsts) in
     let end = last (v .rests) in
     let inputs = join (map inputText (i .values)) (head .print) (i .print) in
-    let outputs = join (map (cellText output) (o .values)) inputs (o .print) in
-    let deps = join (map (cellText dep) (d .values)) outputs (d .print) in
+    let outputs = join (map outputText (o .values)) inputs (o .print) in
+    let deps = join (map depText (d .values)) outputs (d .print) in
     let witnesses = join (map (bytesText witness) (w .values)) deps (w .print) in
     record {
       scene = record {
@@ -155,8 +155,8 @@ said text n p =
     let K₄ = K₃ ++ replicate (p .witnesses) kind.Witness in
     let v = parted (p .lines) K₄ (kind.Verdicts ∷ []) (each-passes (p .lines) (K₄ ++ (kind.Verdicts ∷ [])) (p .ordered) (p .counted) (p .formed)) in
     let w = behind bytesOk (bytesText witness) kind.Witness witness-line (p .witnesses) (p .few-witnesses) K₃ (v .first) (v .firsts) in
-    let d = behind cellOk (cellText dep) kind.Dep dep-line (p .deps) (p .few-deps) K₂ (w .first) (w .firsts) in
-    let o = behind cellOk (cellText output) kind.Output output-line (p .outputs) (p .few-outputs) K₁ (d .first) (d .firsts) in
+    let d = behind cellOk depText kind.Dep dep-line (p .deps) (p .few-deps) K₂ (w .first) (w .firsts) in
+    let o = behind outputOk outputText kind.Output output-line (p .outputs) (p .few-outputs) K₁ (d .first) (d .firsts) in
     let i = behind inputOk inputText kind.Input input-line (p .inputs) (p .few-inputs) K₀ (o .first) (o .firsts) in
     said-by v w d o i
 

@@ -10,14 +10,13 @@ use lib.ListN.{length}
 use lib.Dec.{ltb, eqb}
 use Rattle.octets.specs.Lists.{every}
 use Rattle.scene_text.specs.declared.decimal.Decimal.the-variants.{Value, Invalid}
-use Rattle.scene_text.specs.Text.{inRange, isHex, hexVal, hexOk, hexBytes, decimal, plain, numberOf, sinceOf}
+use Rattle.scene_text.specs.Text.{inRange, isHex, hexVal, hexOk, hexBytes, decimal, plain, numberOf, decimalOf, numberIn}
 use Rattle.scene_text.proofs.RangeLaws.{between-yes, between-low, between-high}
 use Rattle.scene_line.specs.Line.{isNumber}
 use Rattle.scene_table.specs.Valid.{bytesOk}
 use Rattle.octets.proofs.Every.{every-left, every-right}
 use Rattle.octets.proofs.Truth.{and-left, and-right}
 use Rattle.scene_text.specs.Print.{digitText, hexText, decimalText, digitsText}
-use Rattle.scene_reading.specs.Reading.{numberIn}
 use Rattle.scene_reading.proofs.PrintDigits.{Leads, decimal-append, tenth}
 
 -- a digit is the text of its value
@@ -123,13 +122,13 @@ module _ (n : ℕ) (again : (s : List ℕ) → every (inRange 48 57) s ≡ true 
       let k = tenth n (decimal 0 (z ∷ t) * 10 + (y - 48)) (rw (decimal-append 0 (z ∷ t) y) at h) in
       more-digits n y dy (z ∷ t) (decimal-positive (z ∷ t) dz first) (again (z ∷ t) dz first (omega arith))
 
-decimal-print : (n : ℕ) (s : List ℕ) → every (inRange 48 57) s ≡ true → Leads s → decimal 0 s < 10 ^ n → decimalText n (decimal 0 s) ≡ s
-decimal-print zero s d l h = let p = decimal-positive s d l in absurd (omega arith)
-decimal-print (suc n) [] d l h = absurd (let p = l .some in omega arith)
-decimal-print (suc n) (x ∷ r) d l h =
+leads-print : (n : ℕ) (s : List ℕ) → every (inRange 48 57) s ≡ true → Leads s → decimal 0 s < 10 ^ n → decimalText n (decimal 0 s) ≡ s
+leads-print zero s d l h = let p = decimal-positive s d l in absurd (omega arith)
+leads-print (suc n) [] d l h = absurd (let p = l .some in omega arith)
+leads-print (suc n) (x ∷ r) d l h =
     let p = last-apart x r in
     let e = p .2 in
-    rw e (decimal-step n (decimal-print n) (p .0) (p .1) (rw e at d) (rw e at l) (rw e at h))
+    rw e (decimal-step n (leads-print n) (p .0) (p .1) (rw e at d) (rw e at l) (rw e at h))
 
 plain-print : (n : ℕ) (s : List ℕ) → plain s ≡ true → decimal 0 s < 10 ^ suc n → decimalText (suc n) (decimal 0 s) ≡ s
 unfolding every
@@ -147,23 +146,23 @@ plain-print n (x ∷ s) p h = go s (eqb (length (x ∷ s)) 1) refl d (and-right 
 
     go : (s : List ℕ) (b : Bool) → eqb (length (x ∷ s)) 1 ≡ b → every (inRange 48 57) (x ∷ s) ≡ true → (b || not (eqb x 48)) ≡ true → decimal 0 (x ∷ s) < 10 ^ suc n
         → decimalText (suc n) (decimal 0 (x ∷ s)) ≡ x ∷ s
-    go s false e d o h = decimal-print (suc n) (x ∷ s) d (record { some = omega arith; lead = eqb-false x 48 (not-true (eqb x 48) o) }) h
+    go s false e d o h = leads-print (suc n) (x ∷ s) d (record { some = omega arith; lead = eqb-false x 48 (not-true (eqb x 48) o) }) h
     go [] true e d o h = one-digit n x (and-left (inRange 48 57 x) true d)
     go (y ∷ s) true e d o h = let z = eqb-true (length (x ∷ y ∷ s)) 1 e in absurd (omega arith)
 
--- a SINCE is the text of its number
-pub record SincePrint (f : List ℕ) : Type 0 where
-  pub fits : numberIn (sinceOf f) < 2 ^ 64
-  pub text : decimalText 20 (numberIn (sinceOf f)) ≡ f
+-- a decimal field is the text of its number
+pub record DecimalPrint (f : List ℕ) : Type 0 where
+  pub fits : numberIn (decimalOf f) < 2 ^ 64
+  pub text : decimalText 20 (numberIn (decimalOf f)) ≡ f
 
-pub since-print : (f : List ℕ) → isNumber (sinceOf f) ≡ true → SincePrint f
-unfolding sinceOf numberOf numberIn
-since-print f h = go (plain f) refl (ltb (decimal 0 f) (2 ^ 64)) refl h
+pub decimal-print : (f : List ℕ) → isNumber (decimalOf f) ≡ true → DecimalPrint f
+unfolding decimalOf numberOf numberIn
+decimal-print f h = go (plain f) refl (ltb (decimal 0 f) (2 ^ 64)) refl h
   where
-    go : (a : Bool) → plain f ≡ a → (b : Bool) → ltb (decimal 0 f) (2 ^ 64) ≡ b → isNumber (cond a (cond b (Value (decimal 0 f)) Invalid) Invalid) ≡ true → SincePrint f
+    go : (a : Bool) → plain f ≡ a → (b : Bool) → ltb (decimal 0 f) (2 ^ 64) ≡ b → isNumber (cond a (cond b (Value (decimal 0 f)) Invalid) Invalid) ≡ true → DecimalPrint f
     go true p true l h =
         let k = ltb-true (decimal 0 f) (2 ^ 64) l in
-        let e : numberIn (sinceOf f) ≡ decimal 0 f = rw (p, l) in
+        let e : numberIn (decimalOf f) ≡ decimal 0 f = rw (p, l) in
         record { fits = rw e k; text = rw e (plain-print 19 f p (omega arith)) }
     go true p false l h = absurd (false≢true h)
     go false p b l h = absurd (false≢true h)

@@ -14,19 +14,18 @@ use Rattle.scene_text.specs.Text.{inRange, before, pieces, hexOk, hexVal, hexBy
 use Rattle.scene_text.proofs.Pieces.{before-none}
 use Rattle.scene_line.specs.declared.kind.Kind.{Kind}
 use Rattle.scene_line.specs.declared.kind.Kind.the-variants as kind
-use Rattle.scene_line.specs.declared.form.Form.the-variants.{TypeHash, Hex}
+use Rattle.scene_line.specs.declared.form.Form.the-variants.{Hex}
 use Rattle.scene_line.specs.Kind.{rank, kindOf, fieldCount, firstForm, lineFields, script, tx, input, output, dep, witness, verdicts}
 use Rattle.scene_line.specs.Line.{formsOk}
-use Rattle.scene_table.specs.Scene.{Input}
-use Rattle.scene_table.specs.Valid.{bytesOk, hashBytesOk, cellOk, inputOk, digitsOk}
+use Rattle.scene_table.specs.Valid.{bytesOk, hashBytesOk, cellOk, inputOk, outputOk, digitsOk}
 use Rattle.octets.proofs.Truth.{and-left, and-right}
 use Rattle.scene_text.specs.Print.{partedBy, lineText, digitsText, endedLines}
 use Rattle.scene_reading.specs.Lines.{wordOf, kindOfLine, fieldsOfLine, countOk, formOk}
-use Rattle.scene_reading.specs.Print.{cellFields, inputFields, inputText, cellText, bytesText}
-use Rattle.scene_reading.specs.Reading.{cellOf, inputOf}
+use Rattle.scene_reading.specs.Print.{cellFields, inputFields, outputFields, inputText, outputText, depText, bytesText}
+use Rattle.scene_reading.specs.Reading.{cellOf, inputOf, outputOf}
 use Rattle.scene_reading.proofs.PrintLines.{kindWord}
 use Rattle.scene_reading.proofs.PrintBackDigits.{hex-print, digits-print}
-use Rattle.scene_reading.proofs.PrintBackFields.{fieldsFrom, fields-from, hash-print, cell-print, input-print}
+use Rattle.scene_reading.proofs.PrintBackFields.{fieldsFrom, fields-from, hash-print, cell-print, output-print, input-print}
 
 -- pieces joined again, with c between them
 rejoined : ℕ → List (List ℕ) → List ℕ
@@ -131,11 +130,10 @@ module _ (l : List ℕ) (k : Kind) (p : LinePasses l k) where
       let x = hex-print field (and-left (hexOk field) true h) in
       record { value = hexBytes field; fits = x .bytes; print = rw (x .text) (line-whole word (field ∷ []) w (sym e)) }
 
-  cell-line : (word : List ℕ) → wordOf (pieces comma l) ≡ word → fieldCount k ≡ 4 → firstForm k ≡ TypeHash → PrintOf cellOk (cellText word) l
-  unfolding cellText
-  cell-line word w n f =
-      let c = cell-print (fieldsOfLine l) (field-count ∙ n) (rw f at field-forms) in
-      record { value = cellOf 0 (fieldsOfLine l); fits = c .ok; print = line-whole word (cellFields (cellOf 0 (fieldsOfLine l))) w (c .text) }
+  -- a line whose fields are those that x is printed with is the print of x
+  fields-line : {A : Type 0} (ok : A → Bool) (fields : A → List (List ℕ)) (x : A) → ok x ≡ true → fields x ≡ fieldsOfLine l → 0 < rank k
+      → PrintOf ok (λ (y : A). lineText (kindWord k) (fields y)) l
+  fields-line ok fields x fits e r = record { value = x; fits = fits; print = line-whole (kindWord k) (fields x) (named r) e }
 
 module _ (l : List ℕ) where
   pub script-line : LinePasses l kind.Script → PrintOf bytesOk (bytesText script) l
@@ -154,17 +152,19 @@ module _ (l : List ℕ) where
   unfolding inputText
   input-line p =
       let i = input-print (fieldsOfLine l) (field-count l kind.Input p) (field-forms l kind.Input p) in
-      record {
-        value = inputOf (fieldsOfLine l);
-        fits = i .ok;
-        print = line-whole l kind.Input p input (inputFields (inputOf (fieldsOfLine l))) (named l kind.Input p (lit< tt)) (i .text);
-      }
+      fields-line l kind.Input p inputOk inputFields (inputOf (fieldsOfLine l)) (i .ok) (i .text) (lit< tt)
 
-  pub output-line : LinePasses l kind.Output → PrintOf cellOk (cellText output) l
-  output-line p = cell-line l kind.Output p output (named l kind.Output p (lit< tt)) refl refl
+  pub output-line : LinePasses l kind.Output → PrintOf outputOk outputText l
+  unfolding outputText outputFields
+  output-line p =
+      let o = output-print (fieldsOfLine l) (field-count l kind.Output p) (field-forms l kind.Output p) in
+      fields-line l kind.Output p outputOk outputFields (outputOf (fieldsOfLine l)) (o .ok) (o .text) (lit< tt)
 
-  pub dep-line : LinePasses l kind.Dep → PrintOf cellOk (cellText dep) l
-  dep-line p = cell-line l kind.Dep p dep (named l kind.Dep p (lit< tt)) refl refl
+  pub dep-line : LinePasses l kind.Dep → PrintOf cellOk depText l
+  unfolding depText
+  dep-line p =
+      let c = cell-print (fieldsOfLine l) (field-count l kind.Dep p) (field-forms l kind.Dep p) in
+      fields-line l kind.Dep p cellOk cellFields (cellOf 0 (fieldsOfLine l)) (c .ok) (c .text) (lit< tt)
 
   pub witness-line : LinePasses l kind.Witness → PrintOf bytesOk (bytesText witness) l
   witness-line p = bytes-line l kind.Witness p witness (named l kind.Witness p (lit< tt)) refl refl

@@ -11,7 +11,7 @@ use lib.ListN.{length, getD, length-append, length-map, List·getD-append}
 use lib.Dec.{ltb, leb, eqb}
 use Rattle.octets.specs.Lists.{every}
 use Rattle.scene_text.specs.declared.decimal.Decimal.the-variants.{Value}
-use Rattle.scene_text.specs.Text.{inRange, isHex, hexVal, hexOk, hexBytes, decimal, plain, numberOf, sinceOf}
+use Rattle.scene_text.specs.Text.{inRange, isHex, hexVal, hexOk, hexBytes, decimal, plain, numberOf, decimalOf}
 use Rattle.scene_text.proofs.RangeLaws.{between-yes}
 use Rattle.scene_table.specs.Valid.{bytesOk}
 use Rattle.octets.proofs.Every.{every-append, every-more}
@@ -146,8 +146,8 @@ decimal-plain n v h = go (ltb v 10) refl (decimal-digits (suc n) v)
         let l = ltb-false v 10 e in
         leads-plain _ (rw e at r) (leads-append (decimalText n (v / 10)) ((48 + v % 10) ∷ []) (decimal-leads n (v / 10) (omega arith) (tenth n v h)))
 
-pub decimal-back : (v : ℕ) → v < 2 ^ 64 → sinceOf (decimalText 20 v) ≡ Value v
-unfolding sinceOf numberOf
+pub decimal-back : (v : ℕ) → v < 2 ^ 64 → decimalOf (decimalText 20 v) ≡ Value v
+unfolding decimalOf numberOf
 decimal-back v h =
     let k : v < 10 ^ 20 = omega arith in
     rw (decimal-plain 19 v k, decimal-value 20 v k, lt-ltb v (2 ^ 64) h)

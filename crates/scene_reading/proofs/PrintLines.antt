@@ -9,23 +9,24 @@ use borrow.Author.Tests.{leb-true, le-leb, ne-eqb}
 use lib.ListN.{length, replicate}
 use lib.Dec.{leb, ltb, eqb}
 use Rattle.octets.specs.Lists.{same, every}
-use Rattle.scene_line.specs.declared.form.Form.the-variants.{TypeHash, Hex}
+use Rattle.scene_line.specs.declared.form.Form.the-variants.{Hex}
 use Rattle.scene_line.specs.declared.kind.Kind.{Kind}
 use Rattle.scene_line.specs.declared.kind.Kind.the-variants as kind
 use Rattle.scene_line.specs.Kind.{kindOf, fieldCount, firstForm, lineFields, script, tx, input, output, dep, witness, verdicts}
 use Rattle.scene_line.specs.Line.{formsOk}
-use Rattle.scene_table.specs.Scene.{Cell, Input, Line, bytesLine, hashLine, inputLine, cellLine, digitsLine}
+use Rattle.scene_table.specs.Scene.{Cell, Input, Output, Line, bytesLine, hashLine, inputLine, outputLine, cellLine, digitsLine}
 use Rattle.scene_table.specs.Valid.{bytesOk}
 use Rattle.scene_text.specs.Text.{lineEnd, comma}
 use Rattle.octets.proofs.Every.{every-append, every-more}
 use Rattle.octets.proofs.Truth.{and-left, and-right}
 use Rattle.scene_text.specs.Print.{partedBy, lineText, hexText, digitsText}
 use Rattle.scene_reading.specs.Lines.{wordOf, kindOfLine, fieldsOfLine, countOk, formOk}
-use Rattle.scene_reading.specs.Print.{cellFields, inputFields, inputText, cellText, bytesText}
-use Rattle.scene_reading.proofs.LinesPut.{lineIn, lineRead, hex-put, hash-put, digits-put, cell-put, input-put}
+use Rattle.scene_reading.specs.Print.{cellFields, inputFields, outputFields, inputText, outputText, depText, bytesText}
+use Rattle.scene_reading.specs.Reading.{cellOf}
+use Rattle.scene_reading.proofs.LinesPut.{lineIn, lineRead, hex-put, hash-put, digits-put, cell-put, output-put, input-put}
 use Rattle.scene_reading.proofs.PrintPieces.{without, line-pieces}
 use Rattle.scene_reading.proofs.PrintDigits.{hex-back, hex-ok, hex-high, digits-form, digits-high, digits-length, digits-back}
-use Rattle.scene_reading.proofs.PrintFields.{HashHolds, hash-form, CellHolds, cell-high, cell-form, cell-back, InputHolds, input-high, input-form, input-fields-back}
+use Rattle.scene_reading.proofs.PrintFields.{HashHolds, hash-form, CellHolds, cell-high, cell-form, cell-back, OutputHolds, output-high, output-form, output-back, InputHolds, input-high, input-form, input-fields-back}
 
 -- A text all of whose bytes are 48 or more holds no separator
 module _ (c : ℕ) (low : c < 48) where
@@ -92,15 +93,11 @@ pub record Prints (l : List ℕ) (k : Kind) (line : Line) : Type 0 where
   pub formed : formsOk true (firstForm k) fields ≡ true
   pub read : lineIn (firstForm k) fields ≡ line
 
--- lines of bytes and of cells
+-- lines of bytes
 module _ (k : Kind) where
   pub bytes-says : (bs : List ℕ) → bytesOk bs ≡ true → Says (bytesText (kindWord k) bs) k (hexText bs ∷ [])
   unfolding bytesText every
   bytes-says bs h = line-says k (hexText bs ∷ []) (rw (hex-high bs h))
-
-  pub cell-says : (c : Cell) → CellHolds c → Says (cellText (kindWord k) c) k (cellFields c)
-  unfolding cellText
-  cell-says c h = line-says k (cellFields c) (cell-high c h)
 
   pub bytes-prints : firstForm k ≡ Hex → fieldCount k ≡ 1 → (bs : List ℕ) → bytesOk bs ≡ true → Prints (bytesText (kindWord k) bs) k (bytesLine bs)
   unfolding formsOk
@@ -111,17 +108,6 @@ module _ (k : Kind) where
         counted = rw n;
         formed = rw (f, hex-ok bs h);
         read = rw f (hex-put (hexText bs) ∙ rw (hex-back bs h));
-      }
-
-  pub cell-prints : firstForm k ≡ TypeHash → fieldCount k ≡ 4 → (c : Cell) → CellHolds c → Prints (cellText (kindWord k) c) k (cellLine c)
-  unfolding cellFields
-  cell-prints f n c h =
-      record {
-        fields = cellFields c;
-        says = cell-says c h;
-        counted = rw n;
-        formed = rw f (cell-form c h);
-        read = rw f (cell-put _ _ _ _ ∙ ap cellLine (cell-back c h));
       }
 
 pub hash-prints : (hash : List ℕ) → HashHolds hash → Prints (bytesText tx hash) kind.Tx (hashLine hash)
@@ -135,6 +121,7 @@ hash-prints hash h =
       read = hash-put (hexText hash) ∙ rw (hex-back hash (h .bytes));
     }
 
+-- lines of inputs, outputs and deps
 pub input-says : (i : Input) → InputHolds i → Says (inputText i) kind.Input (inputFields i)
 unfolding inputText
 input-says i h = line-says kind.Input (inputFields i) (input-high i h)
@@ -147,7 +134,41 @@ input-prints i h =
       says = input-says i h;
       counted = refl;
       formed = input-form i h;
-      read = input-put _ _ _ _ _ _ ∙ ap inputLine (input-fields-back i h);
+      read = input-put _ _ _ _ _ _ _ ∙ ap inputLine (input-fields-back i h);
+    }
+
+pub output-says : (o : Output) → OutputHolds o → Says (outputText o) kind.Output (outputFields o)
+unfolding outputText outputFields
+output-says o h = line-says kind.Output (outputFields o) (output-high o h)
+
+pub output-prints : (o : Output) → OutputHolds o → Prints (outputText o) kind.Output (outputLine o)
+unfolding outputFields cellFields
+output-prints o h =
+    record {
+      fields = outputFields o;
+      says = output-says o h;
+      counted = refl;
+      formed = output-form o h;
+      read = output-put _ _ _ _ _ ∙ ap outputLine (output-back o h);
+    }
+
+pub dep-says : (c : Cell) → CellHolds c → Says (depText c) kind.Dep (cellFields c)
+unfolding depText cellFields every
+dep-says c h = line-says kind.Dep (cellFields c) (cell-high c h [] refl)
+
+pub dep-back : (c : Cell) → CellHolds c → cellOf 0 (cellFields c) ≡ c
+unfolding cellFields
+dep-back c h = cell-back c h []
+
+pub dep-prints : (c : Cell) → CellHolds c → Prints (depText c) kind.Dep (cellLine c)
+unfolding cellFields formsOk
+dep-prints c h =
+    record {
+      fields = cellFields c;
+      says = dep-says c h;
+      counted = refl;
+      formed = cell-form c h [] (λ b. refl);
+      read = cell-put _ _ _ _ ∙ ap cellLine (dep-back c h);
     }
 
 pub record DigitsHold (ds : List ℕ) : Type 0 where

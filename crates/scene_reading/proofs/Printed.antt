@@ -11,21 +11,21 @@ use Rattle.octets.specs.Lists.{every}
 use Rattle.scene_text.specs.Text.{pieces, hexBytes, hexVal, lineEnd}
 use Rattle.scene_line.specs.declared.kind.Kind.{Kind}
 use Rattle.scene_line.specs.declared.kind.Kind.the-variants as kind
-use Rattle.scene_line.specs.Kind.{rank, output, dep, witness}
-use Rattle.scene_table.specs.Scene.{Cell, Scene, Line, bytesLine, inputLine, cellLine, linesOf, sceneBytes}
-use Rattle.scene_table.specs.Valid.{bytesOk, cellOk, inputOk, sceneOk}
+use Rattle.scene_line.specs.Kind.{rank, witness}
+use Rattle.scene_table.specs.Scene.{Scene, Line, bytesLine, inputLine, outputLine, cellLine, linesOf, sceneBytes}
+use Rattle.scene_table.specs.Valid.{bytesOk, cellOk, inputOk, outputOk, sceneOk}
 use Rattle.octets.proofs.Truth.{and-left, and-right}
 use Rattle.scene_text.specs.Print.{hexText, digitsText}
 use Rattle.scene_reading.specs.Lines.{kindsOf, bytesOfLine, LinesAccepted}
-use Rattle.scene_reading.specs.Print.{cellFields, inputFields, inputText, cellText, bytesText, textLines, textOf}
-use Rattle.scene_reading.specs.Reading.{cellOf, inputOf, bytesField, fieldsOfKind, onlyField, sceneOf}
+use Rattle.scene_reading.specs.Print.{cellFields, inputFields, outputFields, inputText, outputText, depText, bytesText, textLines, textOf}
+use Rattle.scene_reading.specs.Reading.{cellOf, inputOf, outputOf, bytesField, fieldsOfKind, onlyField, sceneOf}
 use Rattle.scene_reading.proofs.LinesPut.{lineIn, lineRead}
 use Rattle.scene_table.proofs.Lines.{right-nested}
 use Rattle.scene_table.proofs.SceneBack.{Sayable, sayable}
 use Rattle.scene_reading.proofs.PrintPieces.{lines-pieces}
 use Rattle.scene_reading.proofs.PrintDigits.{hex-back, digits-back}
-use Rattle.scene_reading.proofs.PrintFields.{hash-holds, cell-holds, cell-back, input-holds, input-fields-back}
-use Rattle.scene_reading.proofs.PrintLines.{Says, bytes-says, cell-says, input-says, digits-says, bytes-prints, hash-prints, input-prints, cell-prints, digits-prints, EachPrints, none, more, each-prints-append, each-map, each-printed}
+use Rattle.scene_reading.proofs.PrintFields.{hash-holds, cell-holds, output-holds, output-back, input-holds, input-fields-back}
+use Rattle.scene_reading.proofs.PrintLines.{Says, bytes-says, input-says, output-says, dep-says, dep-back, digits-says, bytes-prints, hash-prints, input-prints, output-prints, dep-prints, digits-prints, EachPrints, none, more, each-prints-append, each-map, each-printed}
 
 -- each line of the printed text, with its kind and with what it holds
 pub scene-prints : (s : Scene) → Sayable s
@@ -34,8 +34,8 @@ unfolding textLines kindsOf linesOf
 scene-prints s h =
     let verdict = more (digits-prints (s .digits) (record { few = h .fewDigits; each = h .digits })) none in
     let inputs = each-map inputOk inputText kind.Input inputLine (λ i e. input-prints i (input-holds i e)) (s .inputs) (h .inputs) in
-    let outputs = each-map cellOk (cellText output) kind.Output cellLine (λ c e. cell-prints kind.Output refl refl c (cell-holds c e)) (s .outputs) (h .outputs) in
-    let deps = each-map cellOk (cellText dep) kind.Dep cellLine (λ c e. cell-prints kind.Dep refl refl c (cell-holds c e)) (s .deps) (h .deps) in
+    let outputs = each-map outputOk outputText kind.Output outputLine (λ o e. output-prints o (output-holds o e)) (s .outputs) (h .outputs) in
+    let deps = each-map cellOk depText kind.Dep cellLine (λ c e. dep-prints c (cell-holds c e)) (s .deps) (h .deps) in
     let witnesses = each-map bytesOk (bytesText witness) kind.Witness bytesLine (bytes-prints kind.Witness refl refl) (s .witnesses) (h .witnesses) in
     let head = more (bytes-prints kind.Script refl refl (s .script) (h .script)) (more (hash-prints (s .transaction) (hash-holds (s .transaction) (h .transaction))) inputs) in
     each-prints-append (each-prints-append (each-prints-append (each-prints-append head outputs) deps) witnesses) verdict
@@ -120,7 +120,7 @@ printed-fields : (s : Scene) → Sayable s → (k : Kind) → fieldsOfKind k (te
     ≡ given kind.Script k (bytesFields (s .script) ∷ [])
     ++ (given kind.Tx k (bytesFields (s .transaction) ∷ [])
     ++ (given kind.Input k (map inputFields (s .inputs))
-    ++ (given kind.Output k (map cellFields (s .outputs))
+    ++ (given kind.Output k (map outputFields (s .outputs))
     ++ (given kind.Dep k (map cellFields (s .deps))
     ++ (given kind.Witness k (map bytesFields (s .witnesses)) ++ (given kind.Verdicts k ((digitsText (s .digits) ∷ []) ∷ []) ++ []))))))
 unfolding textLines bytesFields fieldsOfKind
@@ -128,10 +128,10 @@ printed-fields s h k =
     rw (
       line-gives k _ _ _ _ (bytes-says kind.Script (s .script) (h .script)),
       line-gives k _ _ _ _ (bytes-says kind.Tx (s .transaction) (hash-holds (s .transaction) (h .transaction) .bytes)),
-      right-nested (map inputText (s .inputs)) (map (cellText output) (s .outputs)) (map (cellText dep) (s .deps)) (map (bytesText witness) (s .witnesses)) _,
+      right-nested (map inputText (s .inputs)) (map outputText (s .outputs)) (map depText (s .deps)) (map (bytesText witness) (s .witnesses)) _,
       lines-give k inputOk inputText kind.Input inputFields (λ i e. input-says i (input-holds i e)) (s .inputs) (h .inputs),
-      lines-give k cellOk (cellText output) kind.Output cellFields (λ c e. cell-says kind.Output c (cell-holds c e)) (s .outputs) (h .outputs),
-      lines-give k cellOk (cellText dep) kind.Dep cellFields (λ c e. cell-says kind.Dep c (cell-holds c e)) (s .deps) (h .deps),
+      lines-give k outputOk outputText kind.Output outputFields (λ o e. output-says o (output-holds o e)) (s .outputs) (h .outputs),
+      lines-give k cellOk depText kind.Dep cellFields (λ c e. dep-says c (cell-holds c e)) (s .deps) (h .deps),
       lines-give k bytesOk (bytesText witness) kind.Witness bytesFields (bytes-says kind.Witness) (s .witnesses) (h .witnesses),
       line-gives k _ _ _ _ (digits-says (s .digits) (record { few = h .fewDigits; each = h .digits })),
     )
@@ -144,10 +144,6 @@ values-back ok fields value back [] h = refl
 values-back ok fields value back (x ∷ xs) h =
     rw (back x (and-left (ok x) (every ok xs) h), values-back ok fields value back xs (and-right (ok x) (every ok xs) h))
 
--- the cells of printed fields
-cells-back : (cs : List Cell) → every cellOk cs ≡ true → map (cellOf 0) (map cellFields cs ++ []) ≡ cs
-cells-back = values-back cellOk cellFields (cellOf 0) (λ c e. cell-back c (cell-holds c e))
-
 -- and it says the scene, part by part
 pub printed-reading : (s : Scene) → sceneOk s ≡ true → sceneOf (textLines s) ≡ s
 unfolding sceneOf given onlyField bytesField bytesFields
@@ -157,8 +153,8 @@ printed-reading s ok =
     let script = ap (λ (f : List (List (List ℕ))). hexBytes (onlyField f)) (fields kind.Script) ∙ hex-back (s .script) (h .script) in
     let transaction = ap (λ (f : List (List (List ℕ))). hexBytes (onlyField f)) (fields kind.Tx) ∙ hex-back (s .transaction) (hash-holds (s .transaction) (h .transaction) .bytes) in
     let inputs = ap (map inputOf) (fields kind.Input) ∙ values-back inputOk inputFields inputOf (λ i e. input-fields-back i (input-holds i e)) (s .inputs) (h .inputs) in
-    let outputs = ap (map (cellOf 0)) (fields kind.Output) ∙ cells-back (s .outputs) (h .outputs) in
-    let deps = ap (map (cellOf 0)) (fields kind.Dep) ∙ cells-back (s .deps) (h .deps) in
+    let outputs = ap (map outputOf) (fields kind.Output) ∙ values-back outputOk outputFields outputOf (λ o e. output-back o (output-holds o e)) (s .outputs) (h .outputs) in
+    let deps = ap (map (cellOf 0)) (fields kind.Dep) ∙ values-back cellOk cellFields (cellOf 0) (λ c e. dep-back c (cell-holds c e)) (s .deps) (h .deps) in
     let witnesses = ap (map bytesField) (fields kind.Witness) ∙ values-back bytesOk bytesFields bytesField hex-back (s .witnesses) (h .witnesses) in
     let digits = ap (λ (f : List (List (List ℕ))). map hexVal (onlyField f)) (fields kind.Verdicts) ∙ digits-back 3 (omega arith) (s .digits) (h .digits) in
     λ i. record {

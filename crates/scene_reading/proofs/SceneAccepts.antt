@@ -47,8 +47,8 @@ module _ (text : List ℕ) (n m : ℕ) where
   accepting h = rw (within-limits (h .0) (h .1 .0), passes-accepted text n m (h .1 .1) .1)
 
   -- accepted exactly where no reader or line row refuses
-  pub scene-accepts : (readerCheck (readOf text n m) ≡ Passed) ↔ ((length text ≤ sceneMaxLength) × ((tableMinEntries ≤ m) × LinesAccepted text n))
-  scene-accepts = (accepted, accepting)
+  pub reader-accepts : (readerCheck (readOf text n m) ≡ Passed) ↔ ((length text ≤ sceneMaxLength) × ((tableMinEntries ≤ m) × LinesAccepted text n))
+  reader-accepts = (accepted, accepting)
 
   -- the store and the table after an accepted text are those of the scene that its lines say
   pub scene-encodes : readerCheck (readOf text n m) ≡ Passed → (p : LinesAccepted text n) → Encodes text n m (sceneOf (p .lines))
@@ -57,7 +57,7 @@ module _ (text : List ℕ) (n m : ℕ) where
       let r = passes-accepted text n m p in
       let l = passes-leaves text n p m (r .0) (r .1) in
       let k = reading-ok text n p in
-      let w : length (sceneNumbers (sceneOf (p .lines))) ≤ 925 = numbers-few (sceneOf (p .lines)) k in
+      let w : length (sceneNumbers (sceneOf (p .lines))) ≤ 1181 = numbers-few (sceneOf (p .lines)) k in
       let f : length (sceneNumbers (sceneOf (p .lines))) ≤ m = omega (arith, h .1 .0) in
       record {
         store = rw (within-limits (h .0) (h .1 .0), r .1) (l .0);

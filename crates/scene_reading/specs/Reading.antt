@@ -4,19 +4,12 @@ use mathlib.Core.Bool.{cond}
 use mathlib.Core.List.{List, [], _∷_, map}
 use lib.ListN.{getD}
 use lib.Dec.{eqb}
-use Rattle.scene_text.specs.declared.decimal.Decimal.{Decimal}
-use Rattle.scene_text.specs.declared.decimal.Decimal.the-variants.{Value, Invalid}
-use Rattle.scene_text.specs.Text.{hexBytes, hexVal, sinceOf}
+use Rattle.scene_text.specs.Text.{hexBytes, hexVal, decimalOf, numberIn}
 use Rattle.scene_line.specs.declared.kind.Kind.{Kind}
 use Rattle.scene_line.specs.declared.kind.Kind.the-variants as kind
 use Rattle.scene_line.specs.Kind.{rank}
-use Rattle.scene_table.specs.Scene.{Cell, Input, Scene}
+use Rattle.scene_table.specs.Scene.{Cell, Input, Output, Scene}
 use Rattle.scene_reading.specs.Lines.{kindOfLine, fieldsOfLine}
-
--- the number of a SINCE, 0 where it has none
-unfoldable pub numberIn : Decimal → ℕ
-numberIn (Value v) = v
-numberIn Invalid = 0
 
 -- "TYPEHASH,DATAHASH,TYPESCRIPT,DATA", the first of them at an index
 unfoldable pub cellOf : ℕ → List (List ℕ) → Cell
@@ -27,13 +20,21 @@ cellOf at fs = record {
   content = hexBytes (getD fs (at + 3) []);
 }
 
--- "`input,GROUP,SINCE,TYPEHASH,DATAHASH,TYPESCRIPT,DATA`"
+-- the number of the field at an index
+unfoldable pub decimalField : ℕ → List (List ℕ) → ℕ
+decimalField at fs = numberIn (decimalOf (getD fs at []))
+
+-- "`input,GROUP,SINCE,TYPEHASH,DATAHASH,TYPESCRIPT,DATA`"; 02, change 9: "Input and output lines end with a new field CAPACITY"
 unfoldable pub inputOf : List (List ℕ) → Input
 inputOf fs = record {
   group = hexVal (getD (getD fs 0 []) 0 0);
-  since = numberIn (sinceOf (getD fs 1 []));
+  since = decimalField 1 fs;
   cell = cellOf 2 fs;
+  capacity = decimalField 6 fs;
 }
+
+unfoldable pub outputOf : List (List ℕ) → Output
+outputOf fs = record { cell = cellOf 0 fs; capacity = decimalField 4 fs }
 
 -- "`witness,HEX`"
 unfoldable pub bytesField : List (List ℕ) → List ℕ
@@ -56,7 +57,7 @@ sceneOf ls = record {
   script = hexBytes (onlyField (fieldsOfKind kind.Script ls));
   transaction = hexBytes (onlyField (fieldsOfKind kind.Tx ls));
   inputs = map inputOf (fieldsOfKind kind.Input ls);
-  outputs = map (cellOf 0) (fieldsOfKind kind.Output ls);
+  outputs = map outputOf (fieldsOfKind kind.Output ls);
   deps = map (cellOf 0) (fieldsOfKind kind.Dep ls);
   witnesses = map bytesField (fieldsOfKind kind.Witness ls);
   digits = map hexVal (onlyField (fieldsOfKind kind.Verdicts ls));

@@ -9,8 +9,8 @@ use borrow.Author.Tests.{lt-ltb}
 use lib.Dec.{leb, ltb, eqb}
 use lib.ListN.{length, replicate, length-replicate}
 use Rattle.octets.specs.Lists.{every}
-use Rattle.scene_table.specs.Lent.{tableEntry, inputsAt, outputsAt, depsAt, witnessesAt, verdictsAt, recordsAt, hashLength, cellFrom, inputFrom, cellRecordFrom, bytesFrom, sceneFrom, blankScene, inputCount, outputCount, depCount, witnessCount, digitCount, cellRecordPlaces, cellFieldPlaces, bytesPlace, inputRecordPlaces, scriptPlace, transactionPlace, zerosAt}
-use Rattle.scene_table.specs.Valid.{bytesOk, hashBytesOk, cellOk, inputOk, fewOf, digitsOk, sceneOk}
+use Rattle.scene_table.specs.Lent.{tableEntry, inputsAt, outputsAt, depsAt, witnessesAt, verdictsAt, recordsAt, tableU64, inputWidth, outputWidth, cellWidth, bytesWidth, hashLength, cellFrom, inputFrom, outputFrom, cellRecordFrom, bytesFrom, sceneFrom, blankScene, inputCount, outputCount, depCount, witnessCount, digitCount, cellRecordPlaces, cellFieldPlaces, bytesPlace, inputRecordPlaces, scriptPlace, transactionPlace, zerosAt}
+use Rattle.scene_table.specs.Valid.{bytesOk, hashBytesOk, cellOk, inputOk, outputOk, fewOf, digitsOk, sceneOk}
 use Rattle.scene_table.specs.RecordsWalk.{groupOk}
 use Rattle.scene_table.proofs.Records.{length-records}
 
@@ -48,27 +48,37 @@ all-records p read w n at h = rw (length-records read w n at, all n at, and-true
     all (suc n) at = rw (h at) (all n (at + w))
 
 module _ (table : List ℕ) (small : (i : ℕ) → tableEntry table i < 2 ^ 32) where
+  -- two entries are the halves of a u64
+  u64-ok : (at : ℕ) → ltb (tableU64 table at) (2 ^ 64) ≡ true
+  u64-ok at =
+      let h : tableU64 table at < 2 ^ 64 = omega (arith, small at, small (at + 1)) in
+      lt-ltb (tableU64 table at) (2 ^ 64) h
+
   blank-input : (at : ℕ) → inputOk (inputFrom zerosAt table at) ≡ groupOk table at
   unfolding inputOk inputFrom inputRecordPlaces groupOk
   blank-input at =
-      let h : tableEntry table (at + 2) + 2 ^ 32 * tableEntry table (at + 3) < 2 ^ 64 = omega (arith, small (at + 2), small (at + 3)) in
       rw (
-        lt-ltb (tableEntry table (at + 2) + 2 ^ 32 * tableEntry table (at + 3)) (2 ^ 64) h,
+        u64-ok (at + 2),
         blank-cell (tableEntry table at) (tableEntry table (at + 4)) (tableEntry table (at + 5)),
+        u64-ok (at + 6),
         and-true,
       )
 
-  blank-inputs : fewOf inputOk (recordsAt (inputFrom zerosAt table) 6 (inputCount table) inputsAt)
-      ≡ (leb (inputCount table) 64 && every (groupOk table) (recordsAt (λ (i : ℕ). i) 6 (inputCount table) inputsAt))
+  blank-output : (at : ℕ) → outputOk (outputFrom zerosAt table at) ≡ true
+  unfolding outputOk outputFrom cellRecordPlaces
+  blank-output at = rw (blank-cell (tableEntry table at) (tableEntry table (at + 1)) (tableEntry table (at + 2))) (u64-ok (at + 3))
+
+  blank-inputs : fewOf inputOk (recordsAt (inputFrom zerosAt table) inputWidth (inputCount table) inputsAt)
+      ≡ (leb (inputCount table) 64 && every (groupOk table) (recordsAt (λ (i : ℕ). i) inputWidth (inputCount table) inputsAt))
   unfolding fewOf
   blank-inputs =
       rw (
-        length-records (inputFrom zerosAt table) 6 (inputCount table) inputsAt,
-        every-records inputOk (groupOk table) (inputFrom zerosAt table) 6 (inputCount table) inputsAt blank-input,
+        length-records (inputFrom zerosAt table) inputWidth (inputCount table) inputsAt,
+        every-records inputOk (groupOk table) (inputFrom zerosAt table) inputWidth (inputCount table) inputsAt blank-input,
       )
 
   pub blank-ok : sceneOk (blankScene table)
-      ≡ (leb (inputCount table) 64 && every (groupOk table) (recordsAt (λ (i : ℕ). i) 6 (inputCount table) inputsAt)
+      ≡ (leb (inputCount table) 64 && every (groupOk table) (recordsAt (λ (i : ℕ). i) inputWidth (inputCount table) inputsAt)
       && (leb (outputCount table) 64
       && (leb (depCount table) 64 && (leb (witnessCount table) 64 && (leb (digitCount table) 16 && every (λ (d : ℕ). ltb d 3) (blankScene table .digits))))))
   unfolding sceneOk blankScene sceneFrom scriptPlace transactionPlace bytesPlace cellRecordPlaces cellFieldPlaces digitsOk digitCount
@@ -77,8 +87,8 @@ module _ (table : List ℕ) (small : (i : ℕ) → tableEntry table i < 2 ^ 32) 
         blank-bytes (tableEntry table 9),
         blank-hash,
         blank-inputs,
-        all-records cellOk (cellRecordFrom zerosAt table) 3 (outputCount table) (outputsAt table) (λ i. blank-cell (tableEntry table i) (tableEntry table (i + 1)) (tableEntry table (i + 2))),
-        all-records cellOk (cellRecordFrom zerosAt table) 3 (depCount table) (depsAt table) (λ i. blank-cell (tableEntry table i) (tableEntry table (i + 1)) (tableEntry table (i + 2))),
-        all-records bytesOk (bytesFrom zerosAt table) 2 (witnessCount table) (witnessesAt table) (λ i. blank-bytes (tableEntry table (i + 1))),
+        all-records outputOk (outputFrom zerosAt table) outputWidth (outputCount table) (outputsAt table) blank-output,
+        all-records cellOk (cellRecordFrom zerosAt table) cellWidth (depCount table) (depsAt table) (λ i. blank-cell (tableEntry table i) (tableEntry table (i + 1)) (tableEntry table (i + 2))),
+        all-records bytesOk (bytesFrom zerosAt table) bytesWidth (witnessCount table) (witnessesAt table) (λ i. blank-bytes (tableEntry table (i + 1))),
         length-records (tableEntry table) 1 (tableEntry table (verdictsAt table + 1)) (verdictsAt table + 2),
       )

@@ -11,7 +11,7 @@ use Rattle.scene_table.specs.Scene.{Scene, sceneBytes, paddedTo, sceneSt
 use Rattle.scene_table.specs.Lent.{sceneIn}
 use Rattle.scene_table.specs.Valid.{sceneOk}
 use Rattle.scene_table.proofs.PlaceLaws.{Given, lent-given}
-use Rattle.scene_table.proofs.ReadBack.{cellWith, inputWith, sceneWith, Gives}
+use Rattle.scene_table.proofs.ReadBack.{cellWith, inputWith, outputWith, sceneWith, Gives}
 use Rattle.scene_table.proofs.SceneBack.{sayable, scene-back}
 
 -- a part of a scene's bytes is read back from its store
@@ -23,7 +23,7 @@ store-gives s n p q r at k e lp lq =
     part-back (sceneBytes s ++ z) p q (r ++ z) at k f lp lq
 
 same-scene : (s : Scene) → sceneWith (λ q. q) s ≡ s
-unfolding sceneWith inputWith cellWith
+unfolding sceneWith inputWith outputWith cellWith
 same-scene s = rw (map-id (s .inputs), map-id (s .outputs), map-id (s .deps), map-id (s .witnesses))
 
 pub lent-back : (s : Scene) (m n : ℕ) → sceneOk s ≡ true → sceneIn (sceneTable s m) (sceneStore s n) ≡ s

@@ -10,7 +10,7 @@ use native.Mathlib.Omega.{arith}
 use lib.ListN.{length, take, drop, length-append}
 use lib.Seq.{drop-cons, take-at, drop-at}
 use Rattle.octets.specs.Lists.{joined}
-use Rattle.scene_table.specs.Scene.{Scene, Line, bytesLine, hashLine, inputLine, cellLine, digitsLine, linesOf, recordsFrom}
+use Rattle.scene_table.specs.Scene.{Scene, Line, bytesLine, hashLine, inputLine, outputLine, cellLine, digitsLine, linesOf, recordsFrom}
 use Rattle.scene_table.specs.Lent.{tableEntry, recordsAt}
 use Rattle.scene_table.proofs.Records.{length-records}
 
@@ -77,7 +77,7 @@ unfoldable pub fromDeps : Scene → List Line
 fromDeps s = map cellLine (s .deps) ++ fromWitnesses s
 
 unfoldable pub fromOutputs : Scene → List Line
-fromOutputs s = map cellLine (s .outputs) ++ fromDeps s
+fromOutputs s = map outputLine (s .outputs) ++ fromDeps s
 
 unfoldable pub fromInputs : Scene → List Line
 fromInputs s = map inputLine (s .inputs) ++ fromOutputs s
@@ -91,7 +91,7 @@ unfolding linesOf fromInputs fromOutputs fromDeps fromWitnesses
 lines-by-kind s =
     right-nested
     (bytesLine (s .script) ∷ hashLine (s .transaction) ∷ map inputLine (s .inputs))
-    (map cellLine (s .outputs))
+    (map outputLine (s .outputs))
     (map cellLine (s .deps))
     (map bytesLine (s .witnesses))
     (digitsLine (s .digits) ∷ [])

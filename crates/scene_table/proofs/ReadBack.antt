@@ -3,17 +3,16 @@
 use mathlib.Core.Path.{_≡_, refl, sym, _∙_}
 use mathlib.Core.Bool.{Bool, true, false, cond, _&&_}
 use mathlib.Core.List.{List, [], _∷_, _++_, map, append-assoc}
-use Prim.Native.Nat.{ℕ, _+_, _*_, _/_, _%_, _^_}
-use native.Mathlib.Omega.{arith}
+use Prim.Native.Nat.{ℕ, _+_, _^_}
 use borrow.Author.Tests.{eqb-true}
 use lib.Dec.{lit<, ltb, eqb}
 use lib.ListN.{length, length-append}
 use Rattle.octets.specs.declared.place.Place.{Place}
-use Rattle.scene_table.specs.Scene.{Cell, Input, Scene, cellBytes, cellLengths, bytesLine, hashLine, inputLine, cellLine}
-use Rattle.scene_table.specs.Lent.{tableEntry, hashLength, cellFrom, inputFrom, cellRecordFrom, bytesFrom, cellRecordPlaces, cellFieldPlaces, bytesPlace, inputRecordPlaces, placeAt}
-use Rattle.scene_table.specs.Valid.{bytesOk, hashBytesOk, cellOk, inputOk}
+use Rattle.scene_table.specs.Scene.{Cell, Input, Output, Scene, cellBytes, cellLengths, bytesLine, hashLine, inputLine, outputLine, cellLine}
+use Rattle.scene_table.specs.Lent.{tableEntry, hashLength, cellFrom, inputFrom, outputFrom, cellRecordFrom, bytesFrom, cellRecordPlaces, cellFieldPlaces, bytesPlace, inputRecordPlaces, placeAt}
+use Rattle.scene_table.specs.Valid.{bytesOk, hashBytesOk, cellOk, inputOk, outputOk}
 use Rattle.octets.proofs.Truth.{and-both}
-use Rattle.scene_table.proofs.Stands.{Stands, record-first, record-entry, record-bytes}
+use Rattle.scene_table.proofs.Stands.{Stands, record-first, record-entry, record-u64, record-bytes}
 
 -- a scene with g of each run of bytes
 unfoldable pub cellWith : (List ℕ → List ℕ) → Cell → Cell
@@ -25,14 +24,17 @@ cellWith g c = record {
 }
 
 unfoldable pub inputWith : (List ℕ → List ℕ) → Input → Input
-inputWith g i = record { group = i .group; since = i .since; cell = cellWith g (i .cell) }
+inputWith g i = record { group = i .group; since = i .since; cell = cellWith g (i .cell); capacity = i .capacity }
+
+unfoldable pub outputWith : (List ℕ → List ℕ) → Output → Output
+outputWith g o = record { cell = cellWith g (o .cell); capacity = o .capacity }
 
 unfoldable pub sceneWith : (List ℕ → List ℕ) → Scene → Scene
 sceneWith g s = record {
   script = g (s .script);
   transaction = g (s .transaction);
   inputs = map (inputWith g) (s .inputs);
-  outputs = map (cellWith g) (s .outputs);
+  outputs = map (outputWith g) (s .outputs);
   deps = map (cellWith g) (s .deps);
   witnesses = map g (s .witnesses);
   digits = s .digits;
@@ -105,19 +107,31 @@ module _ (from : Place → List ℕ) (g : List ℕ → List ℕ) (table store : 
       (record-first table store s, record-entry table store {l = cellLine c} 0 (lit< tt) s, record-entry table store {l = cellLine c} 1 (lit< tt) s)
       (cell-back c (s .front) (s .back) used h (record-bytes table store s) (s .start))
 
+  pub output-back : (o : Output) (at used : ℕ) → outputOk o ≡ true → Stands table store at used (outputLine o ∷ []) → outputFrom from table at ≡ outputWith g o
+  unfolding outputFrom cellRecordPlaces cellFieldPlaces outputLine cellLengths outputWith outputOk
+  output-back o at used h s =
+      let ok = and-both (cellOk (o .cell)) (ltb (o .capacity) (2 ^ 64)) h in
+      rw (
+        record-first table store s,
+        record-entry table store {l = outputLine o} 0 (lit< tt) s,
+        record-entry table store {l = outputLine o} 1 (lit< tt) s,
+        record-u64 table store {l = outputLine o} 2 (o .capacity) (lit< tt) refl refl s,
+        cell-back (o .cell) (s .front) (s .back) used (ok .0) (record-bytes table store s) (s .start),
+      )
+
   pub input-back : (i : Input) (at used : ℕ) → inputOk i ≡ true → Stands table store at used (inputLine i ∷ []) → inputFrom from table at ≡ inputWith g i
   unfolding inputFrom inputRecordPlaces inputLine cellLengths inputWith inputOk
   input-back i at used h s =
-      let ok = and-both (ltb (i .group) 2) (ltb (i .since) (2 ^ 64) && cellOk (i .cell)) h in
-      let cell = and-both (ltb (i .since) (2 ^ 64)) (cellOk (i .cell)) (ok .1) in
-      let whole : i .since % 2 ^ 32 + 2 ^ 32 * (i .since / 2 ^ 32) ≡ i .since = omega arith in
+      let capacity = ltb (i .capacity) (2 ^ 64) in
+      let ok = and-both (ltb (i .group) 2) (ltb (i .since) (2 ^ 64) && (cellOk (i .cell) && capacity)) h in
+      let behind = and-both (ltb (i .since) (2 ^ 64)) (cellOk (i .cell) && capacity) (ok .1) in
+      let cell = and-both (cellOk (i .cell)) capacity (behind .1) in
       rw (
         record-first table store s,
         record-entry table store {l = inputLine i} 0 (lit< tt) s,
-        record-entry table store {l = inputLine i} 1 (lit< tt) s,
-        record-entry table store {l = inputLine i} 2 (lit< tt) s,
+        record-u64 table store {l = inputLine i} 1 (i .since) (lit< tt) refl refl s,
         record-entry table store {l = inputLine i} 3 (lit< tt) s,
         record-entry table store {l = inputLine i} 4 (lit< tt) s,
-        whole,
-        cell-back (i .cell) (s .front) (s .back) used (cell .1) (record-bytes table store s) (s .start),
+        record-u64 table store {l = inputLine i} 5 (i .capacity) (lit< tt) refl refl s,
+        cell-back (i .cell) (s .front) (s .back) used (cell .0) (record-bytes table store s) (s .start),
       )

@@ -2,12 +2,12 @@
 -- Assumes nothing.
 use mathlib.Core.Path.{_≡_, refl, ap, _∙_}
 use mathlib.Core.Bool.{Bool, true}
-use mathlib.Core.List.{List, [], _∷_}
+use mathlib.Core.List.{List, [], _∷_, map}
 use Prim.Native.Nat.{ℕ, zero, suc, _+_, _-_, _*_, _≤_, _<_}
 use native.Mathlib.Nat.{mul-suc, mul-zero, not-suc-le-zero, le-of-suc-le-suc}
 use native.Mathlib.Omega.{arith}
 use native.Mathlib.Numerals.{add-one}
-use lib.ListN.{length, drop, getD, drop-of-length-le}
+use lib.ListN.{length, length-map, drop, getD, drop-of-length-le}
 use lib.Seq.{drop-cons}
 use Rattle.octets.specs.Lists.{every}
 use Rattle.octets.proofs.Every.{every-nth}
@@ -27,6 +27,17 @@ listed l n f long nth = record {
   turn = λ i h. let k : i < length l = rw long h in rw (add-one, drop-cons l i (f i) k, nth i (f i) h);
   none = λ i h. let k : length l ≤ i = rw long h in drop-of-length-le l k;
 }
+
+-- the elements of a list, each by the same function
+map-nth : {A B : Type 0} (f : A → B) (l : List A) (i : ℕ) (d : B) (a : A) → i < length l → getD (map f l) i d ≡ f (getD l i a)
+map-nth f [] i d a h = absurd (not-suc-le-zero h)
+map-nth f (x ∷ l) zero d a h = refl
+map-nth f (x ∷ l) (suc i) d a h = map-nth f l i d a (le-of-suc-le-suc h)
+
+pub map-listed : {A B : Type 0} (f : A → B) (l : List A) (n : ℕ) (g : ℕ → A) → Listed l n g → Listed (map f l) n (λ i. f (g i))
+map-listed f l n g h =
+    listed (map f l) n (λ i. f (g i)) (length-map l f ∙ h .long)
+    (λ i d k. map-nth f l i d (g i) (rw (h .long) k) ∙ ap f (h .nth i (g i) k))
 
 -- a test that all elements pass
 pub listed-every : {A : Type 0} (p : A → Bool) {l : List A} {n : ℕ} {f : ℕ → A} → Listed l n f → every p l ≡ true → (i : ℕ) → i < n → p (f i) ≡ true

@@ -12,13 +12,13 @@ use lib.ListN.{length, replicate, length-append}
 use Rattle.octets.proofs.Parts.{part-back}
 use Rattle.octets.specs.Lists.{every}
 use Rattle.octets.specs.declared.place.Place.{Place}
-use Rattle.scene_table.specs.Scene.{Cell, Input, Scene, Line, cellLengths, bytesLine, hashLine, inputLine, cellLine, digitsLine, linesOf, sceneBytes, countsOf, recordsFrom, sceneNumbers, paddedTo, sceneTable}
-use Rattle.scene_table.specs.Lent.{tableEntry, inputsAt, outputsAt, depsAt, witnessesAt, verdictsAt, recordsAt, inputFrom, cellRecordFrom, bytesFrom, sceneFrom, inputCount, outputCount, depCount, witnessCount, digitCount, bytesPlace, scriptPlace, transactionPlace}
-use Rattle.scene_table.specs.Valid.{bytesOk, hashBytesOk, cellOk, inputOk, fewOf, digitsOk, sceneOk}
+use Rattle.scene_table.specs.Scene.{Cell, Input, Output, Scene, Line, cellLengths, bytesLine, hashLine, inputLine, outputLine, cellLine, digitsLine, linesOf, sceneBytes, countsOf, recordsFrom, sceneNumbers, paddedTo, sceneTable}
+use Rattle.scene_table.specs.Lent.{tableEntry, inputsAt, outputsAt, depsAt, witnessesAt, verdictsAt, recordsAt, inputWidth, outputWidth, cellWidth, bytesWidth, inputFrom, outputFrom, cellRecordFrom, bytesFrom, sceneFrom, inputCount, outputCount, depCount, witnessCount, digitCount, bytesPlace, scriptPlace, transactionPlace}
+use Rattle.scene_table.specs.Valid.{bytesOk, hashBytesOk, cellOk, inputOk, outputOk, fewOf, digitsOk, sceneOk}
 use Rattle.scene_table.proofs.Lines.{total, records-append, cut, cut-take, fromInputs, fromOutputs, fromDeps, fromWitnesses, lines-by-kind}
 use Rattle.octets.proofs.Truth.{and-both}
 use Rattle.scene_table.proofs.Stands.{Stands, linesBytes, stands-left, stands-right, record-entry, records-long, records-back}
-use Rattle.scene_table.proofs.ReadBack.{cellWith, inputWith, sceneWith, Gives, bytes-back, hash-back, record-back, input-back}
+use Rattle.scene_table.proofs.ReadBack.{cellWith, inputWith, outputWith, sceneWith, Gives, bytes-back, hash-back, record-back, output-back, input-back}
 
 -- what a scene that a text can say has
 pub record Sayable (s : Scene) : Type 0 where
@@ -27,7 +27,7 @@ pub record Sayable (s : Scene) : Type 0 where
   pub fewInputs : length (s .inputs) ≤ 64
   pub inputs : every inputOk (s .inputs) ≡ true
   pub fewOutputs : length (s .outputs) ≤ 64
-  pub outputs : every cellOk (s .outputs) ≡ true
+  pub outputs : every outputOk (s .outputs) ≡ true
   pub fewDeps : length (s .deps) ≤ 64
   pub deps : every cellOk (s .deps) ≡ true
   pub fewWitnesses : length (s .witnesses) ≤ 64
@@ -50,7 +50,7 @@ sayable s h =
     let f = and-both _ _ (e .1) in
     let g = and-both _ _ (f .1) in
     let inputs = few-of inputOk (s .inputs) (c .0) in
-    let outputs = few-of cellOk (s .outputs) (d .0) in
+    let outputs = few-of outputOk (s .outputs) (d .0) in
     let deps = few-of cellOk (s .deps) (e .0) in
     let witnesses = few-of bytesOk (s .witnesses) (f .0) in
     record {
@@ -68,15 +68,19 @@ sayable s h =
       digits = g .1;
     }
 
-input-wide : (i : Input) → suc (length (inputLine i .numbers)) ≡ 6
+input-wide : (i : Input) → suc (length (inputLine i .numbers)) ≡ inputWidth
 unfolding inputLine cellLengths
 input-wide i = refl
 
-cell-wide : (c : Cell) → suc (length (cellLine c .numbers)) ≡ 3
+output-wide : (o : Output) → suc (length (outputLine o .numbers)) ≡ outputWidth
+unfolding outputLine cellLengths
+output-wide o = refl
+
+cell-wide : (c : Cell) → suc (length (cellLine c .numbers)) ≡ cellWidth
 unfolding cellLine cellLengths
 cell-wide c = refl
 
-bytes-wide : (bs : List ℕ) → suc (length (bytesLine bs .numbers)) ≡ 2
+bytes-wide : (bs : List ℕ) → suc (length (bytesLine bs .numbers)) ≡ bytesWidth
 unfolding bytesLine
 bytes-wide bs = refl
 
@@ -113,24 +117,24 @@ digits-wide digits used = ap length (append-nil (used ∷ length digits ∷ digi
 
 -- how many entries a scene fills
 pub numbers-long : (s : Scene) → length (sceneNumbers s)
-    ≡ 8 + (2 + (1 + (6 * length (s .inputs) + (3 * length (s .outputs) + (3 * length (s .deps) + (2 * length (s .witnesses) + (2 + length (s .digits))))))))
+    ≡ 8 + (2 + (1 + (inputWidth * length (s .inputs) + (outputWidth * length (s .outputs) + (cellWidth * length (s .deps) + (bytesWidth * length (s .witnesses) + (2 + length (s .digits))))))))
 unfolding sceneNumbers fromInputs fromOutputs fromDeps fromWitnesses
 numbers-long s =
     length-append (countsOf s) (recordsFrom 0 (linesOf s))
     ∙ rw (
       counts-long s,
       lines-by-kind s,
-      both-long 0 (bytesLine (s .script) ∷ []) (hashLine (s .transaction) ∷ fromInputs s) 2 _ (records-long bytesLine 2 bytes-wide (s .script ∷ []) 0)
+      both-long 0 (bytesLine (s .script) ∷ []) (hashLine (s .transaction) ∷ fromInputs s) 2 _ (records-long bytesLine bytesWidth bytes-wide (s .script ∷ []) 0)
           (both-long _ (hashLine (s .transaction) ∷ []) (fromInputs s) 1 _ (hash-wide (s .transaction) _)
-          (both-long _ (map inputLine (s .inputs)) (fromOutputs s) (6 * length (s .inputs)) _ (records-long inputLine 6 input-wide (s .inputs) _)
-          (both-long _ (map cellLine (s .outputs)) (fromDeps s) (3 * length (s .outputs)) _ (records-long cellLine 3 cell-wide (s .outputs) _)
-          (both-long _ (map cellLine (s .deps)) (fromWitnesses s) (3 * length (s .deps)) _ (records-long cellLine 3 cell-wide (s .deps) _)
-          (both-long _ (map bytesLine (s .witnesses)) (digitsLine (s .digits) ∷ []) (2 * length (s .witnesses)) _ (records-long bytesLine 2 bytes-wide (s .witnesses) _)
+          (both-long _ (map inputLine (s .inputs)) (fromOutputs s) (inputWidth * length (s .inputs)) _ (records-long inputLine inputWidth input-wide (s .inputs) _)
+          (both-long _ (map outputLine (s .outputs)) (fromDeps s) (outputWidth * length (s .outputs)) _ (records-long outputLine outputWidth output-wide (s .outputs) _)
+          (both-long _ (map cellLine (s .deps)) (fromWitnesses s) (cellWidth * length (s .deps)) _ (records-long cellLine cellWidth cell-wide (s .deps) _)
+          (both-long _ (map bytesLine (s .witnesses)) (digitsLine (s .digits) ∷ []) (bytesWidth * length (s .witnesses)) _ (records-long bytesLine bytesWidth bytes-wide (s .witnesses) _)
           (digits-wide (s .digits) _)))))),
     )
 
 -- a table of 2,048 entries has room for every scene
-pub numbers-few : (s : Scene) → sceneOk s ≡ true → length (sceneNumbers s) ≤ 925
+pub numbers-few : (s : Scene) → sceneOk s ≡ true → length (sceneNumbers s) ≤ 1181
 numbers-few s h = let ok = sayable s h in omega (arith, numbers-long s, ok)
 
 module _ (s : Scene) (m : ℕ) where
@@ -153,19 +157,19 @@ module _ (s : Scene) (m : ℕ) where
   }
 
   -- where the records of each kind begin
-  outputs-place : outputsAt (sceneTable s m) ≡ 11 + 6 * length (s .inputs)
+  outputs-place : outputsAt (sceneTable s m) ≡ 11 + inputWidth * length (s .inputs)
   unfolding outputsAt inputsAt
   outputs-place = rw (counts .0)
 
-  deps-place : depsAt (sceneTable s m) ≡ 11 + 6 * length (s .inputs) + 3 * length (s .outputs)
+  deps-place : depsAt (sceneTable s m) ≡ 11 + inputWidth * length (s .inputs) + outputWidth * length (s .outputs)
   unfolding depsAt
   deps-place = rw (outputs-place, counts .1)
 
-  witnesses-place : witnessesAt (sceneTable s m) ≡ 11 + 6 * length (s .inputs) + 3 * length (s .outputs) + 3 * length (s .deps)
+  witnesses-place : witnessesAt (sceneTable s m) ≡ 11 + inputWidth * length (s .inputs) + outputWidth * length (s .outputs) + cellWidth * length (s .deps)
   unfolding witnessesAt
   witnesses-place = rw (deps-place, counts .2)
 
-  verdicts-place : verdictsAt (sceneTable s m) ≡ 11 + 6 * length (s .inputs) + 3 * length (s .outputs) + 3 * length (s .deps) + 2 * length (s .witnesses)
+  verdicts-place : verdictsAt (sceneTable s m) ≡ 11 + inputWidth * length (s .inputs) + outputWidth * length (s .outputs) + cellWidth * length (s .deps) + bytesWidth * length (s .witnesses)
   unfolding verdictsAt
   verdicts-place = rw (witnesses-place, counts .3)
 
@@ -186,12 +190,12 @@ module _ (s : Scene) (m : ℕ) where
         let w = s .witnesses in
         let script = bytesLine (s .script) ∷ [] in
         let hash = hashLine (s .transaction) ∷ [] in
-        let behind = stands-right T B script (hash ++ fromInputs s) 2 (records-long bytesLine 2 bytes-wide (s .script ∷ []) 0) all-stand in
+        let behind = stands-right T B script (hash ++ fromInputs s) 2 (records-long bytesLine bytesWidth bytes-wide (s .script ∷ []) 0) all-stand in
         let inputs = stands-right T B hash (fromInputs s) 1 (hash-wide (s .transaction) _) behind in
-        let outputs = stands-right T B (map inputLine i) (fromOutputs s) (6 * length i) (records-long inputLine 6 input-wide i _) inputs in
-        let deps = stands-right T B (map cellLine o) (fromDeps s) (3 * length o) (records-long cellLine 3 cell-wide o _) outputs in
-        let witnesses = stands-right T B (map cellLine d) (fromWitnesses s) (3 * length d) (records-long cellLine 3 cell-wide d _) deps in
-        let verdicts = stands-right T B (map bytesLine w) (digitsLine (s .digits) ∷ []) (2 * length w) (records-long bytesLine 2 bytes-wide w _) witnesses in
+        let outputs = stands-right T B (map inputLine i) (fromOutputs s) (inputWidth * length i) (records-long inputLine inputWidth input-wide i _) inputs in
+        let deps = stands-right T B (map outputLine o) (fromDeps s) (outputWidth * length o) (records-long outputLine outputWidth output-wide o _) outputs in
+        let witnesses = stands-right T B (map cellLine d) (fromWitnesses s) (cellWidth * length d) (records-long cellLine cellWidth cell-wide d _) deps in
+        let verdicts = stands-right T B (map bytesLine w) (digitsLine (s .digits) ∷ []) (bytesWidth * length w) (records-long bytesLine bytesWidth bytes-wide w _) witnesses in
         rw (
           counts .0,
           counts .1,
@@ -203,9 +207,9 @@ module _ (s : Scene) (m : ℕ) where
           verdicts-place,
           bytes-back from g T B gives (s .script) 8 0 (ok .script) (stands-left T B script (hash ++ fromInputs s) all-stand),
           hash-back from g T B gives (s .transaction) 10 _ (ok .transaction) (stands-left T B hash (fromInputs s) behind),
-          records-back inputLine 6 input-wide T B (inputFrom from T) (inputWith g) inputOk (input-back from g T B gives) i 11 _ (ok .inputs) (stands-left T B (map inputLine i) (fromOutputs s) inputs),
-          records-back cellLine 3 cell-wide T B (cellRecordFrom from T) (cellWith g) cellOk (record-back from g T B gives) o _ _ (ok .outputs) (stands-left T B (map cellLine o) (fromDeps s) outputs),
-          records-back cellLine 3 cell-wide T B (cellRecordFrom from T) (cellWith g) cellOk (record-back from g T B gives) d _ _ (ok .deps) (stands-left T B (map cellLine d) (fromWitnesses s) deps),
-          records-back bytesLine 2 bytes-wide T B (bytesFrom from T) g bytesOk (bytes-back from g T B gives) w _ _ (ok .witnesses) (stands-left T B (map bytesLine w) (digitsLine (s .digits) ∷ []) witnesses),
+          records-back inputLine inputWidth input-wide T B (inputFrom from T) (inputWith g) inputOk (input-back from g T B gives) i 11 _ (ok .inputs) (stands-left T B (map inputLine i) (fromOutputs s) inputs),
+          records-back outputLine outputWidth output-wide T B (outputFrom from T) (outputWith g) outputOk (output-back from g T B gives) o _ _ (ok .outputs) (stands-left T B (map outputLine o) (fromDeps s) outputs),
+          records-back cellLine cellWidth cell-wide T B (cellRecordFrom from T) (cellWith g) cellOk (record-back from g T B gives) d _ _ (ok .deps) (stands-left T B (map cellLine d) (fromWitnesses s) deps),
+          records-back bytesLine bytesWidth bytes-wide T B (bytesFrom from T) g bytesOk (bytes-back from g T B gives) w _ _ (ok .witnesses) (stands-left T B (map bytesLine w) (digitsLine (s .digits) ∷ []) witnesses),
           digits-back T B (s .digits) _ _ verdicts,
         )

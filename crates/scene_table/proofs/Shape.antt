@@ -11,12 +11,12 @@ use lib.ListN.{length, take, drop, length-append, length-drop, length-replicate}
 use lib.Seq.{length-take-le}
 use Rattle.octets.specs.declared.place.Place.{Place}
 use Rattle.octets.specs.Places.{bytesAt}
-use Rattle.octets.proofs.Truth.{and-right}
-use Rattle.scene_table.specs.Scene.{Cell, Input, sceneBytes}
-use Rattle.scene_table.specs.Lent.{inputsAt, outputsAt, depsAt, inputCount, outputCount, depCount, inputWidth, cellWidth, hashLength, cellFrom, inputFrom, cellRecordFrom, sceneFrom}
-use Rattle.scene_table.specs.Places.{inputAt, inputPlaces, outputPlaces, depPlaces, cellIn}
+use Rattle.octets.proofs.Truth.{and-left, and-right}
+use Rattle.scene_table.specs.Scene.{Cell, Input, Output, sceneBytes}
+use Rattle.scene_table.specs.Lent.{inputsAt, outputsAt, depsAt, inputCount, outputCount, depCount, inputWidth, outputWidth, cellWidth, hashLength, cellFrom, inputFrom, outputFrom, cellRecordFrom, sceneFrom}
+use Rattle.scene_table.specs.Places.{inputAt, inputPlaces, outputAt, outputPlaces, depPlaces, cellIn}
 use Rattle.scene_table.specs.declared.places.CellPlaces.{CellPlaces}
-use Rattle.scene_table.specs.Valid.{cellOk, inputOk, validTable}
+use Rattle.scene_table.specs.Valid.{cellOk, inputOk, outputOk, validTable}
 use Rattle.scene_table.proofs.Records.{listed-every, records-listed}
 use Rattle.scene_table.proofs.ReadBack.{Gives, cell-hashes}
 use Rattle.scene_table.proofs.SceneBack.{Sayable, sayable, scene-back}
@@ -33,10 +33,14 @@ pub record CellsWhole (table store : List ℕ) : Type 0 where
   pub outputs : (i : ℕ) → i < outputCount table → WholeCell (cellIn store (outputPlaces table i))
   pub deps : (i : ℕ) → i < depCount table → WholeCell (cellIn store (depPlaces table i))
 
--- the cell of an input
+-- the cell of an input, and of an output
 input-cell : (i : Input) → inputOk i ≡ true → cellOk (i .cell) ≡ true
 unfolding inputOk
-input-cell i h = and-right (ltb (i .since) (2 ^ 64)) (cellOk (i .cell)) (and-right (ltb (i .group) 2) _ h)
+input-cell i h = and-left (cellOk (i .cell)) _ (and-right (ltb (i .since) (2 ^ 64)) _ (and-right (ltb (i .group) 2) _ h))
+
+output-cell : (o : Output) → outputOk o ≡ true → cellOk (o .cell) ≡ true
+unfolding outputOk
+output-cell o h = and-left (cellOk (o .cell)) _ h
 
 module _ (store : List ℕ) where
   -- as many zeros as the store has bytes at a place
@@ -71,14 +75,14 @@ module _ (table store : List ℕ) (valid : validTable table (length store) ≡ t
       sayable _ (rw (t .4, back) (zeroed-ok s (sayable s (t .2))))
 
   pub cells-whole : CellsWhole table store
-  unfolding sceneFrom inputFrom inputPlaces inputAt outputPlaces depPlaces
+  unfolding sceneFrom inputFrom outputFrom inputPlaces inputAt outputPlaces outputAt depPlaces
   cells-whole =
       let from = zerosIn store in
       let inputs = records-listed (inputFrom from table) inputWidth (inputCount table) inputsAt in
-      let outputs = records-listed (cellRecordFrom from table) cellWidth (outputCount table) (outputsAt table) in
+      let outputs = records-listed (outputFrom from table) outputWidth (outputCount table) (outputsAt table) in
       let deps = records-listed (cellRecordFrom from table) cellWidth (depCount table) (depsAt table) in
       record {
         inputs = λ i h. zeros-whole store (inputPlaces table i) (input-cell _ (listed-every inputOk inputs (shape .inputs) i h));
-        outputs = λ i h. zeros-whole store (outputPlaces table i) (listed-every cellOk outputs (shape .outputs) i h);
+        outputs = λ i h. zeros-whole store (outputPlaces table i) (output-cell _ (listed-every outputOk outputs (shape .outputs) i h));
         deps = λ i h. zeros-whole store (depPlaces table i) (listed-every cellOk deps (shape .deps) i h);
       }

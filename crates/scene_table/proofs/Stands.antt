@@ -3,14 +3,14 @@
 use mathlib.Core.Path.{_≡_, refl, sym, ap, ap₂, _∙_}
 use mathlib.Core.Bool.{Bool, true}
 use mathlib.Core.List.{List, [], _∷_, _++_, map, append-assoc, append-nil}
-use Prim.Native.Nat.{ℕ, suc, _+_, _*_, _<_}
+use Prim.Native.Nat.{ℕ, suc, _+_, _*_, _/_, _%_, _^_, _<_}
 use native.Mathlib.Nat.{add-comm, mul-suc, mul-zero}
 use native.Mathlib.Omega.{arith}
 use lib.ListN.{length, getD, length-append, List·getD-append}
 use lib.Seq.{getD-append-add, getD-at}
 use Rattle.octets.specs.Lists.{joined, every}
 use Rattle.scene_table.specs.Scene.{Line, recordsFrom}
-use Rattle.scene_table.specs.Lent.{tableEntry, recordsAt}
+use Rattle.scene_table.specs.Lent.{tableEntry, tableU64, recordsAt}
 use Rattle.scene_table.proofs.Lines.{total, total-joined, records-append}
 use Rattle.octets.proofs.Truth.{and-both}
 
@@ -73,6 +73,14 @@ module _ (table store : List ℕ) where
   record-entry {at} {used} {l} i h s =
       rw (s .records, ← s .place, getD-append-add (s .before) ((used ∷ l .numbers) ++ [] ++ s .after) (suc i) 0)
       (ap (λ (r : List ℕ). getD (r ++ s .after) i 0) (append-nil (l .numbers)) ∙ List·getD-append (l .numbers) (s .after) 0 i h)
+
+  -- a u64 whose halves stand in the record
+  pub record-u64 : {at used : ℕ} {l : Line} (i n : ℕ) → suc i < length (l .numbers) → getD (l .numbers) i 0 ≡ n % 2 ^ 32 → getD (l .numbers) (suc i) 0 ≡ n / 2 ^ 32
+      → Stands table store at used (l ∷ []) → tableU64 table (at + suc i) ≡ n
+  record-u64 {at} {used} {l} i n h low high s =
+      let next : at + suc i + 1 ≡ at + suc (suc i) = omega arith in
+      let whole : n % 2 ^ 32 + 2 ^ 32 * (n / 2 ^ 32) ≡ n = omega arith in
+      rw (next, record-entry {l = l} i (omega arith) s, record-entry {l = l} (suc i) h s, low, high) whole
 
   pub record-bytes : {at used : ℕ} {l : Line} (s : Stands table store at used (l ∷ [])) → store ≡ s .front ++ (l .bytes ++ s .back)
   unfolding linesBytes joined

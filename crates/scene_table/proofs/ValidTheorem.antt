@@ -12,13 +12,13 @@ use Rattle.octets.proofs.Same.{same-eq, eq-same}
 use Rattle.octets.specs.Lists.{every}
 use Rattle.protocol.specs.Limits.{tableMinEntries}
 use Rattle.octets.proofs.Every.{every-map}
-use Rattle.scene_table.specs.Scene.{Cell, Input, Scene, Line, cellBytes, cellLengths, bytesLine, hashLine, inputLine, cellLine, linesOf, sceneBytes, countsOf, recordsFrom, sceneNumbers, paddedTo, sceneTable}
+use Rattle.scene_table.specs.Scene.{Cell, Input, Output, Scene, Line, cellBytes, cellLengths, bytesLine, hashLine, inputLine, outputLine, cellLine, linesOf, sceneBytes, countsOf, recordsFrom, sceneNumbers, paddedTo, sceneTable}
 use Rattle.scene_table.specs.Lent.{cellFrom, blankScene, cellFieldPlaces, zerosAt}
-use Rattle.scene_table.specs.Valid.{bytesOk, hashBytesOk, cellOk, inputOk, fewOf, digitsOk, sceneOk, validTable}
+use Rattle.scene_table.specs.Valid.{bytesOk, hashBytesOk, cellOk, inputOk, outputOk, fewOf, digitsOk, sceneOk, validTable}
 use Rattle.scene_table.proofs.Lines.{total, total-joined, total-append, records-append}
 use Rattle.octets.proofs.Truth.{and-both}
 use Rattle.scene_table.proofs.BlankScene.{blank-bytes, blank-hash, blank-cell}
-use Rattle.scene_table.proofs.ReadBack.{cellWith, inputWith, sceneWith, hash-long, cell-hashes}
+use Rattle.scene_table.proofs.ReadBack.{cellWith, inputWith, outputWith, sceneWith, hash-long, cell-hashes}
 use Rattle.scene_table.proofs.SceneBack.{Sayable, sayable, scene-back}
 
 -- as many zeros as a list has elements
@@ -69,6 +69,15 @@ alike-input i =
     (rw (length-zeroed (i .cell .typeScript), length-zeroed (i .cell .content)))
     (cell-long (i .cell))
 
+alike-output : (o : Output) → Alike (outputLine (outputWith zeroed o) ∷ []) (outputLine o ∷ [])
+unfolding outputLine cellLengths outputWith cellWith
+alike-output o =
+    alike-one
+    (outputLine (outputWith zeroed o))
+    (outputLine o)
+    (rw (length-zeroed (o .cell .typeScript), length-zeroed (o .cell .content)))
+    (cell-long (o .cell))
+
 hash-record : (hash : List ℕ) → hashLine (zeroed hash) .numbers ≡ hashLine hash .numbers
 unfolding hashLine
 hash-record hash = refl
@@ -86,7 +95,7 @@ alike-lines s =
     (alike-append _ _ _ _
     (alike-append _ _ _ _
     (alike-append (bytesLine (zeroed (s .script)) ∷ []) (bytesLine (s .script) ∷ []) _ _ (alike-bytes (s .script)) (alike-append (hashLine (zeroed (s .transaction)) ∷ []) (hashLine (s .transaction) ∷ []) _ _ hash (alike-map inputLine (inputWith zeroed) alike-input (s .inputs))))
-    (alike-map cellLine (cellWith zeroed) alike-cell (s .outputs)))
+    (alike-map outputLine (outputWith zeroed) alike-output (s .outputs)))
     (alike-map cellLine (cellWith zeroed) alike-cell (s .deps)))
     (alike-map bytesLine zeroed alike-bytes (s .witnesses)))
     (record { records = λ used. refl; long = refl })
@@ -97,7 +106,7 @@ unfolding sceneNumbers countsOf sceneWith
 zeroed-numbers s =
     rw (
       length-map (s .inputs) (inputWith zeroed),
-      length-map (s .outputs) (cellWith zeroed),
+      length-map (s .outputs) (outputWith zeroed),
       length-map (s .deps) (cellWith zeroed),
       length-map (s .witnesses) zeroed,
       alike-lines s .records 0,
@@ -123,9 +132,17 @@ unfolding inputOk inputWith
 zeroed-input i h =
     let group = ltb (i .group) 2 in
     let since = ltb (i .since) (2 ^ 64) in
-    let a = and-both group (since && cellOk (i .cell)) h in
-    let b = and-both since (cellOk (i .cell)) (a .1) in
-    rw (a .0, b .0) (zeroed-cell (i .cell) (b .1))
+    let capacity = ltb (i .capacity) (2 ^ 64) in
+    let a = and-both group (since && (cellOk (i .cell) && capacity)) h in
+    let b = and-both since (cellOk (i .cell) && capacity) (a .1) in
+    let c = and-both (cellOk (i .cell)) capacity (b .1) in
+    rw (a .0, b .0, zeroed-cell (i .cell) (c .0)) (c .1)
+
+zeroed-output : (o : Output) → outputOk o ≡ true → outputOk (outputWith zeroed o) ≡ true
+unfolding outputOk outputWith
+zeroed-output o h =
+    let a = and-both (cellOk (o .cell)) (ltb (o .capacity) (2 ^ 64)) h in
+    rw (zeroed-cell (o .cell) (a .0)) (a .1)
 
 few : {A : Type 0} (p : A → Bool) (f : A → A) → ((x : A) → p x ≡ true → p (f x) ≡ true) → (xs : List A) → length xs ≤ 64 → every p xs ≡ true → fewOf p (map f xs) ≡ true
 unfolding fewOf
@@ -141,7 +158,7 @@ zeroed-ok s ok =
       blank-bytes (length (s .script)),
       zeroed-hash (s .transaction) (ok .transaction),
       few inputOk (inputWith zeroed) zeroed-input (s .inputs) (ok .fewInputs) (ok .inputs),
-      few cellOk (cellWith zeroed) zeroed-cell (s .outputs) (ok .fewOutputs) (ok .outputs),
+      few outputOk (outputWith zeroed) zeroed-output (s .outputs) (ok .fewOutputs) (ok .outputs),
       few cellOk (cellWith zeroed) zeroed-cell (s .deps) (ok .fewDeps) (ok .deps),
       few bytesOk zeroed (λ bs h. blank-bytes (length bs)) (s .witnesses) (ok .fewWitnesses) (ok .witnesses),
       le-leb (length (s .digits)) 16 (ok .fewDigits),

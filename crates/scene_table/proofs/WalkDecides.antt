@@ -14,7 +14,7 @@ use Rattle.octets.proofs.Parts.{part-back}
 use Rattle.octets.specs.Lists.{every}
 use Rattle.protocol.specs.Limits.{tableMinEntries}
 use Rattle.scene_table.specs.Scene.{linesOf, recordsFrom, countsOf, sceneBytes, sceneNumbers, paddedTo, sceneTable}
-use Rattle.scene_table.specs.Lent.{tableEntry, inputsAt, outputsAt, depsAt, witnessesAt, verdictsAt, recordsAt, inputFrom, cellRecordFrom, bytesFrom, sceneFrom, blankScene, inputCount, outputCount, depCount, witnessCount, digitCount, bytesPlace, scriptPlace, transactionPlace, zerosAt}
+use Rattle.scene_table.specs.Lent.{tableEntry, inputsAt, outputsAt, depsAt, witnessesAt, verdictsAt, recordsAt, inputWidth, outputWidth, cellWidth, bytesWidth, inputFrom, outputFrom, cellRecordFrom, bytesFrom, sceneFrom, blankScene, inputCount, outputCount, depCount, witnessCount, digitCount, bytesPlace, scriptPlace, transactionPlace, zerosAt}
 use Rattle.scene_table.specs.Valid.{validTable}
 use Rattle.scene_table.specs.RecordsWalk.{recordsStart, walkLines, countsOk, zerosBehind, restOk}
 use Rattle.scene_table.proofs.Records.{length-records}
@@ -48,10 +48,10 @@ module _ (table : List ℕ) where
   unfolding countsOf blankScene sceneFrom scriptPlace transactionPlace bytesPlace
   said-counts =
       rw (
-        length-records (inputFrom zerosAt table) 6 (inputCount table) inputsAt,
-        length-records (cellRecordFrom zerosAt table) 3 (outputCount table) (outputsAt table),
-        length-records (cellRecordFrom zerosAt table) 3 (depCount table) (depsAt table),
-        length-records (bytesFrom zerosAt table) 2 (witnessCount table) (witnessesAt table),
+        length-records (inputFrom zerosAt table) inputWidth (inputCount table) inputsAt,
+        length-records (outputFrom zerosAt table) outputWidth (outputCount table) (outputsAt table),
+        length-records (cellRecordFrom zerosAt table) cellWidth (depCount table) (depsAt table),
+        length-records (bytesFrom zerosAt table) bytesWidth (witnessCount table) (witnessesAt table),
       )
 
   -- the records end behind the last digit

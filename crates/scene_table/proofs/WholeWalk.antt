@@ -7,8 +7,8 @@ use Prim.Native.Nat.{ℕ, zero, suc, _+_, _*_, _/_, _%_, _^_, _<_}
 use native.Mathlib.Omega.{arith}
 use lib.ListN.{length, replicate, length-append, length-replicate}
 use Rattle.octets.specs.Lists.{every}
-use Rattle.scene_table.specs.Scene.{Line, cellBytes, cellLengths, bytesLine, hashLine, inputLine, cellLine, digitsLine, linesOf}
-use Rattle.scene_table.specs.Lent.{tableEntry, inputsAt, outputsAt, depsAt, witnessesAt, verdictsAt, recordsAt, cellFrom, inputFrom, cellRecordFrom, bytesFrom, sceneFrom, blankScene, inputCount, witnessCount, outputCount, depCount, digitCount, cellRecordPlaces, cellFieldPlaces, bytesPlace, inputRecordPlaces, scriptPlace, transactionPlace, zerosAt, placeAt}
+use Rattle.scene_table.specs.Scene.{Line, cellBytes, cellLengths, bytesLine, hashLine, inputLine, outputLine, cellLine, digitsLine, linesOf}
+use Rattle.scene_table.specs.Lent.{tableEntry, inputsAt, outputsAt, depsAt, witnessesAt, verdictsAt, recordsAt, tableU64, inputWidth, outputWidth, cellWidth, bytesWidth, cellFrom, inputFrom, outputFrom, cellRecordFrom, bytesFrom, sceneFrom, blankScene, inputCount, witnessCount, outputCount, depCount, digitCount, cellRecordPlaces, cellFieldPlaces, bytesPlace, inputRecordPlaces, scriptPlace, transactionPlace, zerosAt, placeAt}
 use Rattle.scene_table.specs.RecordsWalk.{withRecord, cellSize, recordStep, walkRecords, anyRecord, groupOk, bytesSize, cellRecordSize, inputSize, recordsStart, walkHead, walkInputs, walkOutputs, walkDeps, walkWitnesses, walkLines}
 use Rattle.scene_table.specs.declared.validity.RecordsWalk.{RecordsWalk}
 use Rattle.scene_table.proofs.Records.{length-records}
@@ -46,16 +46,42 @@ module _ (table : List ℕ) where
       let two : at + 1 + 1 ≡ at + 2 = omega arith in
       rw (two, length-blank (tableEntry table (at + 1)), length-blank (tableEntry table (at + 2)))
 
-  own-input : ((i : ℕ) → tableEntry table i < 2 ^ 32) → (at : ℕ) → inputLine (inputFrom zerosAt table at) .numbers ≡ cut table 5 (at + 1)
-  unfolding inputLine cellLengths inputFrom inputRecordPlaces cellFrom cellFieldPlaces cut recordsAt
-  own-input small at =
-      let two : at + 1 + 1 ≡ at + 2 = omega arith in
-      let three : at + 2 + 1 ≡ at + 3 = omega arith in
-      let four : at + 3 + 1 ≡ at + 4 = omega arith in
-      let five : at + 4 + 1 ≡ at + 5 = omega arith in
-      let low : (tableEntry table (at + 2) + 2 ^ 32 * tableEntry table (at + 3)) % 2 ^ 32 ≡ tableEntry table (at + 2) = omega (arith, small (at + 2)) in
-      let high : (tableEntry table (at + 2) + 2 ^ 32 * tableEntry table (at + 3)) / 2 ^ 32 ≡ tableEntry table (at + 3) = omega (arith, small (at + 2)) in
-      rw (two, three, four, five, low, high, length-blank (tableEntry table (at + 4)), length-blank (tableEntry table (at + 5)))
+  -- the halves of a u64 are the entries where they stand
+  module _ (small : (i : ℕ) → tableEntry table i < 2 ^ 32) where
+    own-low : (at : ℕ) → tableU64 table at % 2 ^ 32 ≡ tableEntry table at
+    own-low at = omega (arith, small at)
+
+    own-high : (at : ℕ) → tableU64 table at / 2 ^ 32 ≡ tableEntry table (at + 1)
+    own-high at = omega (arith, small at)
+
+    own-output : (at : ℕ) → outputLine (outputFrom zerosAt table at) .numbers ≡ cut table 4 (at + 1)
+    unfolding outputLine cellLengths outputFrom cellRecordPlaces cellFieldPlaces cellFrom cut recordsAt
+    own-output at =
+        let two : at + 1 + 1 ≡ at + 2 = omega arith in
+        let three : at + 2 + 1 ≡ at + 3 = omega arith in
+        rw (own-low (at + 3), own-high (at + 3), two, three, length-blank (tableEntry table (at + 1)), length-blank (tableEntry table (at + 2)))
+
+    own-input : (at : ℕ) → inputLine (inputFrom zerosAt table at) .numbers ≡ cut table 7 (at + 1)
+    unfolding inputLine cellLengths inputFrom inputRecordPlaces cellFrom cellFieldPlaces cut recordsAt
+    own-input at =
+        let two : at + 1 + 1 ≡ at + 2 = omega arith in
+        let three : at + 2 + 1 ≡ at + 3 = omega arith in
+        let four : at + 3 + 1 ≡ at + 4 = omega arith in
+        let five : at + 4 + 1 ≡ at + 5 = omega arith in
+        let six : at + 5 + 1 ≡ at + 6 = omega arith in
+        rw (
+          own-low (at + 2),
+          own-high (at + 2),
+          own-low (at + 6),
+          own-high (at + 6),
+          two,
+          three,
+          four,
+          five,
+          six,
+          length-blank (tableEntry table (at + 4)),
+          length-blank (tableEntry table (at + 5)),
+        )
 
   own-hash : (hash : List ℕ) → hashLine hash .numbers ≡ cut table 0 11
   unfolding hashLine cut recordsAt
@@ -85,13 +111,16 @@ module _ (table : List ℕ) where
 
   -- the lines that the table says, kind by kind
   inputRecords : List Line
-  inputRecords = recordsAt (λ i. inputLine (inputFrom zerosAt table i)) 6 (inputCount table) inputsAt
+  inputRecords = recordsAt (λ i. inputLine (inputFrom zerosAt table i)) inputWidth (inputCount table) inputsAt
 
-  cellRecords : ℕ → ℕ → List Line
-  cellRecords n at = recordsAt (λ i. cellLine (cellRecordFrom zerosAt table i)) 3 n at
+  outputRecords : List Line
+  outputRecords = recordsAt (λ i. outputLine (outputFrom zerosAt table i)) outputWidth (outputCount table) (outputsAt table)
+
+  depRecords : List Line
+  depRecords = recordsAt (λ i. cellLine (cellRecordFrom zerosAt table i)) cellWidth (depCount table) (depsAt table)
 
   witnessRecords : List Line
-  witnessRecords = recordsAt (λ i. bytesLine (bytesFrom zerosAt table i)) 2 (witnessCount table) (witnessesAt table)
+  witnessRecords = recordsAt (λ i. bytesLine (bytesFrom zerosAt table i)) bytesWidth (witnessCount table) (witnessesAt table)
 
   digitsRecord : Line
   digitsRecord = digitsLine (recordsAt (tableEntry table) 1 (digitCount table) (verdictsAt table + 2))
@@ -100,30 +129,29 @@ module _ (table : List ℕ) where
   kinds =
       (bytesLine (bytesFrom zerosAt table 8) ∷ [])
       ++ ((hashLine (zerosAt (placeAt (tableEntry table 10) 32)) ∷ [])
-      ++ (inputRecords
-      ++ (cellRecords (outputCount table) (outputsAt table) ++ (cellRecords (depCount table) (depsAt table) ++ (witnessRecords ++ (digitsRecord ∷ []))))))
+      ++ (inputRecords ++ (outputRecords ++ (depRecords ++ (witnessRecords ++ (digitsRecord ∷ []))))))
 
   lines-kinds : linesOf (blankScene table) ≡ kinds
-  unfolding blankScene sceneFrom scriptPlace transactionPlace bytesPlace digitCount inputRecords cellRecords witnessRecords digitsRecord kinds fromInputs fromOutputs fromDeps fromWitnesses
+  unfolding blankScene sceneFrom scriptPlace transactionPlace bytesPlace digitCount inputRecords outputRecords depRecords witnessRecords digitsRecord kinds fromInputs fromOutputs fromDeps fromWitnesses
   lines-kinds =
       lines-by-kind (blankScene table)
       ∙ rw (
-        map-records inputLine (inputFrom zerosAt table) 6 (inputCount table) inputsAt,
-        map-records cellLine (cellRecordFrom zerosAt table) 3 (outputCount table) (outputsAt table),
-        map-records cellLine (cellRecordFrom zerosAt table) 3 (depCount table) (depsAt table),
-        map-records bytesLine (bytesFrom zerosAt table) 2 (witnessCount table) (witnessesAt table),
+        map-records inputLine (inputFrom zerosAt table) inputWidth (inputCount table) inputsAt,
+        map-records outputLine (outputFrom zerosAt table) outputWidth (outputCount table) (outputsAt table),
+        map-records cellLine (cellRecordFrom zerosAt table) cellWidth (depCount table) (depsAt table),
+        map-records bytesLine (bytesFrom zerosAt table) bytesWidth (witnessCount table) (witnessesAt table),
       )
 
   -- how many entries they have
   unfoldable pub span : ℕ
-  span = 2 + (1 + (6 * inputCount table + (3 * outputCount table + (3 * depCount table + (2 * witnessCount table + suc (suc (digitCount table)))))))
+  span = 2 + (1 + (inputWidth * inputCount table + (outputWidth * outputCount table + (cellWidth * depCount table + (bytesWidth * witnessCount table + suc (suc (digitCount table)))))))
 
   -- each input's group is 0 or 1
   unfoldable pub Groups : Type 0
-  Groups = every (groupOk table) (recordsAt (λ (i : ℕ). i) 6 (inputCount table) inputsAt) ≡ true
+  Groups = every (groupOk table) (recordsAt (λ (i : ℕ). i) inputWidth (inputCount table) inputsAt) ≡ true
 
   pub whole : ((i : ℕ) → tableEntry table i < 2 ^ 32) → Segment table Groups recordsStart 8 span (linesOf (blankScene table)) (walkLines table)
-  unfolding walkLines walkWitnesses walkDeps walkOutputs walkInputs walkHead inputsAt outputsAt depsAt witnessesAt verdictsAt inputRecords cellRecords witnessRecords digitsRecord kinds span Groups bytesSize cellRecordSize inputSize bytesLine bytesPlace hashLine digitsLine inputLine cellLine inputFrom inputRecordPlaces cellRecordPlaces cellFieldPlaces
+  unfolding walkLines walkWitnesses walkDeps walkOutputs walkInputs walkHead inputsAt outputsAt depsAt witnessesAt verdictsAt inputRecords outputRecords depRecords witnessRecords digitsRecord kinds span Groups bytesSize cellRecordSize inputSize bytesLine bytesPlace hashLine digitsLine inputLine outputLine cellLine inputFrom outputFrom inputRecordPlaces cellRecordPlaces cellFieldPlaces
   whole small =
       rw
       lines-kinds
@@ -139,10 +167,10 @@ module _ (table : List ℕ) where
       (record-one 32 (recordStep table anyRecord (bytesSize table) recordsStart 8) 10 0 (hashLine (zerosAt (placeAt (tableEntry table 10) 32))) refl (own-hash (zerosAt (placeAt (tableEntry table 10) 32))))
       (join
       table
-      (records-segment table (groupOk table) (inputSize table) 5 (λ i. inputLine (inputFrom zerosAt table i)) (λ i. blank-cell (tableEntry table i) (tableEntry table (i + 4)) (tableEntry table (i + 5))) (own-input small) (inputCount table) inputsAt (walkHead table))
+      (records-segment table (groupOk table) (inputSize table) 7 (λ i. inputLine (inputFrom zerosAt table i)) (λ i. blank-cell (tableEntry table i) (tableEntry table (i + 4)) (tableEntry table (i + 5))) (own-input small) (inputCount table) inputsAt (walkHead table))
       (join
       table
-      (many (cellRecordSize table) 2 (λ i. cellLine (cellRecordFrom zerosAt table i)) (λ i. blank-cell (tableEntry table i) (tableEntry table (i + 1)) (tableEntry table (i + 2))) own-cell (outputCount table) (outputsAt table) (walkInputs table))
+      (many (cellRecordSize table) 4 (λ i. outputLine (outputFrom zerosAt table i)) (λ i. blank-cell (tableEntry table i) (tableEntry table (i + 1)) (tableEntry table (i + 2))) (own-output small) (outputCount table) (outputsAt table) (walkInputs table))
       (join
       table
       (many (cellRecordSize table) 2 (λ i. cellLine (cellRecordFrom zerosAt table i)) (λ i. blank-cell (tableEntry table i) (tableEntry table (i + 1)) (tableEntry table (i + 2))) own-cell (depCount table) (depsAt table) (walkOutputs table))

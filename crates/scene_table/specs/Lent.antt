@@ -7,7 +7,7 @@ use lib.ListN.{getD, replicate}
 use lib.Dec.{eqb}
 use Rattle.octets.specs.declared.place.Place.{Place}
 use Rattle.octets.specs.Places.{bytesAt}
-use Rattle.scene_table.specs.Scene.{Cell, Input, Scene}
+use Rattle.scene_table.specs.Scene.{Cell, Input, Output, Scene}
 use Rattle.scene_table.specs.declared.places.CellPlaces.{CellPlaces}
 
 unfoldable pub tableEntry : List ℕ → ℕ → ℕ
@@ -26,9 +26,12 @@ depCount table = tableEntry table 5
 abbrev pub witnessCount : List ℕ → ℕ
 witnessCount table = tableEntry table 6
 
--- how many entries the record of an input has, that of an output or a dep, and that of a witness
+-- how many entries the record of an input has, that of an output, of a dep, and of a witness
 abbrev pub inputWidth : ℕ
-inputWidth = 6
+inputWidth = 8
+
+abbrev pub outputWidth : ℕ
+outputWidth = 5
 
 abbrev pub cellWidth : ℕ
 cellWidth = 3
@@ -50,7 +53,7 @@ unfoldable pub outputsAt : List ℕ → ℕ
 outputsAt table = inputsAt + inputWidth * inputCount table
 
 unfoldable pub depsAt : List ℕ → ℕ
-depsAt table = outputsAt table + cellWidth * outputCount table
+depsAt table = outputsAt table + outputWidth * outputCount table
 
 unfoldable pub witnessesAt : List ℕ → ℕ
 witnessesAt table = depsAt table + cellWidth * depCount table
@@ -73,12 +76,16 @@ recordOffset table at = tableEntry table at
 abbrev pub bytesLength : List ℕ → ℕ → ℕ
 bytesLength table at = tableEntry table (at + 1)
 
--- of an input: "offset, GROUP, low and high half of SINCE, length of TYPESCRIPT, length of DATA"
+-- the u64 whose halves stand at two entries, the low one first
+abbrev pub tableU64 : List ℕ → ℕ → ℕ
+tableU64 table at = tableEntry table at + 2 ^ 32 * tableEntry table (at + 1)
+
+-- of an input: "offset, GROUP, low and high half of SINCE, length of TYPESCRIPT, length of DATA, low and high half of CAPACITY"
 abbrev pub inputRecordGroup : List ℕ → ℕ → ℕ
 inputRecordGroup table at = tableEntry table (at + 1)
 
 abbrev pub inputRecordSince : List ℕ → ℕ → ℕ
-inputRecordSince table at = tableEntry table (at + 2) + 2 ^ 32 * tableEntry table (at + 3)
+inputRecordSince table at = tableU64 table (at + 2)
 
 abbrev pub inputScriptLength : List ℕ → ℕ → ℕ
 inputScriptLength table at = tableEntry table (at + 4)
@@ -86,12 +93,18 @@ inputScriptLength table at = tableEntry table (at + 4)
 abbrev pub inputDataLength : List ℕ → ℕ → ℕ
 inputDataLength table at = tableEntry table (at + 5)
 
--- of an output or a dep: "offset, length of TYPESCRIPT, length of DATA"
+abbrev pub inputRecordCapacity : List ℕ → ℕ → ℕ
+inputRecordCapacity table at = tableU64 table (at + 6)
+
+-- of an output or a dep: "offset, length of TYPESCRIPT, length of DATA", and of an output "low and high half of CAPACITY"
 abbrev pub cellScriptLength : List ℕ → ℕ → ℕ
 cellScriptLength table at = tableEntry table (at + 1)
 
 abbrev pub cellDataLength : List ℕ → ℕ → ℕ
 cellDataLength table at = tableEntry table (at + 2)
+
+abbrev pub outputRecordCapacity : List ℕ → ℕ → ℕ
+outputRecordCapacity table at = tableU64 table (at + 3)
 
 -- n records of w entries, the first at `at`
 unfoldable pub recordsAt : {A : Type 0} → (ℕ → A) → ℕ → ℕ → ℕ → List A
@@ -146,10 +159,14 @@ inputFrom from table at = record {
   group = inputRecordGroup table at;
   since = inputRecordSince table at;
   cell = cellFrom from (inputRecordPlaces table at);
+  capacity = inputRecordCapacity table at;
 }
 
 abbrev pub cellRecordFrom : (Place → List ℕ) → List ℕ → ℕ → Cell
 cellRecordFrom from table at = cellFrom from (cellRecordPlaces table at)
+
+unfoldable pub outputFrom : (Place → List ℕ) → List ℕ → ℕ → Output
+outputFrom from table at = record { cell = cellRecordFrom from table at; capacity = outputRecordCapacity table at }
 
 abbrev pub bytesFrom : (Place → List ℕ) → List ℕ → ℕ → List ℕ
 bytesFrom from table at = from (bytesPlace table at)
@@ -159,7 +176,7 @@ sceneFrom from table = record {
   script = from (scriptPlace table);
   transaction = from (transactionPlace table);
   inputs = recordsAt (inputFrom from table) inputWidth (inputCount table) inputsAt;
-  outputs = recordsAt (cellRecordFrom from table) cellWidth (outputCount table) (outputsAt table);
+  outputs = recordsAt (outputFrom from table) outputWidth (outputCount table) (outputsAt table);
   deps = recordsAt (cellRecordFrom from table) cellWidth (depCount table) (depsAt table);
   witnesses = recordsAt (bytesFrom from table) bytesWidth (witnessCount table) (witnessesAt table);
   digits = recordsAt (tableEntry table) 1 (digitCount table) (digitsAt table);

@@ -7,7 +7,7 @@ use lib.Dec.{eqb}
 use Rattle.octets.specs.declared.place.Place.{Place}
 use Rattle.octets.specs.Places.{bytesAt}
 use Rattle.scene_table.specs.Scene.{Cell}
-use Rattle.scene_table.specs.Lent.{inputsAt, outputsAt, depsAt, witnessesAt, inputWidth, cellWidth, bytesWidth, inputRecordGroup, inputRecordSince, blankScene, bytesPlace, cellRecordPlaces, inputRecordPlaces, cellFrom}
+use Rattle.scene_table.specs.Lent.{inputsAt, outputsAt, depsAt, witnessesAt, inputWidth, outputWidth, cellWidth, bytesWidth, inputRecordGroup, inputRecordSince, inputRecordCapacity, outputRecordCapacity, blankScene, bytesPlace, cellRecordPlaces, inputRecordPlaces, cellFrom}
 use Rattle.scene_table.specs.declared.places.CellPlaces.{CellPlaces}
 
 -- where the record of input i begins
@@ -24,8 +24,18 @@ inputSince table i = inputRecordSince table (inputAt i)
 unfoldable pub inputPlaces : List ℕ → ℕ → CellPlaces
 inputPlaces table i = inputRecordPlaces table (inputAt i)
 
+unfoldable pub inputCapacity : List ℕ → ℕ → ℕ
+inputCapacity table i = inputRecordCapacity table (inputAt i)
+
+-- where the record of output i begins
+unfoldable pub outputAt : List ℕ → ℕ → ℕ
+outputAt table i = outputsAt table + outputWidth * i
+
 unfoldable pub outputPlaces : List ℕ → ℕ → CellPlaces
-outputPlaces table i = cellRecordPlaces table (outputsAt table + cellWidth * i)
+outputPlaces table i = cellRecordPlaces table (outputAt table i)
+
+unfoldable pub outputCapacity : List ℕ → ℕ → ℕ
+outputCapacity table i = outputRecordCapacity table (outputAt table i)
 
 unfoldable pub depPlaces : List ℕ → ℕ → CellPlaces
 depPlaces table i = cellRecordPlaces table (depsAt table + cellWidth * i)

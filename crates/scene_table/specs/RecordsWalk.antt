@@ -7,7 +7,7 @@ use lib.ListN.{length, drop}
 use lib.Dec.{leb, ltb, eqb}
 use Rattle.octets.specs.Lists.{every}
 use Rattle.protocol.specs.Limits.{tableMinEntries, kindMaxLines, digitsMaxCount}
-use Rattle.scene_table.specs.Lent.{tableEntry, scriptAt, transactionAt, inputsAt, outputsAt, depsAt, witnessesAt, verdictsAt, digitsAt, inputCount, outputCount, depCount, witnessCount, digitCount, inputWidth, cellWidth, bytesWidth, recordOffset, bytesLength, inputRecordGroup, inputScriptLength, inputDataLength, cellScriptLength, cellDataLength, hashLength, blankScene}
+use Rattle.scene_table.specs.Lent.{tableEntry, scriptAt, transactionAt, inputsAt, outputsAt, depsAt, witnessesAt, verdictsAt, digitsAt, inputCount, outputCount, depCount, witnessCount, digitCount, inputWidth, outputWidth, cellWidth, bytesWidth, recordOffset, bytesLength, inputRecordGroup, inputScriptLength, inputDataLength, cellScriptLength, cellDataLength, hashLength, blankScene}
 use Rattle.scene_table.specs.declared.validity.RecordsWalk.{RecordsWalk}
 use Rattle.scene_table.specs.declared.validity.RecordForm.{RecordForm}
 use Rattle.scene_table.specs.declared.validity.RecordForm.the-variants as form
@@ -51,16 +51,19 @@ inputSize table at = cellSize (inputScriptLength table at) (inputDataLength tabl
 abbrev pub recordOk : List ℕ → RecordForm → ℕ → Bool
 recordOk table form.Bytes = anyRecord
 recordOk table form.Cell = anyRecord
+recordOk table form.Output = anyRecord
 recordOk table form.Input = groupOk table
 
 abbrev pub recordSize : List ℕ → RecordForm → ℕ → ℕ
 recordSize table form.Bytes = bytesSize table
 recordSize table form.Cell = cellRecordSize table
+recordSize table form.Output = cellRecordSize table
 recordSize table form.Input = inputSize table
 
 abbrev pub recordWidth : RecordForm → ℕ
 recordWidth form.Bytes = bytesWidth
 recordWidth form.Cell = cellWidth
+recordWidth form.Output = outputWidth
 recordWidth form.Input = inputWidth
 
 unfoldable pub recordsStart : RecordsWalk
@@ -73,7 +76,7 @@ unfoldable pub walkInputs : List ℕ → RecordsWalk
 walkInputs table = walkRecords table (groupOk table) (inputSize table) inputWidth (inputCount table) inputsAt (walkHead table)
 
 unfoldable pub walkOutputs : List ℕ → RecordsWalk
-walkOutputs table = walkRecords table anyRecord (cellRecordSize table) cellWidth (outputCount table) (outputsAt table) (walkInputs table)
+walkOutputs table = walkRecords table anyRecord (cellRecordSize table) outputWidth (outputCount table) (outputsAt table) (walkInputs table)
 
 unfoldable pub walkDeps : List ℕ → RecordsWalk
 walkDeps table = walkRecords table anyRecord (cellRecordSize table) cellWidth (depCount table) (depsAt table) (walkOutputs table)

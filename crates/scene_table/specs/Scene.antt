@@ -1,8 +1,9 @@
 -- A scene: the transaction that the lock sees, and the store and the table that hold it.
-use Prim.Native.Nat.{ℕ, _+_, _-_, _/_, _%_, _^_}
+use Prim.Native.Nat.{ℕ, _+_, _-_}
 use mathlib.Core.List.{List, [], _∷_, _++_, map}
 use lib.ListN.{length, replicate}
 use Rattle.octets.specs.Lists.{joined}
+use Rattle.octets.specs.Le.{u64Halves}
 
 -- 01, The scene: "TYPEHASH,DATAHASH,TYPESCRIPT,DATA"; a cell without a type script has no byte for the first and the third
 pub record Cell : Type 0 where
@@ -11,18 +12,23 @@ pub record Cell : Type 0 where
   pub typeScript : List ℕ
   pub content : List ℕ
 
--- "`input,GROUP,SINCE,TYPEHASH,DATAHASH,TYPESCRIPT,DATA`"
+-- "`input,GROUP,SINCE,TYPEHASH,DATAHASH,TYPESCRIPT,DATA`"; 02, change 9: "Input and output lines end with a new field CAPACITY"
 pub record Input : Type 0 where
   pub group : ℕ
   pub since : ℕ
   pub cell : Cell
+  pub capacity : ℕ
+
+pub record Output : Type 0 where
+  pub cell : Cell
+  pub capacity : ℕ
 
 -- "in this order of kinds"
 pub record Scene : Type 0 where
   pub script : List ℕ
   pub transaction : List ℕ
   pub inputs : List Input
-  pub outputs : List Cell
+  pub outputs : List Output
   pub deps : List Cell
   pub witnesses : List (List ℕ)
   pub digits : List ℕ
@@ -47,8 +53,11 @@ hashLine hash = record { bytes = hash; numbers = [] }
 unfoldable pub inputLine : Input → Line
 inputLine i = record {
   bytes = cellBytes (i .cell);
-  numbers = i .group ∷ i .since % 2 ^ 32 ∷ i .since / 2 ^ 32 ∷ cellLengths (i .cell);
+  numbers = i .group ∷ u64Halves (i .since) ++ cellLengths (i .cell) ++ u64Halves (i .capacity);
 }
+
+unfoldable pub outputLine : Output → Line
+outputLine o = record { bytes = cellBytes (o .cell); numbers = cellLengths (o .cell) ++ u64Halves (o .capacity) }
 
 unfoldable pub cellLine : Cell → Line
 cellLine c = record { bytes = cellBytes c; numbers = cellLengths c }
@@ -62,7 +71,7 @@ linesOf s =
     bytesLine (s .script)
     ∷ hashLine (s .transaction)
     ∷ map inputLine (s .inputs)
-    ++ map cellLine (s .outputs)
+    ++ map outputLine (s .outputs)
     ++ map cellLine (s .deps)
     ++ map bytesLine (s .witnesses)
     ++ (digitsLine (s .digits) ∷ [])

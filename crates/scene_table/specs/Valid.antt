@@ -6,7 +6,7 @@ use lib.ListN.{length}
 use lib.Dec.{leb, ltb, eqb}
 use Rattle.octets.specs.Lists.{same, every}
 use Rattle.protocol.specs.Limits.{tableMinEntries, kindMaxLines, digitsMaxCount}
-use Rattle.scene_table.specs.Scene.{Cell, Input, Scene, sceneBytes, sceneTable}
+use Rattle.scene_table.specs.Scene.{Cell, Input, Output, Scene, sceneBytes, sceneTable}
 use Rattle.scene_table.specs.Lent.{blankScene}
 
 unfoldable pub bytesOk : List ℕ → Bool
@@ -21,9 +21,12 @@ cellOk c =
     cond (eqb (length (c .typeScript)) 0) (eqb (length (c .typeHash)) 0) (hashBytesOk (c .typeHash))
     && (hashBytesOk (c .dataHash) && (bytesOk (c .typeScript) && bytesOk (c .content)))
 
--- "GROUP is 1 where the input runs this lock, else 0 .. SINCE is a decimal u64"
+-- "GROUP is 1 where the input runs this lock, else 0 .. SINCE is a decimal u64"; 02, change 9: CAPACITY is "written as SINCE is"
 unfoldable pub inputOk : Input → Bool
-inputOk i = ltb (i .group) 2 && (ltb (i .since) (2 ^ 64) && cellOk (i .cell))
+inputOk i = ltb (i .group) 2 && (ltb (i .since) (2 ^ 64) && (cellOk (i .cell) && ltb (i .capacity) (2 ^ 64)))
+
+unfoldable pub outputOk : Output → Bool
+outputOk o = cellOk (o .cell) && ltb (o .capacity) (2 ^ 64)
 
 -- "Script, tx and verdicts stand once; each other kind 0 to 64 times."
 unfoldable pub fewOf : {A : Type 0} → (A → Bool) → List A → Bool
@@ -39,7 +42,7 @@ sceneOk s =
     bytesOk (s .script)
     && (hashBytesOk (s .transaction)
     && (fewOf inputOk (s .inputs)
-    && (fewOf cellOk (s .outputs) && (fewOf cellOk (s .deps) && (fewOf bytesOk (s .witnesses) && digitsOk (s .digits))))))
+    && (fewOf outputOk (s .outputs) && (fewOf cellOk (s .deps) && (fewOf bytesOk (s .witnesses) && digitsOk (s .digits))))))
 
 -- a table of at least 2,048 entries that is the table of the scene which it says, whose bytes a store of n bytes holds
 unfoldable pub validTable : List ℕ → ℕ → Bool

@@ -2,11 +2,13 @@
 use octets::Place;
 ghost use mathlib.Core.Path.{_≡_};
 ghost use Prim.Native.Nat.{_≤_, _<_, _^_};
-ghost use Rattle.scene_table.specs.Lent.{tableEntry, outputsAt, depsAt, witnessesAt, verdictsAt, hashLength, digitCount, inputCount, outputCount, depCount, witnessCount, cellFieldPlaces, bytesPlace, cellRecordPlaces, scriptPlace, transactionPlace};
-ghost use Rattle.scene_table.specs.Places.{inputGroup, inputSince, inputPlaces, outputPlaces, depPlaces, witnessPlace, verdictOf};
+ghost use Rattle.scene_table.specs.Lent.{tableEntry, tableU64, outputsAt, depsAt, witnessesAt, verdictsAt, hashLength, digitCount, inputCount, outputCount, depCount, witnessCount, cellFieldPlaces, bytesPlace, cellRecordPlaces, scriptPlace, transactionPlace};
+ghost use Rattle.scene_table.specs.Places.{inputGroup, inputSince, inputCapacity, inputPlaces, outputPlaces, outputCapacity, depPlaces, witnessPlace, verdictOf};
 
-// How many entries the record of an input has, that of an output or a dep, and that of a witness.
-pub(crate) const INPUT_WIDTH: usize = 6;
+// How many entries the record of an input has, that of an output, of a dep, and of a witness.
+pub(crate) const INPUT_WIDTH: usize = 8;
+
+pub(crate) const OUTPUT_WIDTH: usize = 5;
 
 pub(crate) const CELL_WIDTH: usize = 3;
 
@@ -33,6 +35,14 @@ pub(crate) fn table_entry(table: &[u32], at: usize) -> u32
     if at < table.len() { table[at] } else { 0 }
 }
 
+// The u64 whose halves stand at `at` and behind it.
+fn table_u64(table: &[u32], at: usize) -> u64
+    requires { ⌜ at < 2 ^ 40 ⌝ }
+    ensures { λ r. ⌜ r ≡ tableU64 (now (table .entry)) at ⌝ }
+{
+    table_entry(table, at) as u64 + 4294967296 * table_entry(table, at + 1) as u64
+}
+
 // Where the records of each kind begin.
 pub(crate) fn outputs_at(table: &[u32]) -> usize
     ensures { λ r. ⌜ r ≡ outputsAt (now (table .entry)) ⌝ }
@@ -45,7 +55,7 @@ pub(crate) fn deps_at(table: &[u32]) -> usize
     ensures { λ r. ⌜ r ≡ depsAt (now (table .entry)) ⌝ }
     ensures { λ r. ⌜ r < 2 ^ 37 ⌝ }
 {
-    outputs_at(table) + CELL_WIDTH * output_count(table) as usize
+    outputs_at(table) + OUTPUT_WIDTH * output_count(table) as usize
 }
 
 pub(crate) fn witnesses_at(table: &[u32]) -> usize
@@ -175,8 +185,13 @@ pub fn input_group(table: &[u32], i: u32) -> bool
 pub fn input_since(table: &[u32], i: u32) -> u64
     ensures { λ r. ⌜ r ≡ inputSince (now (table .entry)) i ⌝ }
 {
-    let at = INPUTS_AT + INPUT_WIDTH * i as usize;
-    table_entry(table, at + 2) as u64 + 4294967296 * table_entry(table, at + 3) as u64
+    table_u64(table, INPUTS_AT + INPUT_WIDTH * i as usize + 2)
+}
+
+pub fn input_capacity(table: &[u32], i: u32) -> u64
+    ensures { λ r. ⌜ r ≡ inputCapacity (now (table .entry)) i ⌝ }
+{
+    table_u64(table, INPUTS_AT + INPUT_WIDTH * i as usize + 6)
 }
 
 pub fn input_cell(table: &[u32], i: u32) -> CellPlaces
@@ -193,7 +208,13 @@ pub fn input_cell(table: &[u32], i: u32) -> CellPlaces
 pub fn output_cell(table: &[u32], i: u32) -> CellPlaces
     ensures { λ r. ⌜ r ≡ outputPlaces (now (table .entry)) i ⌝ }
 {
-    record_places(table, outputs_at(table) + CELL_WIDTH * i as usize)
+    record_places(table, outputs_at(table) + OUTPUT_WIDTH * i as usize)
+}
+
+pub fn output_capacity(table: &[u32], i: u32) -> u64
+    ensures { λ r. ⌜ r ≡ outputCapacity (now (table .entry)) i ⌝ }
+{
+    table_u64(table, outputs_at(table) + OUTPUT_WIDTH * i as usize + 3)
 }
 
 pub fn dep_cell(table: &[u32], i: u32) -> CellPlaces

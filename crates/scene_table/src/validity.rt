@@ -3,6 +3,7 @@ use crate::places::BYTES_WIDTH;
 use crate::places::CELL_WIDTH;
 use crate::places::INPUT_WIDTH;
 use crate::places::INPUTS_AT;
+use crate::places::OUTPUT_WIDTH;
 use crate::places::SCRIPT_AT;
 use crate::places::TRANSACTION_AT;
 use crate::places::dep_count;
@@ -62,10 +63,11 @@ impl RecordsWalk {
     }
 }
 
-// What a record is of: bytes, an output or a dep, an input.
+// What a record is of: bytes, a dep, an output, an input.
 pub(crate) enum RecordForm {
     Bytes,
     Cell,
+    Output,
     Input,
 }
 
@@ -107,11 +109,12 @@ fn input_record(table: &[u32], at: usize, walk: RecordsWalk) -> RecordsWalk
 // How many entries a record of a form has.
 fn record_width(form: RecordForm) -> usize
     ensures { λ r. ⌜ r ≡ recordWidth form ⌝ }
-    ensures { λ r. ⌜ r ≤ 6 ⌝ }
+    ensures { λ r. ⌜ r ≤ 8 ⌝ }
 {
     match form {
         RecordForm::Bytes => BYTES_WIDTH,
         RecordForm::Cell => CELL_WIDTH,
+        RecordForm::Output => OUTPUT_WIDTH,
         RecordForm::Input => INPUT_WIDTH,
     }
 }
@@ -123,6 +126,7 @@ fn record_of(table: &[u32], form: RecordForm, at: usize, walk: RecordsWalk) -> R
     match form {
         RecordForm::Bytes => bytes_record(table, at, walk),
         RecordForm::Cell => cell_record(table, at, walk),
+        RecordForm::Output => cell_record(table, at, walk),
         RecordForm::Input => input_record(table, at, walk),
     }
 }
@@ -172,7 +176,7 @@ fn walk_lines(table: &[u32]) -> RecordsWalk
     );
     let outputs = walk_records(
         table,
-        RecordForm::Cell,
+        RecordForm::Output,
         outputs_at(table),
         output_count(table),
         inputs,

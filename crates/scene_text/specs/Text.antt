@@ -68,6 +68,11 @@ plain s = ltb 0 (length s) && (every (inRange 48 57) s && (eqb (length s) 1 || n
 unfoldable pub numberOf : List ℕ → Decimal
 numberOf s = cond (ltb (decimal 0 s) (2 ^ 64)) (Value (decimal 0 s)) Invalid
 
--- 01: "SINCE is a decimal u64 without leading zeros, zero being `0`."
-unfoldable pub sinceOf : List ℕ → Decimal
-sinceOf s = cond (plain s) (numberOf s) Invalid
+-- 01: "SINCE is a decimal u64 without leading zeros, zero being `0`."; 02, change 9: CAPACITY is "written as SINCE is"
+unfoldable pub decimalOf : List ℕ → Decimal
+decimalOf s = cond (plain s) (numberOf s) Invalid
+
+-- the number of such a field, 0 where it has none
+unfoldable pub numberIn : Decimal → ℕ
+numberIn (Value v) = v
+numberIn Invalid = 0

@@ -2,7 +2,7 @@
 ghost use mathlib.Core.Path.{_≡_};
 ghost use mathlib.Core.Bool.{true};
 ghost use Rattle.octets.specs.Lists.{every};
-ghost use Rattle.scene_text.specs.Text.{inRange, numberOf, sinceOf};
+ghost use Rattle.scene_text.specs.Text.{inRange, numberOf, decimalOf};
 
 // What a decimal field says.
 pub enum Decimal {
@@ -50,8 +50,8 @@ fn value(s: &[u8]) -> Decimal
 }
 
 // The number that s is the decimal form of.
-pub fn since(s: &[u8]) -> Decimal
-    ensures { λ r. ⌜ r ≡ sinceOf (now (s .entry)) ⌝ }
+pub fn read_decimal(s: &[u8]) -> Decimal
+    ensures { λ r. ⌜ r ≡ decimalOf (now (s .entry)) ⌝ }
 {
     if s.len() == 0 {
         return Decimal::Invalid;

@@ -11,7 +11,7 @@ pub use self::cut::head;
 pub use self::cut::tail;
 pub use self::decimal::Decimal;
 pub use self::decimal::all_between;
-pub use self::decimal::since;
+pub use self::decimal::read_decimal;
 pub use self::hex::decode;
 pub use self::hex::hex_ok;
 pub use self::hex::hex_value;

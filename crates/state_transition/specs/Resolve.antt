@@ -73,7 +73,7 @@ successorState operation id s = successorAt operation (stateIndex source.Output 
 
 -- the since of the input that holds the state; a spend has no such input, and no row that asks for it
 unfoldable pub noInput : Input
-noInput = record { group = 0; since = 0; cell = noCell }
+noInput = record { group = 0; since = 0; cell = noCell; capacity = 0 }
 
 abbrev pub sinceAt : ℕ → Scene → ℕ
 sinceAt index s = getD (s .inputs) index noInput .since

@@ -1,9 +1,10 @@
 // Reads and decides recorded scenes, and compares with the recorded answers: 40 where a hash differs, 44 where an aux is too long,
 // 49 where a successor carries a session, RFC 0017's where a recovery's wait is answered otherwise than by plain numbers, else what
-// the original answered. It writes the answers that are not given, and then how many passed. Standard input has for each scene
-//   LENGTH                              its length
+// the original answered; and where that is 0, 39 or 48 by the totals of the capacities, or the fee. It writes the answers that are
+// not given, and then how many passed. Standard input has for each scene
+//   LENGTH                                  its length
 //   the scene
-//   answer,NUMBER,COUNT,LENGTH,DIGEST   its answer
+//   answer,NUMBER,COUNT,LENGTH,DIGEST,FEE   its answer
 mod record; // record.rt
 
 use crate::record::behind_record;

@@ -13,14 +13,14 @@ use scene_text::LINE_END;
 use scene_text::decode;
 use scene_text::find;
 use scene_text::head;
-use scene_text::since;
+use scene_text::read_decimal;
 use scene_text::tail;
 ghost use Prim.Native.Nat.{_≤_};
 ghost use lib.ListN.{length};
 
 // The number that a field is the decimal form of; one that no answer has where it is none.
 pub(crate) fn value(f: &[u8]) -> u64 {
-    match since(f) {
+    match read_decimal(f) {
         Decimal::Value(v) => v,
         Decimal::Invalid => 18446744073709551615,
     }
@@ -53,17 +53,30 @@ fn same_digest(digits: &[u8], reached: bool, digest: &[u8]) -> bool {
     (digits.len() == 64) & same_bytes(&expected, digest)
 }
 
+// Whether the field is the fee of an accepted scene, or empty.
+fn same_fee(text: &[u8], found: Check, fee: u64) -> bool {
+    match found {
+        Check::Failed(_) => (text.len() == 0) & (fee == 0),
+        Check::Passed => match read_decimal(text) {
+            Decimal::Value(v) => v == fee,
+            Decimal::Invalid => false,
+        },
+    }
+}
+
 // Whether the line has this answer.
 fn same_answer(line: &[u8], answer: LockAnswer) -> bool {
     let number = behind(line);
     let count = behind(number);
     let len = behind(count);
+    let digits = behind(len);
     let found = answer.found;
     let digest = answer.digest;
     (value(field(number)) == check_number(found) as u64)
         & (value(field(count)) == answer.count as u64)
         & (value(field(len)) == answer.length as u64)
-        & same_digest(behind(len), answer.reached, &digest)
+        & same_digest(field(digits), answer.reached, &digest)
+        & same_fee(behind(digits), found, answer.fee)
 }
 
 // Whether the scene is read, and the line has the lock's answer.

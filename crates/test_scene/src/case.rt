@@ -8,7 +8,7 @@ use scene_text::Decimal;
 use scene_text::all_between;
 use scene_text::find;
 use scene_text::head;
-use scene_text::since;
+use scene_text::read_decimal;
 use scene_text::tail;
 ghost use Prim.Native.Nat.{_≤_};
 ghost use lib.ListN.{length};
@@ -24,7 +24,7 @@ pub(crate) struct Case {
 }
 
 fn value(f: &[u8]) -> u64 {
-    match since(f) {
+    match read_decimal(f) {
         Decimal::Value(v) => v,
         Decimal::Invalid => 0,
     }
@@ -140,13 +140,13 @@ fn wide(x: u8) -> u64 {
 }
 
 // The number of a scene, read into a store and a table without a zero. 99 where a refusal left something in them, 98 where an
-// accepted scene left something behind the most that it can fill: its own length, and 925 entries.
+// accepted scene left something behind the most that it can fill: its own length, and 1,181 entries.
 fn number(scene: &[u8], store: &mut [u8], table: &mut [u32]) -> u64 {
     fill_bytes(store);
     fill_words(table);
     match read_scene(scene, store, table) {
         Check::Passed => {
-            if all_between(tail(store, scene.len()), 0, 0) & zero_from(table, 925) {
+            if all_between(tail(store, scene.len()), 0, 0) & zero_from(table, 1181) {
                 0
             } else {
                 98

@@ -2,18 +2,20 @@
 
 use crate::hex::Hex;
 use crate::lent::Lent;
+use crate::measure::refused;
 use crate::original::Outcome;
 use crate::scene_exports;
 use std::sync::LazyLock;
 
 /// An answer buffer that is long enough for any scene.
 pub const ENOUGH: usize = 148_992;
-/// Three words and a digest.
-const OUT: usize = 56;
+/// Three words, a digest and the fee.
+const OUT: usize = 64;
+const FEE: usize = 56;
 /// The lock's number for a request that does not fit the answer buffer.
 const SHORT: u32 = 5;
 /// The lock's number for a table that no scene leaves.
-const NO_TABLE: u32 = 7;
+const NO_TABLE: i8 = 7;
 
 /// What answer buffers hold before a run.
 static BEFORE: LazyLock<Vec<u8>> =
@@ -26,6 +28,8 @@ pub struct Answer {
     pub length: u64,
     /// 1 and the digest, or 0 and 32 zeros.
     pub digest: (u64, Hex),
+    /// 0 where the lock refuses.
+    pub fee: u64,
     /// The whole answer buffer.
     pub buffer: Hex,
 }
@@ -57,18 +61,14 @@ impl Answer {
             count,
             length,
             digest: digest.unwrap_or_else(absent),
+            fee: outcome.fee.filter(|_| number == 0).unwrap_or(0),
             buffer: Hex(buffer),
         }
     }
 
     /// What a table that no scene leaves gives.
     pub fn no_table(buffer_len: usize) -> Self {
-        let outcome = Outcome {
-            number: NO_TABLE as i8,
-            requests: vec![],
-            digest: None,
-        };
-        Answer::expected(&outcome, buffer_len)
+        Answer::expected(&refused(NO_TABLE), buffer_len)
     }
 
     /// An answer as the port stores it.
@@ -78,7 +78,8 @@ impl Answer {
             number,
             count: word(0),
             length: word(1),
-            digest: (word(2), Hex(out[24..].to_vec())),
+            digest: (word(2), Hex(out[24..FEE].to_vec())),
+            fee: word(FEE / 8),
             buffer: Hex(buffer),
         }
     }

@@ -1,11 +1,11 @@
-//! Scenes around a plan.
+//! Scenes around a plan. Inputs and outputs are given their capacities once a scene is whole.
 
 use super::plan::Plan;
 use crate::formats::{states, witnesses};
 use crate::prng::Prng;
 use crate::true_hashes;
 use blake2b::ckb_hash;
-use ckb_std::{Cell, Input, Scene};
+use ckb_std::{Cell, Input, Output, Scene};
 use ckb_types::molecule::{byte_vector, table};
 
 /// The most lines of a kind.
@@ -66,7 +66,12 @@ pub fn plain_input(prng: &mut Prng, group: bool) -> Input {
         group,
         since: [0, 1, prng.next()][prng.up_to(2)],
         cell: plain_cell(prng),
+        capacity: 0,
     }
+}
+
+pub fn output(cell: Cell) -> Output {
+    Output { cell, capacity: 0 }
 }
 
 fn insert<T>(prng: &mut Prng, list: &mut Vec<T>, item: T) {
@@ -142,7 +147,8 @@ pub fn first_group(inputs: &[Input]) -> usize {
 pub fn scene(prng: &mut Prng, plan: &Plan, bytes: Bytes) -> Scene {
     let most = [0, 0, 2, 3][prng.up_to(3)];
     let mut inputs = inputs(prng, most);
-    let mut outputs: Vec<Cell> = (0..prng.up_to(most)).map(|_| plain_cell(prng)).collect();
+    let count = prng.up_to(most);
+    let mut outputs: Vec<Output> = (0..count).map(|_| output(plain_cell(prng))).collect();
     let mut deps = verifiers(prng, plan);
     let state = typed_cell(prng, &plan.type_script, bytes.state);
     if plan.lock.operation == 1 {
@@ -152,7 +158,7 @@ pub fn scene(prng: &mut Prng, plan: &Plan, bytes: Bytes) -> Scene {
         inputs[place].cell = state;
         inputs[place].since = plan.since;
         let successor = typed_cell(prng, &plan.type_script, bytes.successor);
-        insert(prng, &mut outputs, successor);
+        insert(prng, &mut outputs, output(successor));
     }
     for _ in 0..prng.up_to(most) {
         let cell = plain_cell(prng);
@@ -175,7 +181,7 @@ pub fn fill(scene: &mut Scene, prng: &mut Prng) {
         let group = prng.up_to(1) == 1;
         scene.inputs.push(plain_input(prng, group));
     }
-    scene.outputs.resize_with(MOST, || plain_cell(prng));
+    scene.outputs.resize_with(MOST, || output(plain_cell(prng)));
     scene.deps.resize_with(MOST, || plain_cell(prng));
     scene.witnesses.resize(MOST, vec![7; 3]);
 }

@@ -2,25 +2,30 @@
 
 pub mod answer;
 mod assembly;
+mod capacities;
 mod faults;
 mod plan;
 pub mod record;
+mod recorded;
 mod room;
 mod runs;
 pub mod sample_files;
 mod sinces;
 mod tables;
+mod totals;
 mod waits;
 
+pub use capacities::any as any_capacities;
 pub use faults::{about_limit, about_session};
 pub use sinces::any as any_waits;
 
+use crate::capacity_kinds;
 use crate::cell_hashes::Difference;
 use crate::prng::Prng;
 use crate::report::Report;
 use crate::session;
 use crate::since;
-use faults::{any_hash, build, damage, rows, Fault, Row};
+use faults::{any_hash, any_totals, build, damage, rows, Fault, Row};
 use plan::Plan;
 use runs::Runs;
 use std::collections::BTreeMap;
@@ -34,8 +39,9 @@ const LONG_TURNS: usize = 7;
 /// How often each number is met at least.
 const LEAST: usize = 20;
 /// The numbers that the lock can give.
-const NUMBERS: [u32; 24] = [
-    0, 5, 7, 20, 21, 22, 23, 24, 25, 26, 27, 28, 29, 30, 31, 32, 33, 34, 35, 38, 40, 42, 44, 49,
+const NUMBERS: [u32; 26] = [
+    0, 5, 7, 20, 21, 22, 23, 24, 25, 26, 27, 28, 29, 30, 31, 32, 33, 34, 35, 38, 39, 40, 42, 44,
+    48, 49,
 ];
 
 /// Each row of the documents' table, on plans that are accepted without it.
@@ -48,7 +54,7 @@ fn each_row(runs: &mut Runs, rows: &[Row]) {
                 let plan = Plan::full(&mut runs.prng, *operation, entries);
                 let scene = build(&mut runs.prng, plan, &row.faults);
                 let made = row.made.map(|made| made.of(entries));
-                runs.expect(&row.name, &scene, row.number, made);
+                runs.expect(&row.name, &scene, row.number, made, row.fee);
             }
         }
     }
@@ -62,7 +68,7 @@ fn accepted(runs: &mut Runs) {
                 let plan = Plan::valid(&mut runs.prng, operation, entries);
                 let made = (plan.lock.proofs.len(), true);
                 let scene = build(&mut runs.prng, plan, &[]);
-                runs.expect("no fault", &scene, 0, Some(made));
+                runs.expect("no fault", &scene, 0, Some(made), None);
             }
         }
     }
@@ -117,6 +123,10 @@ fn short_buffers(runs: &mut Runs) {
         let hash = any_hash(&mut runs.prng);
         let scene = build(&mut runs.prng, plan, &[hash]);
         runs.every_buffer(&scene);
+        let plan = Plan::random(&mut runs.prng);
+        let totals = any_totals(&mut runs.prng);
+        let scene = build(&mut runs.prng, plan, &[totals]);
+        runs.every_buffer(&scene);
     }
 }
 
@@ -128,7 +138,7 @@ fn longest_answer(runs: &mut Runs) {
     for operation in 1..=3 {
         let plan = Plan::longest_answer(&mut runs.prng, operation);
         let scene = build(&mut runs.prng, plan, &[]);
-        runs.expect("the longest answer", &scene, 0, Some((16, true)));
+        runs.expect("the longest answer", &scene, 0, Some((16, true)), None);
         runs.expect_length(&scene, LONGEST_ANSWER);
         runs.every_buffer(&scene);
     }
@@ -146,6 +156,7 @@ pub fn run(report: &mut Report, long: bool) {
     tables::run(&mut runs);
     room::run(&mut runs);
     waits::run(&mut runs);
+    totals::run(&mut runs);
     report.expect_each("lock", &NUMBERS, LEAST);
     let differences: Vec<&str> = Difference::all().map(Difference::name).collect();
     report.expect_met(&differences, LEAST);
@@ -153,4 +164,5 @@ pub fn run(report: &mut Report, long: bool) {
     report.expect_met(&session::KINDS, LEAST);
     report.expect_met(&since::kinds(), LEAST);
     report.expect_met(&since::CHANGED, LEAST);
+    report.expect_met(&capacity_kinds::kinds(), LEAST);
 }

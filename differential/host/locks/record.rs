@@ -3,6 +3,7 @@
 
 use super::faults::{build, rows, Fault, Row};
 use super::plan::Plan;
+use super::recorded::{CAPACITIES, MARKED, SEVERAL_ENTRIES, WAITED};
 use super::{by_number, random_faults};
 use crate::measure;
 use crate::original::Outcome;
@@ -12,83 +13,11 @@ use ckb_std::Scene;
 use std::collections::BTreeMap;
 use std::io;
 
-const SCENES: usize = 2_000;
+const SCENES: usize = 1_850;
 /// The length of a scene that counts as short.
-const SHORT: usize = 1_365;
+const SHORT: usize = 1_440;
 /// Numbers that need a long proof or a long aux, and how many scenes with them there are.
 const NEED_LONG: [(i8, usize); 2] = [(35, 2), (44, 16)];
-/// Rows with successors of several entries, which short scenes seldom have, and operations.
-const SEVERAL_ENTRIES: [(&str, u8); 12] = [
-    (
-        "successor has capabilities 0x0008 in its first entry of 2",
-        2,
-    ),
-    (
-        "successor has capabilities 0x000f in its last entry of 2",
-        2,
-    ),
-    (
-        "successor has capabilities 0x0008 in its last entry of 2",
-        3,
-    ),
-    (
-        "successor has capabilities 0x0008 in its second entry of 3",
-        3,
-    ),
-    (
-        "successor has capabilities 0x000f in its first entry of 16",
-        2,
-    ),
-    (
-        "successor has capabilities 0x0008 in its ninth entry of 16",
-        3,
-    ),
-    (
-        "successor has capabilities 0x0008 in its last entry of 16",
-        2,
-    ),
-    ("successor has capabilities 0x0007 in 16", 3),
-    (
-        "state has flag 2 and capabilities 0x0008, its successor too",
-        2,
-    ),
-    (
-        "state has flag 2 and capabilities 0x0008, its successor too",
-        3,
-    ),
-    (
-        "state has flag 2 and capabilities 0x0008, its successor cleaned",
-        2,
-    ),
-    (
-        "state has flag 2 and capabilities 0x0008, its successor cleaned",
-        3,
-    ),
-];
-/// Rows of recoveries that have waited, which are accepted as many others are.
-const WAITED: [&str; 10] = [
-    "absolute blocks, 1000 for 999",
-    "relative blocks, 72057594037927935 for 72057594037927935",
-    "absolute seconds, 1000 for 1000",
-    "relative seconds, 4294967296 for 4294967295",
-    "relative epochs, 0 2/4 for 0 1/2",
-    "absolute epochs, 0 0/0 for 0 0/1",
-    "relative epochs, 6 1/10 for 5 9/10",
-    "absolute epochs, 256 0/4096 for 255 4095/4096",
-    "relative epochs, 16777215 0/0 for 16777214 65534/65535",
-    "every bit, no wait",
-];
-/// Document 01's marked rows that a program runs, and the limit of document 02 among those of an aux.
-const MARKED: [&str; 8] = [
-    "a slot twice",
-    "aux 2,593",
-    "aux 2,594",
-    "aux 4,096",
-    "aux 4,097",
-    "proof 65,536",
-    "proof 65,537",
-    "aux 5,000, proof 65,536",
-];
 
 /// The line that the program prints.
 pub fn answer_line(outcome: &Outcome) -> String {
@@ -96,10 +25,11 @@ pub fn answer_line(outcome: &Outcome) -> String {
     let digits = |byte: &u8| format!("{byte:02x}");
     let digest = outcome.digest.iter().flat_map(|digest| &digest.0);
     format!(
-        "answer,{},{},{length},{}\n",
+        "answer,{},{},{length},{},{}\n",
         outcome.number,
         outcome.requests.len(),
-        digest.map(digits).collect::<String>()
+        digest.map(digits).collect::<String>(),
+        outcome.fee.map_or(String::new(), |fee| fee.to_string())
     )
 }
 
@@ -174,16 +104,10 @@ impl Recorder {
         }
     }
 
-    fn several_entries(&mut self, rows: &[Row]) {
-        for (name, operation) in SEVERAL_ENTRIES {
-            let scene = self.with(operation, &named(rows, name).faults);
-            self.offer(&scene, usize::MAX);
-        }
-    }
-
-    fn waited(&mut self, rows: &[Row]) {
-        for name in WAITED {
-            let scene = self.with(3, &named(rows, name).faults);
+    /// Rows by their names.
+    fn named(&mut self, rows: &[Row], names: &[(&str, u8)]) {
+        for (name, operation) in names {
+            let scene = self.with(*operation, &named(rows, name).faults);
             self.offer(&scene, usize::MAX);
         }
     }
@@ -237,8 +161,9 @@ pub fn records() -> Vec<Record> {
     };
     recorder.long(&rows);
     recorder.many_proofs();
-    recorder.several_entries(&rows);
-    recorder.waited(&rows);
+    recorder.named(&rows, &SEVERAL_ENTRIES);
+    recorder.named(&rows, &WAITED.map(|name| (name, 3)));
+    recorder.named(&rows, &CAPACITIES);
     recorder.each_row(&rows);
     recorder.random(&rows);
     recorder.records

@@ -10,10 +10,10 @@ use crate::prng::Prng;
 use crate::scene_exports;
 use crate::scene_text::text;
 
-/// Three words and a digest.
-const STORED: usize = 56;
+/// Three words, a digest and the fee.
+const STORED: usize = 64;
 /// Lengths of the buffer.
-const OUT: [usize; 9] = [0, 1, 8, 24, 55, 56, 57, 64, 200];
+const OUT: [usize; 10] = [0, 1, 8, 24, 55, 56, 63, 64, 65, 200];
 /// The number of a buffer that is too short.
 const DISAGREE: u32 = 7;
 const SCENES: usize = 30;
@@ -47,7 +47,8 @@ fn expected(mut before: Seen, lent: &Lent, whole: &Answer) -> Seen {
     let length = whole.length as usize;
     before.answer.0[..length].copy_from_slice(&whole.buffer.0[..length]);
     let words = [whole.count, whole.length, whole.digest.0].map(u64::to_le_bytes);
-    let stored = [&words.concat()[..], &whole.digest.1 .0].concat();
+    let fee = whole.fee.to_le_bytes();
+    let stored = [&words.concat()[..], &whole.digest.1 .0, &fee].concat();
     before.out.0[..STORED].copy_from_slice(&stored);
     Seen {
         number: whole.number,

@@ -2,6 +2,7 @@
 
 use super::answer::{Answer, ENOUGH};
 use crate::aux_limit::state_number;
+use crate::capacity_kinds;
 use crate::cell_hashes::first_difference;
 use crate::hex::Hex;
 use crate::lent::Lent;
@@ -90,8 +91,8 @@ impl Runs<'_> {
         self.report.compare(name, 0, input, &result, &(true, false));
     }
 
-    /// What the lock has to answer. A hash that differs is counted by its place, a session by who left it and how, waits by
-    /// what comes of them.
+    /// What the lock has to answer. A hash that differs is counted by its place, a session by who left it and how, waits and
+    /// capacities by what comes of them.
     fn measure(&mut self, scene: &Scene) -> Outcome {
         self.check_model(scene);
         if let Some(difference) = first_difference(scene) {
@@ -110,19 +111,31 @@ impl Runs<'_> {
             let changed = since::changed(recovery_since, since);
             changed.into_iter().for_each(|kind| self.report.meet(kind));
         }
+        for kind in capacity_kinds::met(scene, outcome.number) {
+            self.report.meet(kind);
+        }
         outcome
     }
 
-    /// A scene of which the documents say the number, and maybe how many requests were made and whether there is a digest.
-    pub fn expect(&mut self, name: &str, scene: &Scene, number: i8, made: Option<(usize, bool)>) {
+    /// A scene of which the documents say the number, and maybe how many requests were made and whether there is a digest, and
+    /// the fee.
+    pub fn expect(
+        &mut self,
+        name: &str,
+        scene: &Scene,
+        number: i8,
+        made: Option<(usize, bool)>,
+        fee: Option<u64>,
+    ) {
         let outcome = self.measure(scene);
         let text = text(scene);
         let found = (outcome.requests.len(), outcome.digest.is_some());
-        let result = (outcome.number, made.map(|_| found));
+        let (given, wanted) = (fee.map(|_| outcome.fee), fee.map(Some));
+        let result = (outcome.number, made.map(|_| found), given);
         let input = || format!("{name}, {}", describe(&text, ENOUGH));
         let rows = "measure by the documents' rows";
         self.report
-            .compare(rows, text.len(), input, &result, &(number, made));
+            .compare(rows, text.len(), input, &result, &(number, made, wanted));
         let lent = self.read(&text);
         self.compare(&text, &lent, &outcome, ENOUGH);
         self.decide(&text, &lent, &outcome);

@@ -2,7 +2,8 @@
 //! number of the reader and of the lock that a scene of up to 65,536 bytes gives, and a spend of just that many bytes, with
 //! the answer to each in `answers.txt`.
 
-use super::faults::{build, rows, Row};
+use super::capacities::Wanted;
+use super::faults::{build, rows, Fault, Row};
 use super::plan::Plan;
 use super::record::answer_line;
 use crate::prng::Prng;
@@ -17,6 +18,14 @@ const LONGEST: usize = 65_536;
 /// Half of the longest scene in hexadecimal digits, less room for its other lines.
 const LONG_PROOF: usize = 31_000;
 
+/// The capacities of samples that are not about them: a fee of 1,000.
+const USUAL: Fault = Fault::Totals(Wanted {
+    inputs: 61_000_001_000,
+    outputs: 61_000_000_000,
+    lines: 0,
+    foreign: None,
+});
+
 /// Names, operations and rows.
 const ACCEPTED: [(&str, u8, Option<&str>); 4] = [
     ("spend_two_proofs", 1, None),
@@ -28,7 +37,7 @@ const ACCEPTED: [(&str, u8, Option<&str>); 4] = [
         Some("relative epochs, 0 2/4 for 0 1/2"),
     ),
 ];
-const REFUSED: [(&str, u8, &str); 20] = [
+const REFUSED: [(&str, u8, &str); 22] = [
     ("20_invalid_args", 1, "args of 32 bytes"),
     ("21_invalid_state", 1, "state has weight 0"),
     ("22_invalid_witness", 1, "second proof's zeros"),
@@ -49,6 +58,11 @@ const REFUSED: [(&str, u8, &str); 20] = [
         1,
         "state has spend threshold 0",
     ),
+    (
+        "39_length_overflow",
+        1,
+        "inputs 2^64, outputs 1, 2 lines or more",
+    ),
     ("40_hash_mismatch", 1, "state's type script edited"),
     (
         "42_invalid_since",
@@ -56,6 +70,11 @@ const REFUSED: [(&str, u8, &str); 20] = [
         "relative epochs with bit 56 for relative epochs",
     ),
     ("44_aux_too_long", 1, "aux 2,594"),
+    (
+        "48_outputs_exceed_inputs",
+        1,
+        "outputs one above inputs, 2 lines or more",
+    ),
     (
         "49_session_withdrawn",
         2,
@@ -105,8 +124,9 @@ impl Samples<'_> {
     /// A scene of two entries with the faults of a row.
     fn lock(&mut self, name: &str, operation: u8, row: Option<&Row>) -> io::Result<()> {
         let plan = Plan::full(&mut self.prng, operation, 2);
-        let faults = row.map_or(&[][..], |row| &row.faults);
-        let scene = build(&mut self.prng, plan, faults);
+        let mut faults = vec![USUAL];
+        faults.extend(row.iter().flat_map(|row| &row.faults));
+        let scene = build(&mut self.prng, plan, &faults);
         self.scene(name, &scene, row.map_or(0, |row| row.number))
     }
 
@@ -114,7 +134,7 @@ impl Samples<'_> {
     fn longest(&mut self) -> io::Result<()> {
         let mut plan = Plan::full(&mut self.prng, 1, 1);
         plan.lock.proofs[0].bytes = self.prng.bytes(LONG_PROOF);
-        let mut scene = build(&mut self.prng, plan, &[]);
+        let mut scene = build(&mut self.prng, plan, &[USUAL]);
         fill(&mut scene);
         assert_eq!(scene_text::text(&scene).len(), LONGEST);
         self.scene("longest", &scene, 0)
@@ -124,7 +144,7 @@ impl Samples<'_> {
     fn refused(&mut self, name: &str, text: &[u8], number: u32) -> io::Result<()> {
         let (mut store, mut table) = (vec![0; text.len()], vec![0; ENTRIES]);
         assert_eq!(scene::read(text, &mut store, &mut table), number, "{name}");
-        self.write(name, text, &format!("answer,{number},0,0,\n"))
+        self.write(name, text, &format!("answer,{number},0,0,,\n"))
     }
 
     /// What the reader refuses, made of an accepted scene.

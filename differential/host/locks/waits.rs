@@ -9,7 +9,7 @@ use super::sinces::{
 };
 use super::LEAST;
 use crate::lent::Lent;
-use crate::measure::refused;
+use crate::measure::{refused, with_totals};
 use crate::original;
 use crate::samples::smallest_recovery;
 use crate::scene::FIRST_ROW;
@@ -116,7 +116,8 @@ struct Recovery {
 impl Recovery {
     fn new(recovery_since: u64) -> Self {
         let original = |since| {
-            let outcome = original::lock(&smallest_recovery(recovery_since, since));
+            let scene = smallest_recovery(recovery_since, since);
+            let outcome = with_totals(&scene, original::lock(&scene));
             Answer::expected(&outcome, BUFFER)
         };
         Recovery {

@@ -156,7 +156,9 @@ fn stores(readings: &mut Readings) {
 fn tables(readings: &mut Readings) {
     let lines = base(readings, true);
     let scenes = [lines.concat(), all_64(&lines), b"none".to_vec(), vec![]];
-    for table_len in [0, 1, 7, 8, 9, 924, 925, 926, 2_047, 2_048, 2_049, 4_096] {
+    for table_len in [
+        0, 1, 7, 8, 9, 1_180, 1_181, 1_182, 2_047, 2_048, 2_049, 4_096,
+    ] {
         for scene in &scenes {
             readings.scene_in(scene, scene.len() / 2, table_len);
         }

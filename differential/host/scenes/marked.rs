@@ -1,19 +1,19 @@
-//! Scenes of which document 01 says the number, written by hand.
+//! Scenes of which document 01, with the field CAPACITY of document 02, says the number, written by hand.
 
 use super::readings::Readings;
 use crate::scene::ENTRIES;
 
 /// The longest scene, and a store that is long enough.
-const MANY: usize = 1 << 20;
+pub const MANY: usize = 1 << 20;
 
 /// `H` in a pattern stands for 64 digits, `S`, `T`, `I`, `O`, `D`, `W` and `V` for a whole line; `|` parts them.
-fn scene(pattern: &str) -> String {
+pub fn scene(pattern: &str) -> String {
     let hash = "0123456789abcdef".repeat(4);
     let line = |part: &str| match part {
         "S" => "script,\n".into(),
         "T" => format!("tx,{hash}\n"),
-        "I" => format!("input,1,0,,{hash},,\n"),
-        "O" => format!("output,,{hash},,\n"),
+        "I" => format!("input,1,0,,{hash},,,0\n"),
+        "O" => format!("output,,{hash},,,0\n"),
         "D" => format!("dep,,{hash},,\n"),
         "W" => "witness,\n".into(),
         "V" => "verdicts,\n".into(),
@@ -23,7 +23,7 @@ fn scene(pattern: &str) -> String {
 }
 
 /// Kind, order, field count, ending, and lines that are missing.
-const LINES: [(u32, &str); 36] = [
+const LINES: [(u32, &str); 39] = [
     (0, "S|T|V"),
     (0, "S|T|I|O|D|W|V"),
     (0, "S|T|I|I|D|W|W|V"),
@@ -55,9 +55,12 @@ const LINES: [(u32, &str); 36] = [
     (2, " script,\n|T|V"),
     (2, "script\r,\n|T|V"),
     (2, "S|T|verdicts\n"),
-    (2, "S|T|input,1,0,,H,\n|V"),
-    (2, "S|T|input,1,0,,H,,,\n|V"),
+    (2, "S|T|input,1,0,,H,,\n|V"),
+    (2, "S|T|input,1,0,,H,,,0,\n|V"),
+    (2, "S|T|output,,H,,\n|V"),
+    (2, "S|T|output,,H,,,0,\n|V"),
     (2, "S|T|dep,1,0,,H,,\n|V"),
+    (2, "S|T|dep,,H,,,0\n|V"),
     (2, "S|T|deps,,H,,\n|V"),
     (2, "S|input,9\n|V"),
 ];
@@ -73,29 +76,29 @@ const FORMS: [(u32, &str); 48] = [
     (3, "S|tx,H0\n|V"),
     (3, "S|tx,H00\n|V"),
     (3, "S|tx,00\n|V"),
-    (0, "S|T|input,0,0,,H,,\n|V"),
-    (3, "S|T|input,,0,,H,,\n|V"),
-    (3, "S|T|input,2,0,,H,,\n|V"),
-    (3, "S|T|input,01,0,,H,,\n|V"),
-    (3, "S|T|input,1,,,H,,\n|V"),
-    (3, "S|T|input,1,00,,H,,\n|V"),
-    (3, "S|T|input,1,01,,H,,\n|V"),
-    (3, "S|T|input,1,-1,,H,,\n|V"),
-    (3, "S|T|input,1,1a,,H,,\n|V"),
-    (0, "S|T|input,1,18446744073709551615,,H,,\n|V"),
-    (3, "S|T|input,1,18446744073709551616,,H,,\n|V"),
-    (3, "S|T|input,1,184467440737095516150,,H,,\n|V"),
-    (0, "S|T|input,1,0,H,H,00,\n|V"),
-    (0, "S|T|input,1,0,H,H,00,0011\n|V"),
-    (3, "S|T|input,1,0,H,H,,\n|V"),
-    (3, "S|T|input,1,0,,H,00,\n|V"),
-    (3, "S|T|input,1,0,,,,\n|V"),
-    (3, "S|T|input,1,0,00,H,00,\n|V"),
-    (3, "S|T|input,1,0,,H,,0\n|V"),
-    (0, "S|T|output,H,H,00,\n|V"),
-    (3, "S|T|output,H,H,,\n|V"),
-    (3, "S|T|output,,H,00,\n|V"),
-    (3, "S|T|output,,,,\n|V"),
+    (0, "S|T|input,0,0,,H,,,0\n|V"),
+    (3, "S|T|input,,0,,H,,,0\n|V"),
+    (3, "S|T|input,2,0,,H,,,0\n|V"),
+    (3, "S|T|input,01,0,,H,,,0\n|V"),
+    (3, "S|T|input,1,,,H,,,0\n|V"),
+    (3, "S|T|input,1,00,,H,,,0\n|V"),
+    (3, "S|T|input,1,01,,H,,,0\n|V"),
+    (3, "S|T|input,1,-1,,H,,,0\n|V"),
+    (3, "S|T|input,1,1a,,H,,,0\n|V"),
+    (0, "S|T|input,1,18446744073709551615,,H,,,0\n|V"),
+    (3, "S|T|input,1,18446744073709551616,,H,,,0\n|V"),
+    (3, "S|T|input,1,184467440737095516150,,H,,,0\n|V"),
+    (0, "S|T|input,1,0,H,H,00,,0\n|V"),
+    (0, "S|T|input,1,0,H,H,00,0011,0\n|V"),
+    (3, "S|T|input,1,0,H,H,,,0\n|V"),
+    (3, "S|T|input,1,0,,H,00,,0\n|V"),
+    (3, "S|T|input,1,0,,,,,0\n|V"),
+    (3, "S|T|input,1,0,00,H,00,,0\n|V"),
+    (3, "S|T|input,1,0,,H,,0,0\n|V"),
+    (0, "S|T|output,H,H,00,,0\n|V"),
+    (3, "S|T|output,H,H,,,0\n|V"),
+    (3, "S|T|output,,H,00,,0\n|V"),
+    (3, "S|T|output,,,,,0\n|V"),
     (0, "S|T|dep,H,H,00,ff\n|V"),
     (3, "S|T|dep,H,H,,ff\n|V"),
     (3, "S|T|dep,,H,00,ff\n|V"),

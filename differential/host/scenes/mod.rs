@@ -1,5 +1,6 @@
 //! The reader of scenes beside the host's plain one, and the test of lent tables beside the plain test.
 
+mod capacity;
 pub mod damage;
 mod limits;
 mod marked;
@@ -15,6 +16,7 @@ pub fn run(report: &mut Report) {
     let prng = Prng::new(3);
     let mut readings = Readings { report, prng };
     marked::run(&mut readings);
+    capacity::run(&mut readings);
     limits::run(&mut readings);
     damage::run(&mut readings);
     tables::run(&mut readings);

@@ -1,7 +1,7 @@
 //! Scenes of any bytes: what they mean plays no part.
 
 use crate::prng::Prng;
-use ckb_std::{Cell, Input, Scene};
+use ckb_std::{Cell, Input, Output, Scene};
 
 /// How many lines of a kind and how many bytes in a field there are at most.
 #[derive(Clone, Copy)]
@@ -30,13 +30,26 @@ fn cell(prng: &mut Prng, most: Most) -> Cell {
     }
 }
 
-fn input(prng: &mut Prng, most: Most) -> Input {
+/// A number of any count of digits.
+fn number(prng: &mut Prng) -> u64 {
     let any = prng.next();
     let digits = prng.up_to(19) as u32;
+    [0, 10, u64::MAX, 1 << 32, any, any % 10u64.pow(digits)][prng.up_to(5)]
+}
+
+fn input(prng: &mut Prng, most: Most) -> Input {
     Input {
         group: prng.up_to(1) == 1,
-        since: [0, 10, u64::MAX, 1 << 32, any, any % 10u64.pow(digits)][prng.up_to(5)],
+        since: number(prng),
         cell: cell(prng, most),
+        capacity: number(prng),
+    }
+}
+
+fn output(prng: &mut Prng, most: Most) -> Output {
+    Output {
+        cell: cell(prng, most),
+        capacity: number(prng),
     }
 }
 
@@ -50,7 +63,7 @@ pub fn scene(prng: &mut Prng, most: Most) -> Scene {
         script: bytes(prng, most.bytes),
         tx_hash: hash(prng),
         inputs: list(prng, most.lines, |prng| input(prng, most)),
-        outputs: list(prng, most.lines, |prng| cell(prng, most)),
+        outputs: list(prng, most.lines, |prng| output(prng, most)),
         deps: list(prng, most.lines, |prng| cell(prng, most)),
         witnesses: list(prng, most.lines, |prng| bytes(prng, most.bytes)),
         verdicts: list(prng, 16, |prng| prng.up_to(2) as u8),
@@ -67,10 +80,15 @@ pub fn one_of_each(prng: &mut Prng, typed: bool) -> Scene {
         group: true,
         since: 12,
         cell: plain.clone(),
+        capacity: 34,
+    };
+    let output = Output {
+        cell: plain.clone(),
+        capacity: 56,
     };
     Scene {
         inputs: vec![input],
-        outputs: vec![plain.clone()],
+        outputs: vec![output],
         deps: vec![plain],
         witnesses: vec![prng.bytes(2)],
         ..scene(prng, most)

@@ -75,8 +75,9 @@ fn laid_out(counts: [u32; 7]) -> (Vec<u32>, usize) {
     for kind in SCRIPT..=VERDICTS {
         let (numbers, size): (&[u32], u32) = match kind {
             TX => (&[], 32),
-            INPUT => (&[1, 7, 0, 2, 5], 71),
-            OUTPUT | DEP => (&[0, 5], 37),
+            INPUT => (&[1, 7, 0, 2, 5, 9, 1], 71),
+            OUTPUT => (&[0, 5, 3, 0], 37),
+            DEP => (&[0, 5], 37),
             VERDICTS => (&[2, 0, 1], 0),
             _ => (&[3], 3),
         };

@@ -9,7 +9,7 @@ pub mod syscalls;
 mod verifiers;
 
 pub use node::{serve, serve_shared};
-pub use scene::{Cell, Input, Scene};
+pub use scene::{Cell, Input, Output, Scene};
 
 /// The original takes `Vec` from `alloc`; the allocator itself is the host's.
 #[macro_export]

@@ -63,7 +63,7 @@ impl Node {
     pub(crate) fn cell(&self, index: usize, source: Source) -> Result<&Cell, SysError> {
         let cell = match source {
             Source::Input | Source::GroupInput => return Ok(&self.input(index, source)?.cell),
-            Source::Output => self.scene.outputs.get(index),
+            Source::Output => self.scene.outputs.get(index).map(|output| &output.cell),
             Source::CellDep => self.scene.deps.get(index),
         };
         cell.ok_or(SysError::IndexOutOfBound)

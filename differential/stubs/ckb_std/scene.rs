@@ -6,7 +6,7 @@ pub struct Scene {
     pub script: Vec<u8>,
     pub tx_hash: [u8; 32],
     pub inputs: Vec<Input>,
-    pub outputs: Vec<Cell>,
+    pub outputs: Vec<Output>,
     pub deps: Vec<Cell>,
     /// Witness i belongs to input i.
     pub witnesses: Vec<Vec<u8>>,
@@ -20,6 +20,15 @@ pub struct Input {
     pub group: bool,
     pub since: u64,
     pub cell: Cell,
+    /// The original does not load it.
+    pub capacity: u64,
+}
+
+#[derive(Clone, Debug)]
+pub struct Output {
+    pub cell: Cell,
+    /// The original does not load it.
+    pub capacity: u64,
 }
 
 #[derive(Clone, Debug)]

@@ -11,13 +11,13 @@ use Rattle.account_lock_cli.proofs.print_answer.Tie as tie
 array-share-prefix-bytes : tie.Need-array-share-prefix-bytes
 array-share-prefix-bytes c =
     let line = c .before .program-line in
-    let n : length (line .result .bytes) ≡ 135 = rw (line .ensures .1 .1) (length-array 135 _) in
+    let n : length (line .result .bytes) ≡ 156 = rw (line .ensures .1 .1) (length-array 156 _) in
     omega (arith, line .ensures .1 .0)
 
 slice-aggregate-write-all : tie.Need-slice-aggregate-write-all
 slice-aggregate-write-all c =
     let line = c .before .before .program-line in
-    let n : length (line .result .bytes) ≡ 135 = rw (line .ensures .1 .1) (length-array 135 _) in
+    let n : length (line .result .bytes) ≡ 156 = rw (line .ensures .1 .1) (length-array 156 _) in
     sym (length-take-le _ _ (omega (arith, line .ensures .1 .0)))
 
 pub print-answer-spec : {M : Type 1} → statement M

@@ -13,7 +13,7 @@ unfolding programLine arrayOf
 returns c =
     let done = c .before .put-answer .ensures in
     let l = told-line _ _ (c .before .before .before .program-answer .ensures) in
-    (done .0 ∙ ap length l, (done .1 .0, done .1 .1 ∙ ap (arrayOf 135) l))
+    (done .0 ∙ ap length l, (done .1 .0, done .1 .1 ∙ ap (arrayOf 156) l))
 
 pub program-line-spec : {M : Type 1} → statement M
 program-line-spec =

@@ -1,4 +1,4 @@
--- `exports_lock::store_answer` meets its contract, as its two calls do. Assumes nothing.
+-- `exports_lock::store_answer` meets its contract, as its three calls do. Assumes nothing.
 use Prim.Native.Nat.{ℕ}
 use mathlib.Core.Path.{_≡_, refl, _∙_}
 use mathlib.Core.Bool.{Bool, true, false, cond}
@@ -17,12 +17,13 @@ number-of false = refl
 returns : tie.Need-returns
 unfolding answerWords
 returns c =
-    let bytes = c .before .before in
+    let number = c .before .before in
+    let bytes = number .before .before .before .before in
     let words = bytes .before .before .before .before .before .before in
     let start = words .before .before .before .before .before in
     let a = start .args in
-    rw (words .store-words .ensures .1, number-of (a .answer .reached)) at (bytes .store-bytes .ensures)
-    ∙ stored-behind (a .answer) (a .out .now) (start .pre)
+    let stored = rw (words .store-words .ensures .1, number-of (a .answer .reached)) at (bytes .store-bytes .ensures) in
+    rw stored at (number .store-number .ensures) ∙ stored-behind (a .answer) (a .out .now) (start .pre)
 
 pub store-answer-spec : {M : Type 1} → statement M
 store-answer-spec =
@@ -32,6 +33,7 @@ store-answer-spec =
     (λ c. search needs)
     (λ c κs. search needs)
     (λ c. search needs)
+    (λ c κs. search needs)
     (λ c κs. search needs)
     (λ c. search needs)
     returns)

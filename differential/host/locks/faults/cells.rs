@@ -3,7 +3,7 @@
 use super::parts::set;
 use super::{on_plan, on_scene, row, Fault, Part, Row, ALL, CHANGING, SPEND};
 use crate::formats::states;
-use crate::locks::assembly::{fill, plain_input, typed_cell};
+use crate::locks::assembly::{fill, output, plain_input, typed_cell};
 use crate::locks::plan::Plan;
 use crate::prng::Prng;
 use crate::true_hashes;
@@ -19,10 +19,11 @@ fn is_state(cell: &Cell, plan: &Plan) -> bool {
 /// The cells with the account's type hash, among inputs, outputs and deps.
 pub fn state_cells<'a>(scene: &'a mut Scene, plan: &Plan) -> [Vec<&'a mut Cell>; 3] {
     let inputs = scene.inputs.iter_mut().map(|input| &mut input.cell);
+    let outputs = scene.outputs.iter_mut().map(|output| &mut output.cell);
     let keep = |cell: &&mut Cell| is_state(cell, plan);
     [
         inputs.filter(keep).collect(),
-        scene.outputs.iter_mut().filter(keep).collect(),
+        outputs.filter(keep).collect(),
         scene.deps.iter_mut().filter(keep).collect(),
     ]
 }
@@ -89,7 +90,7 @@ fn spend_rows() -> Vec<Row> {
             scene.deps.push(state_cell(plan, prng));
         }),
         on_scene(0, SPEND, "id among outputs", |scene, plan, prng| {
-            scene.outputs.push(state_cell(plan, prng));
+            scene.outputs.push(output(state_cell(plan, prng)));
         }),
     ]
 }
@@ -109,14 +110,14 @@ fn changing_rows() -> Vec<Row> {
             },
         ),
         on_scene(26, CHANGING, "no state among outputs", |scene, plan, _| {
-            scene.outputs.retain(|cell| !is_state(cell, plan));
+            scene.outputs.retain(|output| !is_state(&output.cell, plan));
         }),
         on_scene(
             26,
             CHANGING,
             "two states among outputs",
             |scene, plan, prng| {
-                scene.outputs.push(state_cell(plan, prng));
+                scene.outputs.push(output(state_cell(plan, prng)));
             },
         ),
         on_plan(
@@ -126,7 +127,7 @@ fn changing_rows() -> Vec<Row> {
             |plan, _| script_of(plan, 513),
         )
         .and(Fault::Scene(|scene, plan, _| {
-            scene.outputs.retain(|cell| !is_state(cell, plan));
+            scene.outputs.retain(|output| !is_state(&output.cell, plan));
         })),
         on_scene(0, CHANGING, "id among deps", |scene, plan, prng| {
             scene.deps.push(state_cell(plan, prng));

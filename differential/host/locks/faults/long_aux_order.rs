@@ -8,7 +8,7 @@ use super::states::FIRST;
 use super::{on_scene, row, transition, Fault, OnCell, Part, Row, ALL, CHANGING, SPEND};
 use crate::cell_hashes::Place;
 use crate::formats::states as plain;
-use crate::locks::assembly::plain_cell;
+use crate::locks::assembly::{output, plain_cell};
 use crate::prng::Prng;
 use crate::true_hashes;
 use ckb_std::Cell;
@@ -106,7 +106,7 @@ fn unread_rows() -> Vec<Row> {
         |scene, plan, prng| {
             let mut cell = plain_cell(prng);
             hold_long_aux(&mut cell, prng, &plan.type_script);
-            scene.outputs.push(cell);
+            scene.outputs.push(output(cell));
         },
     ));
     rows.push(on_scene(

@@ -1,7 +1,10 @@
 //! Faults, and what document 01 says of each, row by row of its table "Where each refusal is raised", with the rows that
-//! changes 1, 4 and 10 of document 02 put into it and the limit that change 6 puts into a state's checks. A row with number 0
-//! is a limit that still passes.
+//! changes 1, 4, 9 and 10 of document 02 put into it and the limit that change 6 puts into a state's checks. A row with number
+//! 0 is a limit that still passes.
 
+mod build;
+mod capacity;
+mod capacity_order;
 mod cells;
 mod hash_changes;
 mod hashes;
@@ -21,12 +24,14 @@ mod waits;
 mod waits_order;
 mod witness;
 
-use super::assembly::{self, first_group, plain_cell, plain_input, Bytes};
+use super::capacities::Wanted;
 use super::plan::Plan;
 use crate::cell_hashes::Place;
 use crate::prng::Prng;
 use ckb_std::{Cell, Scene};
 
+pub use build::build;
+pub use capacity_order::any as any_totals;
 pub use hashes::any as any_hash;
 pub use long_aux::about_limit;
 pub use parts::damage;
@@ -59,6 +64,9 @@ pub enum Fault {
     Cell(Place, OnCell),
     /// Of a plain cell that is added there.
     NewCell(Place, OnCell),
+    /// Totals of capacities, the last ones counting. Lines for them are added before the faults of a scene, and the capacities
+    /// are given behind those. Without this fault they are such that pass.
+    Totals(Wanted),
 }
 
 /// Faults that are made together, and the lock's number for them.
@@ -71,6 +79,8 @@ pub struct Row {
     pub long: bool,
     /// What document 01 says of requests and digest, where that is checked too.
     pub made: Option<Made>,
+    /// The fee, where that is checked too.
+    pub fee: Option<u64>,
 }
 
 /// The requests that are made, of a plan in which every entry gives a proof.
@@ -109,6 +119,7 @@ fn row(number: i8, operations: &'static [u8], name: &str, fault: Fault) -> Row {
         faults: vec![fault],
         long: false,
         made: None,
+        fee: None,
     }
 }
 
@@ -135,6 +146,13 @@ impl Row {
         self.made = Some(made);
         self
     }
+
+    /// The fee of these totals, where they are accepted.
+    fn fee(mut self, wanted: Wanted) -> Self {
+        let accepted = self.number == 0;
+        self.fee = accepted.then(|| (wanted.inputs - wanted.outputs) as u64);
+        self
+    }
 }
 
 pub fn rows() -> Vec<Row> {
@@ -158,107 +176,7 @@ pub fn rows() -> Vec<Row> {
     }
     rows.extend(proofs::rows());
     rows.extend(requests::rows());
+    rows.extend(capacity::rows());
+    rows.extend(capacity_order::rows());
     rows
-}
-
-/// The bytes of a part that stands in the plan's bytes.
-fn plan_part(bytes: &mut Bytes, part: Part) -> Option<&mut Vec<u8>> {
-    match part {
-        Part::Args => Some(&mut bytes.args),
-        Part::Lock => Some(&mut bytes.lock),
-        Part::State => Some(&mut bytes.state),
-        Part::Successor => Some(&mut bytes.successor),
-        Part::Script | Part::Witness => None,
-    }
-}
-
-/// The bytes of a part that is made with the scene.
-fn scene_part(scene: &mut Scene, part: Part) -> Option<&mut Vec<u8>> {
-    let first = first_group(&scene.inputs);
-    match part {
-        Part::Script => Some(&mut scene.script),
-        Part::Witness => scene.witnesses.get_mut(first),
-        _ => None,
-    }
-}
-
-/// A plain cell, behind the others of its kind.
-fn new_cell<'a>(scene: &'a mut Scene, place: Place, prng: &mut Prng) -> &'a mut Cell {
-    let cells = match place {
-        Place::Output => &mut scene.outputs,
-        Place::Dep => &mut scene.deps,
-        Place::GroupInput | Place::ForeignInput => {
-            scene
-                .inputs
-                .push(plain_input(prng, place == Place::GroupInput));
-            let input = scene.inputs.last_mut().expect("an input");
-            return &mut input.cell;
-        }
-    };
-    cells.push(plain_cell(prng));
-    cells.last_mut().expect("a cell")
-}
-
-fn cells(scene: &mut Scene, place: Place) -> Vec<&mut Cell> {
-    let group = place == Place::GroupInput;
-    match place {
-        Place::Output => scene.outputs.iter_mut().collect(),
-        Place::Dep => scene.deps.iter_mut().collect(),
-        Place::GroupInput | Place::ForeignInput => {
-            let inputs = scene.inputs.iter_mut();
-            let there = inputs.filter(|input| input.group == group);
-            there.map(|input| &mut input.cell).collect()
-        }
-    }
-}
-
-fn any_cell<'a>(scene: &'a mut Scene, place: Place, prng: &mut Prng) -> &'a mut Cell {
-    if cells(scene, place).is_empty() {
-        new_cell(scene, place, prng);
-    }
-    let mut cells = cells(scene, place);
-    cells.swap_remove(prng.up_to(cells.len() - 1))
-}
-
-fn change_plan(plan: &mut Plan, faults: &[Fault], prng: &mut Prng) {
-    for fault in faults {
-        if let Fault::Plan(change) = fault {
-            change(plan, prng);
-        }
-    }
-    for fault in faults {
-        match fault {
-            Fault::Waits(recovery_since, since) if plan.state.flags & 1 == 1 => {
-                (plan.state.recovery_since, plan.since) = (*recovery_since, *since);
-            }
-            _ => {}
-        }
-    }
-}
-
-/// The scene of a plan, each fault made as soon as what it changes is there.
-pub fn build(prng: &mut Prng, mut plan: Plan, faults: &[Fault]) -> Scene {
-    change_plan(&mut plan, faults, prng);
-    let mut bytes = assembly::bytes(&plan);
-    for fault in faults {
-        if let Fault::Bytes(part, change) = fault {
-            plan_part(&mut bytes, *part)
-                .into_iter()
-                .for_each(|bytes| change(bytes, prng));
-        }
-    }
-    let mut scene = assembly::scene(prng, &plan, bytes);
-    for fault in faults {
-        match fault {
-            Fault::Plan(_) | Fault::Waits(..) => {}
-            Fault::Cell(place, change) => change(any_cell(&mut scene, *place, prng), prng),
-            Fault::NewCell(place, change) => change(new_cell(&mut scene, *place, prng), prng),
-            Fault::Bytes(part, change) => {
-                let part = scene_part(&mut scene, *part);
-                part.into_iter().for_each(|bytes| change(bytes, prng));
-            }
-            Fault::Scene(change) => change(&mut scene, &plan, prng),
-        }
-    }
-    scene
 }

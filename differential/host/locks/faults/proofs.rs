@@ -3,7 +3,7 @@
 use super::parts::{add_u32, put_u32, set, shorten, u32_at};
 use super::Made::{AllBut, Requests};
 use super::{on_plan, on_scene, row, Fault, Part, Row, ALL, SPEND};
-use crate::locks::assembly::fill;
+use crate::locks::assembly::{fill, output};
 use crate::locks::plan::{capability, Plan};
 use crate::true_hashes;
 use ckb_account_host::Proof;
@@ -205,7 +205,7 @@ fn verifier_rows() -> Vec<Row> {
         .long(),
         on_scene(0, ALL, "verifier among outputs too", |scene, plan, _| {
             let cells = verifier(scene, plan);
-            scene.outputs.extend(cells);
+            scene.outputs.extend(cells.map(output));
         })
         .made(AllBut(0)),
         on_plan(0, SPEND, "the state's cell is its verifier", |plan, _| {

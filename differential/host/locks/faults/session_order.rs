@@ -10,7 +10,7 @@ use super::Made::AllBut;
 use super::{on_scene, row, transition, Fault, OnBytes, OnCell, Part, Row, ALL, CHANGING, SPEND};
 use crate::cell_hashes::Place;
 use crate::formats::states as plain;
-use crate::locks::assembly::plain_cell;
+use crate::locks::assembly::{output, plain_cell};
 use crate::prng::Prng;
 use crate::session::{CAPABILITY, FLAG, SESSION_WITHDRAWN};
 use crate::true_hashes;
@@ -92,7 +92,8 @@ fn untyped(cell: &mut Cell, prng: &mut Prng) {
 }
 
 fn no_successor(scene: &mut Scene, id: [u8; 32]) {
-    scene.outputs.retain(|cell| cell.type_hash != Some(id));
+    let own = |cell: &Cell| cell.type_hash == Some(id);
+    scene.outputs.retain(|output| !own(&output.cell));
 }
 
 /// A session in a cell that the lock does not read, alone, beside a successor that is 33 and beside one whose sequence is the
@@ -131,7 +132,7 @@ fn own_rows() -> Vec<Row> {
             SPEND,
             "id among outputs, session",
             |scene, plan, prng| {
-                scene.outputs.push(holding(prng, &plan.type_script));
+                scene.outputs.push(output(holding(prng, &plan.type_script)));
             },
         )
         .made(AllBut(0)),
@@ -150,7 +151,7 @@ fn own_rows() -> Vec<Row> {
             "another's session alone",
             |scene, plan, prng| {
                 no_successor(scene, plan.id());
-                scene.outputs.push(holding(prng, b"other"));
+                scene.outputs.push(output(holding(prng, b"other")));
             },
         ),
         on_scene(
@@ -158,7 +159,7 @@ fn own_rows() -> Vec<Row> {
             CHANGING,
             "a second output, session",
             |scene, plan, prng| {
-                scene.outputs.push(holding(prng, &plan.type_script));
+                scene.outputs.push(output(holding(prng, &plan.type_script)));
             },
         ),
     ]

@@ -11,7 +11,7 @@ returns-2 : tie.Need-returns-2
 returns-2 c = rw (c .before .enum-told3 .given .1, eq-eqb _ 0 (c .if2 .taken))
 
 returns-3 : tie.Need-returns-3
-returns-3 c = rw (c .before .enum-told7 .given .1, lt-leb _ 16 (c .if3 .taken))
+returns-3 c = rw (c .before .enum-told8 .given .1, lt-leb _ 16 (c .if3 .taken))
 
 returns-4 : tie.Need-returns-4
 returns-4 c = rw (c .before .before .enum-told .given .1, eq-eqb _ 1 (c .before .if1 .left)) (c .all-between .ensures)
@@ -32,7 +32,10 @@ returns-9 : tie.Need-returns-9
 returns-9 c = rw (c .before .enum-told6 .given .1) (c .hex-ok .ensures)
 
 returns-10 : tie.Need-returns-10
-returns-10 c = rw (c .before .before .enum-told7 .given .1, le-leb _ 16 (c .before .if3 .left)) (c .all-between2 .ensures)
+returns-10 c = rw (c .before .enum-told7 .given .1) (c .number-ok2 .ensures)
+
+returns-11 : tie.Need-returns-11
+returns-11 c = rw (c .before .before .enum-told8 .given .1, le-leb _ 16 (c .before .if3 .left)) (c .all-between2 .ensures)
 
 pub field-ok-spec : {M : Type 1} → statement M
 field-ok-spec =
@@ -53,6 +56,8 @@ field-ok-spec =
     (λ c. search needs)
     (λ c κs. search needs)
     (λ c. search needs)
+    (λ c κs. search needs)
+    (λ c. search needs)
     returns-3
     (λ c κs. search needs)
     returns-4
@@ -61,4 +66,5 @@ field-ok-spec =
     returns-7
     returns-8
     returns-9
-    returns-10)
+    returns-10
+    returns-11)

@@ -8,7 +8,7 @@ use lib.Seq.{take-all}
 use Rattle.scene_reader.specs.Reader.{ReaderState, readerStart, linesOutcome}
 use Rattle.scene_reader.specs.declared.state.LineStep.the-variants.{Next}
 use Rattle.scene_reader.specs.declared.state.LineStep.{LineStep}
-use Rattle.scene_reader.specs.Room.{lineOutcome, ReaderReady, ReadyAfter, stateHolding, stepOutcome}
+use Rattle.scene_reader.specs.Room.{entriesBefore, entriesEach, entriesLimit, lineOutcome, ReaderReady, ReadyAfter, stateHolding, stepOutcome}
 use Rattle.scene_text.specs.Text.{pieces, lineEnd}
 use Rattle.scene_reader.proofs.LinesOutcome.{starts, run-last, run-on, run-off}
 use Rattle.scene_reader.proofs.lines.read_lines.Statement.{statement}
@@ -21,7 +21,7 @@ abbrev μ-loop : tie.MeasureT-loop
 μ-loop scene store₀ table₀ rest₀ s₀ store table rest s = length rest
 
 loop-holds : tie.Need-loop-holds Inv-loop μ-loop
-unfolding Rattle.scene_reader.specs.Room.entriesLimit
+unfolding entriesLimit entriesBefore entriesEach
 loop-holds c =
     let a = c .before .before .before .args in (
       ap (λ (h : ReaderState). linesOutcome h (pieces lineEnd (a .scene .now))) (starts (length (a .store .now)) (length (a .table .now)) (a .store .now) (a .table .now) (c .before .before .before .pre .1 .0) (c .before .before .before .pre .1 .1)),

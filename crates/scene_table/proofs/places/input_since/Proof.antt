@@ -7,20 +7,8 @@ use Rattle.scene_table.proofs.places.input_since.Tie as tie
 
 returns : tie.Need-returns
 unfolding inputsAt inputAt inputSince
-returns c = rw (c .table-entry2 .ensures, c .before .table-entry .ensures)
+returns c = c .table-u64 .ensures
 
 pub input-since-spec : {M : Type 1} → statement M
 input-since-spec =
-    tie.close
-    (tie.spec
-    (λ c. search needs)
-    (λ c. search needs)
-    (λ c. search needs)
-    (λ c κs. search needs)
-    (λ c. search needs)
-    (λ c. search needs)
-    (λ c κs. search needs)
-    (λ c. search needs)
-    (λ c. search needs)
-    (λ c. search needs)
-    returns)
+    tie.close (tie.spec (λ c. search needs) (λ c. search needs) (λ c. search needs) (λ c κs. search needs) returns)

@@ -11,7 +11,7 @@ use Rattle.scene_table.proofs.validity.walk_records.Tie as tie
 
 abbrev Inv-loop : tie.InvT-loop
 Inv-loop table form first n width at₀ i₀ walked₀ at i walked =
-    (i ≤ n) × (at ≤ first + 6 * i) × (walkRecords table (recordOk table form) (recordSize table form) width (n - i) at walked ≡ walkRecords table (recordOk table form) (recordSize table form) width n first walked₀)
+    (i ≤ n) × (at ≤ first + 8 * i) × (walkRecords table (recordOk table form) (recordSize table form) width (n - i) at walked ≡ walkRecords table (recordOk table form) (recordSize table form) width n first walked₀)
 
 abbrev μ-loop : tie.MeasureT-loop
 μ-loop table form first n width at₀ i₀ walked₀ at i walked = n - i

@@ -1,4 +1,4 @@
--- `scene_text::decimal::since` meets its contract. Assumes nothing.
+-- `scene_text::decimal::read_decimal` meets its contract. Assumes nothing.
 use native.Mathlib.Omega.{arith}
 use mathlib.Core.Path.{_≡_, sym, _∙_}
 use lib.ListN.{length}
@@ -7,16 +7,16 @@ use mathlib.Core.Bool.{true, false}
 use borrow.Author.Tests.{lt-ltb, le-ltb, eq-eqb, ne-eqb, not-true, not-false}
 use lib.Dec.{ltb}
 use Rattle.octets.specs.Lists.{every}
-use Rattle.scene_text.specs.Text.{sinceOf, inRange}
-use Rattle.scene_text.proofs.decimal.since.Statement.{statement}
-use Rattle.scene_text.proofs.decimal.since.Tie as tie
+use Rattle.scene_text.specs.Text.{decimalOf, inRange}
+use Rattle.scene_text.proofs.decimal.read_decimal.Statement.{statement}
+use Rattle.scene_text.proofs.decimal.read_decimal.Tie as tie
 
 returns : tie.Need-returns
-unfolding sinceOf
+unfolding decimalOf
 returns c = rw (le-ltb 0 (length (c .before .before .args .s .now)) (omega arith))
 
 returns-2 : tie.Need-returns-2
-unfolding sinceOf
+unfolding decimalOf
 returns-2 c =
     let s = c .before .before .before .before .args .s .now in
     let some : ltb 0 (length s) ≡ true = lt-ltb 0 (length s) (omega arith) in
@@ -27,7 +27,7 @@ value-requires : tie.Need-value-requires
 value-requires c κs = sym (c .before .before .all-between .ensures) ∙ not-false _ (c .before .if2 .left)
 
 returns-3 : tie.Need-returns-3
-unfolding sinceOf
+unfolding decimalOf
 returns-3 c =
     let s = c .before .before .before .before .before .before .args .s .now in
     let some : ltb 0 (length s) ≡ true = lt-ltb 0 (length s) (omega arith) in
@@ -35,7 +35,7 @@ returns-3 c =
     rw (some, digits, eq-eqb _ 1 (c .before .if3 .taken)) (c .value .ensures)
 
 returns-4 : tie.Need-returns-4
-unfolding sinceOf
+unfolding decimalOf
 returns-4 c =
     let s = c .before .before .before .before .before .before .before .args .s .now in
     let some : ltb 0 (length s) ≡ true = lt-ltb 0 (length s) (omega arith) in
@@ -46,15 +46,15 @@ value-requires-2 : tie.Need-value-requires-2
 value-requires-2 c κs = sym (c .before .before .before .before .all-between .ensures) ∙ not-false _ (c .before .before .before .if2 .left)
 
 returns-5 : tie.Need-returns-5
-unfolding sinceOf
+unfolding decimalOf
 returns-5 c =
     let s = c .before .before .before .before .before .before .before .before .args .s .now in
     let some : ltb 0 (length s) ≡ true = lt-ltb 0 (length s) (omega arith) in
     let digits : every (inRange 48 57) s ≡ true = sym (c .before .before .before .before .before .all-between .ensures) ∙ not-false _ (c .before .before .before .before .if2 .left) in
     rw (some, digits, ne-eqb _ 1 (c .before .before .before .if3 .left), ne-eqb _ 48 (c .before .if4 .left)) (c .value2 .ensures)
 
-pub since-spec : {M : Type 1} → statement M
-since-spec =
+pub read-decimal-spec : {M : Type 1} → statement M
+read-decimal-spec =
     tie.close
     (tie.spec
     returns

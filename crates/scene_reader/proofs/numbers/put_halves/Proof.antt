@@ -1,11 +1,12 @@
--- `scene_reader::numbers::put_since` meets its contract. Assumes nothing.
+-- `scene_reader::numbers::put_halves` meets its contract. Assumes nothing.
 use native.Mathlib.Omega.{arith}
 use mathlib.Core.Path.{sym, _∙_}
 use lib.ListN.{length-set}
 use borrow.Author.Needs.{needs}
 use native.Mathlib.Numerals.{add-one}
-use Rattle.scene_reader.proofs.numbers.put_since.Statement.{statement}
-use Rattle.scene_reader.proofs.numbers.put_since.Tie as tie
+use Rattle.scene_text.specs.Text.{numberIn}
+use Rattle.scene_reader.proofs.numbers.put_halves.Statement.{statement}
+use Rattle.scene_reader.proofs.numbers.put_halves.Tie as tie
 
 slice-write-table-2 : tie.Need-slice-write-table-2
 slice-write-table-2 c = simp length-set (omega arith)
@@ -14,13 +15,15 @@ slice-write-table-4 : tie.Need-slice-write-table-4
 slice-write-table-4 c = simp length-set (omega arith)
 
 returns : tie.Need-returns
-returns c = rw (sym (c .before .before .before .since .ensures) ∙ c .before .v .given .1, add-one (c .before .before .before .before .before .before .args .at))
+unfolding numberIn
+returns c = rw (sym (c .before .before .before .read-decimal .ensures) ∙ c .before .v .given .1, add-one (c .before .before .before .before .before .before .args .at))
 
 returns-2 : tie.Need-returns-2
-returns-2 c = rw (sym (c .before .before .since .ensures) ∙ c .enum-told .given .1, add-one (c .before .before .before .before .before .args .at))
+unfolding numberIn
+returns-2 c = rw (sym (c .before .before .read-decimal .ensures) ∙ c .enum-told .given .1, add-one (c .before .before .before .before .before .args .at))
 
-pub put-since-spec : {M : Type 1} → statement M
-put-since-spec =
+pub put-halves-spec : {M : Type 1} → statement M
+put-halves-spec =
     tie.close
     (tie.spec
     (λ c κs. search needs)

@@ -1,0 +1,3 @@
+pub mod FeeLaws
+pub mod TotalLaws
+pub mod TotalsTheorem
