@@ -26,7 +26,7 @@ use Rattle.account_lock.specs.Lock.{witnessLock, current, digest, earlyR
 use Rattle.account_lock.proofs.LockLaws.{group-length, group-count}
 use Rattle.account_lock.proofs.LockTheorem.{late, state-passes}
 use Rattle.account_lock.proofs.DigestTheorem.{length-hash}
-use Rattle.account_lock.proofs.Numbers.{early-high, early-number}
+use Rattle.account_lock.proofs.EarlyNumbers.{early-high, early-number}
 
 -- the totals do not give 5
 totals-never-five : (s : Scene) (k : Check) → checkNumber k ≢ 5 → checkNumber (decide k (capacityRows s)) ≢ 5

@@ -17,7 +17,7 @@ use Rattle.scene_table.specs.Lent.{sceneIn}
 use Rattle.scene_table.specs.Valid.{validTable}
 use Rattle.cell_hashes.specs.Hashes.{hashRows}
 use Rattle.account_lock.specs.Lock as lock
-use Rattle.account_lock.proofs.Numbers.{Differs, Behind, behind-not-40, behindRows, hashes-differ, behind-each}
+use Rattle.account_lock.proofs.EarlyNumbers.{Differs, Behind, behind-not-40, behindRows, hashes-differ, behind-each}
 use Rattle.account_lock.proofs.OwnNumber.{Other, given-between, lock-own}
 
 module _ (s : Scene) where

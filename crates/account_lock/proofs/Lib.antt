@@ -4,6 +4,7 @@ pub mod LockTheorem
 pub mod DigestTheorem
 pub mod AnswerTheorem
 pub mod LongRequest
+pub mod EarlyNumbers
 pub mod Numbers
 pub mod AnswerRoom
 pub mod Unsatisfied

@@ -27,7 +27,8 @@ use Rattle.state_transition.specs.Transition.{dataRows, currentRows}
 use Rattle.decision.specs.Walk.{walkLock}
 use Rattle.account_lock.specs.Lock.{scriptRows, account, witnessLock, witnessSequence, current, successor, earlyRows, contextOf, refused, walked, orWalked, walkResult, lockScene, lockOf}
 use Rattle.account_lock.specs.Session.{earlySpendRows, beforeSessionRows}
-use Rattle.account_lock.proofs.Numbers.{Differs, Totals, PlainOrLimits, hashes-differ, script-early, group-early, resolve-early, data-early, current-early, state-early, other-early, scene-walk, walk-low, totals-each}
+use Rattle.account_lock.proofs.EarlyNumbers.{Differs, Totals, PlainOrLimits, hashes-differ, script-early, group-early, resolve-early, data-early, current-early, state-early, other-early}
+use Rattle.account_lock.proofs.Numbers.{scene-walk, walk-low, totals-each}
 
 -- a refusal with another number than n
 abbrev pub Other : ℕ → ProtocolError → Type 0

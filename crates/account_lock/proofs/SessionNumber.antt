@@ -24,7 +24,7 @@ use Rattle.state_transition.specs.Transition.{successorRows, recoveryRows, succ
 use Rattle.state_transition.proofs.SessionLaws.{session-carried}
 use Rattle.account_lock.specs.Lock.{account, operation, current, successor, statesRows, lateRows, earlyRows, lockOf}
 use Rattle.account_lock.specs.Session.{beforeSessionRows, SessionRefused}
-use Rattle.account_lock.proofs.Numbers.{PlainOrMalformed, recovery-early, other-early}
+use Rattle.account_lock.proofs.EarlyNumbers.{PlainOrMalformed, recovery-early, other-early}
 use Rattle.account_lock.proofs.OwnNumber.{Other, others-not, given-between, lock-own, plain, spend-other, before-other}
 use Rattle.account_lock.proofs.Session.{early-spend}
 

@@ -28,7 +28,8 @@ use Rattle.decision.proofs.DecisionTheorem as walk
 use Rattle.account_lock.specs.Lock.{witnessLock, earlyRows, contextOf, Result, refused, walked, orWalked, walkResult, lockScene, lockOf}
 use Rattle.account_lock.specs.Decides.{EarlierPass, LockQuorum}
 use Rattle.account_lock.proofs.DigestTheorem.{early-walked}
-use Rattle.account_lock.proofs.Numbers.{Early, early-not-28, early-not-totals, early-each, WalkRefusal, scene-walk}
+use Rattle.account_lock.proofs.EarlyNumbers.{Early, early-not-28, early-not-totals, early-each}
+use Rattle.account_lock.proofs.Numbers.{WalkRefusal, scene-walk}
 
 -- the numbers of the last row of the proofs and of the totals
 abbrev pub LastNumber : ℕ → Type 0

@@ -23,7 +23,7 @@ use Rattle.state_transition.proofs.WaitLaws.{wait-over, wait-malformed}
 use Rattle.account_lock.specs.Lock.{operation, current, earlyRows, lockOf}
 use Rattle.account_lock.specs.Session.{beforeSessionRows}
 use Rattle.account_lock.specs.Waiting.{wait, inputSince, beforeWaitRows, WaitRefused}
-use Rattle.account_lock.proofs.Numbers.{other-early}
+use Rattle.account_lock.proofs.EarlyNumbers.{other-early}
 use Rattle.account_lock.proofs.OwnNumber.{Other, others-not, given-between, lock-own, plain, spend-other, before-other}
 use Rattle.account_lock.proofs.LockTheorem.{lock-decision}
 use Rattle.account_lock.proofs.Session.{early-spend}
