@@ -73,7 +73,7 @@ unfolding sceneIn sceneFrom transactionPlace bytesAt
 short-transaction table store = let n = length-take 32 (drop (tableEntry table 10) store) in omega arith
 
 -- every row before the proofs' passes, so all other hashed witnesses fit
-others-pass : (s : Scene) → AllPass (earlyRows s) → AllPass (otherRows s)
+pub others-pass : (s : Scene) → AllPass (earlyRows s) → AllPass (otherRows s)
 unfolding lateRows
 others-pass s h =
     all-pass-split (statesRows s) (otherRows s) (all-pass-split (resolveRows (operation s) (account s) s) _ (late s h .1) .1) .1

@@ -34,7 +34,7 @@ unfolding joined before
 joined-before x [] = refl
 joined-before x (p ∷ ps) = refl
 
-pieces-short : (c : ℕ) (s : List ℕ) → length (joined (pieces c s)) ≤ length s
+pub pieces-short : (c : ℕ) (s : List ℕ) → length (joined (pieces c s)) ≤ length s
 unfolding pieces joined
 pieces-short c [] = omega arith
 pieces-short c (x ∷ r) = go (eqb x c) (pieces-short c r)
@@ -63,7 +63,7 @@ unfolding lineFields joined
 behind-short [] = omega arith
 behind-short (p ∷ ps) = omega (arith, length-append p (joined ps))
 
-line-short : (t : Form) (line : List ℕ) → length (lineBytes t (lineFields (pieces comma line))) ≤ length line
+pub line-short : (t : Form) (line : List ℕ) → length (lineBytes t (lineFields (pieces comma line))) ≤ length line
 line-short t line =
     omega (arith, fields-short t (lineFields (pieces comma line)), behind-short (pieces comma line), pieces-short comma line)
 

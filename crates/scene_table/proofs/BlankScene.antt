@@ -33,7 +33,7 @@ blank-cell start script content =
     rw (length-replicate {A = ℕ} script 0, type-hash (eqb script 0), blank-hash, blank-bytes script, blank-bytes content)
 
 -- a test of each record's reading is a test of where each record begins
-every-records : {A : Type 0} (p : A → Bool) (q : ℕ → Bool) (read : ℕ → A) (w n at : ℕ) → ((i : ℕ) → p (read i) ≡ q i)
+pub every-records : {A : Type 0} (p : A → Bool) (q : ℕ → Bool) (read : ℕ → A) (w n at : ℕ) → ((i : ℕ) → p (read i) ≡ q i)
     → every p (recordsAt read w n at) ≡ every q (recordsAt (λ (i : ℕ). i) w n at)
 unfolding every recordsAt
 every-records p q read w zero at h = refl

@@ -1,7 +1,7 @@
 -- Where a table passes its test, the store has every byte that the table names: the hashes of a cell have the lengths that belong
 -- beside its type script and its data.
 -- Assumes nothing.
-use mathlib.Core.Path.{_≡_}
+use mathlib.Core.Path.{_≡_, ap, _∙_}
 use mathlib.Core.Bool.{true}
 use mathlib.Core.List.{List}
 use Prim.Native.Nat.{ℕ, _+_, _^_, _≤_, _<_}
@@ -12,13 +12,13 @@ use lib.Seq.{length-take-le}
 use Rattle.octets.specs.declared.place.Place.{Place}
 use Rattle.octets.specs.Places.{bytesAt}
 use Rattle.octets.proofs.Truth.{and-left, and-right}
-use Rattle.scene_table.specs.Scene.{Cell, Input, Output, sceneBytes}
+use Rattle.scene_table.specs.Scene.{Cell, Input, Output, Scene, sceneBytes}
 use Rattle.scene_table.specs.Lent.{inputsAt, outputsAt, depsAt, inputCount, outputCount, depCount, inputWidth, outputWidth, cellWidth, hashLength, cellFrom, inputFrom, outputFrom, cellRecordFrom, sceneFrom}
 use Rattle.scene_table.specs.Places.{inputAt, inputPlaces, outputAt, outputPlaces, depPlaces, cellIn}
 use Rattle.scene_table.specs.declared.places.CellPlaces.{CellPlaces}
-use Rattle.scene_table.specs.Valid.{cellOk, inputOk, outputOk, validTable}
+use Rattle.scene_table.specs.Valid.{cellOk, inputOk, outputOk, sceneOk, validTable}
 use Rattle.scene_table.proofs.Records.{listed-every, records-listed}
-use Rattle.scene_table.proofs.ReadBack.{Gives, cell-hashes}
+use Rattle.scene_table.proofs.ReadBack.{sceneWith, Gives, cell-hashes}
 use Rattle.scene_table.proofs.SceneBack.{Sayable, sayable, scene-back}
 use Rattle.scene_table.proofs.ValidTheorem.{zeroed, zeroed-ok, passes-scene}
 
@@ -34,17 +34,17 @@ pub record CellsWhole (table store : List ℕ) : Type 0 where
   pub deps : (i : ℕ) → i < depCount table → WholeCell (cellIn store (depPlaces table i))
 
 -- the cell of an input, and of an output
-input-cell : (i : Input) → inputOk i ≡ true → cellOk (i .cell) ≡ true
+pub input-cell : (i : Input) → inputOk i ≡ true → cellOk (i .cell) ≡ true
 unfolding inputOk
 input-cell i h = and-left (cellOk (i .cell)) _ (and-right (ltb (i .since) (2 ^ 64)) _ (and-right (ltb (i .group) 2) _ h))
 
-output-cell : (o : Output) → outputOk o ≡ true → cellOk (o .cell) ≡ true
+pub output-cell : (o : Output) → outputOk o ≡ true → cellOk (o .cell) ≡ true
 unfolding outputOk
 output-cell o h = and-left (cellOk (o .cell)) _ h
 
 module _ (store : List ℕ) where
   -- as many zeros as the store has bytes at a place
-  abbrev zerosIn : Place → List ℕ
+  abbrev pub zerosIn : Place → List ℕ
   zerosIn p = zeroed (bytesAt store p)
 
   -- a store at least as long as a scene's bytes has as many at the place of each part
@@ -67,12 +67,19 @@ module _ (store : List ℕ) where
       }
 
 module _ (table store : List ℕ) (valid : validTable table (length store) ≡ true) where
-  shape : Sayable (sceneFrom (zerosIn store) table)
-  shape =
+  -- the zeros are those of a scene that a text can say and the store has room for
+  pub zeros-scene : (s : Scene) × (sceneOk s ≡ true) × (length (sceneBytes s) ≤ length store) × (sceneFrom (zerosIn store) table ≡ sceneWith zeroed s)
+  zeros-scene =
       let t = passes-scene table (length store) valid in
       let s = t .1 in
       let back = scene-back s (length table) (zerosIn store) zeroed (zeros-give store (sceneBytes s) (t .3)) (sayable s (t .2)) in
-      sayable _ (rw (t .4, back) (zeroed-ok s (sayable s (t .2))))
+      (s, t .2, t .3, ap (sceneFrom (zerosIn store)) (t .4) ∙ back)
+
+  pub zeros-ok : sceneOk (sceneFrom (zerosIn store) table) ≡ true
+  zeros-ok = let t = zeros-scene in rw (t .3) (zeroed-ok (t .0) (sayable (t .0) (t .1)))
+
+  pub shape : Sayable (sceneFrom (zerosIn store) table)
+  shape = sayable _ zeros-ok
 
   pub cells-whole : CellsWhole table store
   unfolding sceneFrom inputFrom outputFrom inputPlaces inputAt outputPlaces outputAt depPlaces

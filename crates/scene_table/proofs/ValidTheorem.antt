@@ -44,7 +44,7 @@ alike-map : {A : Type 0} (line : A → Line) (f : A → A) → ((x : A) → Alik
 alike-map line f one [] = record { records = λ used. refl; long = refl }
 alike-map line f one (x ∷ xs) = alike-append (line (f x) ∷ []) (line x ∷ []) (map line (map f xs)) (map line xs) (one x) (alike-map line f one xs)
 
-length-zeroed : (q : List ℕ) → length (zeroed q) ≡ length q
+pub length-zeroed : (q : List ℕ) → length (zeroed q) ≡ length q
 length-zeroed q = length-replicate (length q) 0
 
 cell-long : (c : Cell) → length (cellBytes (cellWith zeroed c)) ≡ length (cellBytes c)
@@ -116,7 +116,7 @@ zeroed-table : (s : Scene) (m : ℕ) → sceneTable (sceneWith zeroed s) m ≡ s
 unfolding sceneTable
 zeroed-table s m = ap (paddedTo m) (zeroed-numbers s)
 
-zeroed-long : (s : Scene) → length (sceneBytes (sceneWith zeroed s)) ≡ length (sceneBytes s)
+pub zeroed-long : (s : Scene) → length (sceneBytes (sceneWith zeroed s)) ≡ length (sceneBytes s)
 unfolding sceneBytes
 zeroed-long s = total-joined (linesOf (sceneWith zeroed s)) ∙ (alike-lines s .long ∙ sym (total-joined (linesOf s)))
 

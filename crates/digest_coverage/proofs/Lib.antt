@@ -1,0 +1,9 @@
+pub mod InputTheorem
+pub mod Reached
+pub mod SceneBytes
+pub mod Sizes
+pub mod Covered
+pub mod EqualDigests
+pub mod LockField
+pub mod Border
+pub mod BorderDigest

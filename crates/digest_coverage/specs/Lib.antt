@@ -1,0 +1,4 @@
+pub mod Coverage
+pub mod LockField
+pub mod Border
+pub mod Reaches
