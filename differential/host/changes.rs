@@ -26,6 +26,15 @@ pub fn some_others(byte: u8) -> Vec<u8> {
     [&near[..], &bits, &[0, 1, 2, 3, 4, 0xff]].concat()
 }
 
+/// The same, each once and none of them the byte itself.
+pub fn some_different(byte: u8) -> Vec<u8> {
+    let mut values = some_others(byte);
+    values.retain(|value| *value != byte);
+    values.sort();
+    values.dedup();
+    values
+}
+
 /// Every shorter copy, and one that is a byte longer.
 pub fn other_lengths(bytes: &[u8], mut f: impl FnMut(&[u8])) {
     for length in 0..bytes.len() {

@@ -19,8 +19,9 @@ pub const PROOF: &[u8] = b"proof";
 const CAPACITY: u64 = 6_100_000_000;
 /// The data of the verifier's cell.
 const VERIFIER: &[u8] = b"verifier";
-/// The type script of the smallest spend's account.
+/// The type script of the smallest spend's account, and its proof.
 const SMALLEST_TYPE_SCRIPT: &[u8] = &[0x44];
+const SMALLEST_PROOF: &[u8] = &[0xaa];
 
 fn type_script() -> Vec<u8> {
     table(&[&[0x55; 32], &[1], &byte_vector(&[])])
@@ -173,12 +174,29 @@ pub fn smallest_spend() -> Scene {
         inputs: vec![smallest_input(0, plain_cell())],
         outputs: Vec::new(),
         deps: vec![smallest_cell(smallest_state(SEQUENCE, None))],
-        witnesses: smallest_witnesses(OP_SPEND),
+        witnesses: smallest_witnesses(OP_SPEND, SMALLEST_PROOF),
         ..spend()
     }
 }
 
-/// The same with another input, a foreign one, and two outputs.
+/// The same with another proof.
+pub fn spend_with_proof(proof: &[u8]) -> Scene {
+    Scene {
+        witnesses: smallest_witnesses(OP_SPEND, proof),
+        ..smallest_spend()
+    }
+}
+
+/// The smallest spend with these witnesses behind its first, so many of them those of further inputs of the group.
+pub fn spend_with_row(row: &[Vec<u8>], group: usize) -> Scene {
+    let mut scene = smallest_spend();
+    let input = scene.inputs[0].clone();
+    scene.inputs.resize(1 + group, input);
+    scene.witnesses.extend_from_slice(row);
+    scene
+}
+
+/// The smallest spend with another input, a foreign one, and two outputs.
 pub fn two_by_two() -> Scene {
     Scene {
         inputs: [true, false]
@@ -196,7 +214,7 @@ pub fn smallest_recovery(recovery_since: u64, since: u64) -> Scene {
         inputs: vec![smallest_input(since, state(SEQUENCE))],
         outputs: vec![smallest_output(state(SEQUENCE + 1))],
         deps: vec![smallest_cell(Vec::new())],
-        witnesses: smallest_witnesses(OP_RECOVERY),
+        witnesses: smallest_witnesses(OP_RECOVERY, SMALLEST_PROOF),
         ..smallest_spend()
     }
 }
@@ -219,11 +237,11 @@ fn smallest_cell(data: Vec<u8>) -> Cell {
     cell(Some(SMALLEST_TYPE_SCRIPT.to_vec()), data)
 }
 
-/// One witness, with one proof of one byte.
-fn smallest_witnesses(operation: u8) -> Vec<Vec<u8>> {
+/// One witness, with one proof.
+fn smallest_witnesses(operation: u8, proof: &[u8]) -> Vec<Vec<u8>> {
     let proof = Proof {
         slot: authenticator().slot,
-        bytes: vec![0xaa],
+        bytes: proof.to_vec(),
     };
     let lock = encode_witness(operation, SEQUENCE, &[proof]).expect("a valid witness lock");
     vec![table(&[&byte_vector(&lock), &[], &[]])]

@@ -84,6 +84,12 @@ impl Answer {
         }
     }
 
+    /// The digest, where the run reached it.
+    pub fn reached(self) -> Option<Hex> {
+        let (reached, digest) = self.digest;
+        (reached == 1).then_some(digest)
+    }
+
     pub fn of_port(lent: &Lent, buffer_len: usize) -> Self {
         let mut buffer = BEFORE[..buffer_len].to_vec();
         let mut out = [0; OUT];

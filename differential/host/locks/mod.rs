@@ -3,6 +3,7 @@
 pub mod answer;
 mod assembly;
 mod capacities;
+mod coverage;
 mod faults;
 mod plan;
 pub mod record;
@@ -157,6 +158,7 @@ pub fn run(report: &mut Report, long: bool) {
     room::run(&mut runs);
     waits::run(&mut runs);
     totals::run(&mut runs);
+    coverage::run(&mut runs);
     report.expect_each("lock", &NUMBERS, LEAST);
     let differences: Vec<&str> = Difference::all().map(Difference::name).collect();
     report.expect_met(&differences, LEAST);

@@ -39,17 +39,30 @@ fn total(outcome: &Outcome) -> usize {
 
 impl Runs<'_> {
     /// Runs the port's lock over what it is lent. `size` and `input` are the report's.
-    fn run(&mut self, lent: &Lent, expected: &Answer, size: usize, input: impl FnOnce() -> String) {
+    fn run(
+        &mut self,
+        lent: &Lent,
+        expected: &Answer,
+        size: usize,
+        input: impl FnOnce() -> String,
+    ) -> Answer {
         let result = Answer::of_port(lent, expected.buffer.0.len());
         self.report.answered("lock", result.number);
         self.report.compare("lock", size, input, &result, expected);
+        result
     }
 
     /// The lock over a scene, with an answer buffer of this length.
-    fn compare(&mut self, text: &[u8], lent: &Lent, outcome: &Outcome, buffer_len: usize) {
+    fn compare(
+        &mut self,
+        text: &[u8],
+        lent: &Lent,
+        outcome: &Outcome,
+        buffer_len: usize,
+    ) -> Answer {
         let expected = Answer::expected(outcome, buffer_len);
         let input = || describe(text, buffer_len);
-        self.run(lent, &expected, text.len(), input);
+        self.run(lent, &expected, text.len(), input)
     }
 
     /// The port's reader leaves what the plain one does.
@@ -150,12 +163,25 @@ impl Runs<'_> {
     }
 
     /// The text, read and decided in one call.
-    fn decide(&mut self, text: &[u8], lent: &Lent, outcome: &Outcome) {
+    fn decide(&mut self, text: &[u8], lent: &Lent, outcome: &Outcome) -> Answer {
         let expected = Answer::expected(outcome, ENOUGH);
         let result = Answer::of_text(text, lent, ENOUGH);
         let input = || describe(text, ENOUGH);
         self.report
             .compare("decide_scene", text.len(), input, &result, &expected);
+        result
+    }
+
+    /// A scene's number, and its digest where that is reached: by the lock over what it is lent, by the text, and by what both
+    /// are measured by.
+    pub fn digests(&mut self, scene: &Scene) -> (i8, [Option<Hex>; 3]) {
+        let outcome = self.measure(scene);
+        let text = text(scene);
+        let lent = self.read(&text);
+        let locked = self.compare(&text, &lent, &outcome, ENOUGH);
+        let decided = self.decide(&text, &lent, &outcome);
+        let digests = [locked.reached(), decided.reached(), outcome.digest];
+        (outcome.number, digests)
     }
 
     /// A length of answer buffer: one too short, the total, some more, or enough for any scene.

@@ -1,13 +1,14 @@
 //! Sample scenes as files: the smallest spend, a spend, a rotation and two recoveries with two proofs each, one for each
-//! number of the reader and of the lock that a scene of up to 65,536 bytes gives, and a spend of just that many bytes, with
-//! the answer to each in `answers.txt`.
+//! number of the reader and of the lock that a scene of up to 65,536 bytes gives, a spend of just that many bytes, and spends
+//! that share a digest, with the answer to each in `answers.txt`.
 
 use super::capacities::Wanted;
 use super::faults::{build, rows, Fault, Row};
 use super::plan::Plan;
 use super::record::answer_line;
+use crate::hex::Hex;
 use crate::prng::Prng;
-use crate::samples::smallest_spend;
+use crate::samples::{smallest_spend, spend_with_proof, spend_with_row};
 use crate::scene::{self, ENTRIES};
 use crate::{measure, scene_text, true_hashes};
 use ckb_std::{Cell, Scene};
@@ -101,6 +102,10 @@ fn fill(scene: &mut Scene) {
     true_hashes::of_scene(scene);
 }
 
+fn digest(scene: &Scene) -> Hex {
+    measure::lock(scene).digest.expect("a digest")
+}
+
 struct Samples<'a> {
     folder: &'a str,
     prng: Prng,
@@ -138,6 +143,18 @@ impl Samples<'_> {
         fill(&mut scene);
         assert_eq!(scene_text::text(&scene).len(), LONGEST);
         self.scene("longest", &scene, 0)
+    }
+
+    /// A spend that differs from the smallest inside the lock field alone; and two with the same witnesses, the second of them
+    /// an extra one or that of another input of the group.
+    fn one_digest(&mut self) -> io::Result<()> {
+        let other = spend_with_proof(&[0xaa, 0xbb, 0xcc, 0xdd]);
+        assert_eq!(digest(&other), digest(&smallest_spend()));
+        self.scene("spend_other_lock_field", &other, 0)?;
+        let [extra, group] = [0, 1].map(|group| spend_with_row(&[vec![]], group));
+        assert_eq!(digest(&extra), digest(&group));
+        self.scene("spend_extra_witness", &extra, 0)?;
+        self.scene("spend_group_witness", &group, 0)
     }
 
     /// A text that the reader refuses with this number.
@@ -180,5 +197,6 @@ pub fn write(folder: &str) -> io::Result<()> {
         samples.lock(name, operation, Some(named(row)))?;
     }
     samples.longest()?;
+    samples.one_digest()?;
     fs::write(format!("{folder}/answers.txt"), samples.answers)
 }

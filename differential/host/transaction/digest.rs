@@ -8,12 +8,25 @@ use ckb_account_lock::opened;
 const RANDOM: usize = 3_000;
 const NAME: &str = "authorization_digest";
 
-struct Digest {
-    operation: u8,
-    account: [u8; 32],
-    sequence: u64,
-    state: Vec<u8>,
-    sighash: [u8; 32],
+#[derive(Clone)]
+pub struct Digest {
+    pub operation: u8,
+    pub account: [u8; 32],
+    pub sequence: u64,
+    pub state: Vec<u8>,
+    pub sighash: [u8; 32],
+}
+
+impl Digest {
+    pub fn lent(&self) -> LentDigest<'_> {
+        LentDigest {
+            operation: self.operation,
+            account: &self.account,
+            sequence: self.sequence,
+            state: &self.state,
+            sighash: &self.sighash,
+        }
+    }
 }
 
 fn lend(calls: &mut Calls, digest: &LentDigest, expected: Result<[u8; 32], u32>) {
@@ -33,14 +46,8 @@ fn lend(calls: &mut Calls, digest: &LentDigest, expected: Result<[u8; 32], u32>)
 }
 
 /// The lock's own function has no test of the operation.
-fn compare(calls: &mut Calls, digest: &Digest) {
-    let lent = LentDigest {
-        operation: digest.operation,
-        account: &digest.account,
-        sequence: digest.sequence,
-        state: &digest.state,
-        sighash: &digest.sighash,
-    };
+pub fn compare(calls: &mut Calls, digest: &Digest) {
+    let lent = digest.lent();
     let by_host = numbered(ckb_account_host::authorization_digest(
         digest.operation,
         &digest.account,

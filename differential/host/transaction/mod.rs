@@ -1,5 +1,6 @@
 //! The molecule tables and the hashes of a transaction beside the original.
 
+mod covered;
 mod digest;
 mod scenes;
 mod sighash;
@@ -25,6 +26,7 @@ pub fn run(report: &mut Report) {
     witnesses::run(&mut calls);
     digest::run(&mut calls);
     sighash::run(&mut calls);
+    covered::run(&mut calls);
     for (name, answers) in ANSWERS {
         report.expect_answers(name, answers);
     }
