@@ -8,7 +8,7 @@ use Prim.Native.Nat.{ℕ, _+_, _≤_}
 use native.Mathlib.Omega.{arith}
 use lib.Dec.{eqb}
 use lib.ListN.{length, take, drop, length-append, length-take, take-append-drop}
-use lib.Seq.{take-nil, drop-nil, drop-drop}
+use lib.Seq.{take-nil, drop-drop}
 use Rattle.octets.specs.Lists.{every}
 use Rattle.octets.proofs.Every.{every-split}
 use Rattle.scene_table.specs.Scene.{Input, Scene}

@@ -1,24 +1,23 @@
 -- 02, change 12: "The border between group and extra witnesses isn't marked": two scenes with different borders give one digest where
 -- both reach it.
 -- Assumes nothing.
-use mathlib.Core.Path.{_≡_, refl, sym, ap, _∙_}
+use mathlib.Core.Path.{_≡_, refl, ap, _∙_}
 use mathlib.Core.Bool.{Bool, true, false, cond}
 use mathlib.Core.List.{List, [], _∷_, _++_, map, map-append, append-nil}
-use Prim.Native.Nat.{ℕ, zero, suc, _+_, _<_}
-use native.Mathlib.Nat.{add-zero, suc-add}
+use Prim.Native.Nat.{ℕ, suc, _+_}
+use native.Mathlib.Nat.{add-zero}
 use native.Mathlib.Omega.{arith}
 use borrow.Author.Tests.{leb-true}
 use lib.Dec.{eqb}
-use lib.ListN.{length, getD, length-append, List·getD-append}
+use lib.ListN.{length, length-append, List·getD-append}
 use Rattle.octets.specs.Lists.{same, every}
 use Rattle.protocol.specs.Rows.{AllPass}
 use Rattle.protocol.proofs.AllPass.{all-pass-split}
 use Rattle.scene_table.specs.Scene.{Cell, Input, Scene}
-use Rattle.cell_search.specs.declared.cells.Source.{Source}
 use Rattle.cell_search.specs.declared.cells.Source.the-variants as source
 use Rattle.cell_search.specs.declared.cells.CellField.{CellField}
 use Rattle.cell_search.specs.declared.cells.CellField.the-variants.{TypeHash}
-use Rattle.cell_search.specs.Search.{cellsOf, cellHash, matching, matches, searchOf, cellSearch, indexOf, cellAt, noCell}
+use Rattle.cell_search.specs.Search.{cellsOf, cellHash, matching, matches, cellSearch, indexOf, cellAt, noCell}
 use Rattle.cell_search.proofs.Found.{found-one}
 use Rattle.group_sighash.specs.Witnesses.{groupOf, groupRows, lockIn}
 use Rattle.state_transition.specs.Resolve.{stateIndices, stateSource, stateIndex, currentState, spendRows, changeRows, resolveRows}

@@ -1,29 +1,33 @@
 -- Where the lock reaches a digest, on lent memory or on a text: the scene is one that a text can say, every row before the proofs'
--- passes, and the digest is CKB's hash of document 01's input.
+-- passes, and digest and sighash are CKB's hashes of document 01's inputs.
 -- Assumes nothing.
 use mathlib.Core.Path.{_≡_, refl, sym, ap, _∙_}
 use mathlib.Core.Logic.{inl, inr}
 use mathlib.Core.Bool.{true, false, true≢false}
 use mathlib.Core.List.{List}
 use Prim.Native.Nat.{ℕ}
+use native.Mathlib.Omega.{arith}
 use lib.ListN.{length}
-use Rattle.octets.specs.Le.{Bytes}
 use Rattle.blake2b.specs.State.{ckbHash}
 use Rattle.protocol.specs.Rows.{AllPass}
 use Rattle.scene_reader.specs.Reader.{ReaderOutcome, readerRefuses, readerHolds, readOf, readerCheck}
 use Rattle.scene_table.specs.Scene.{Scene}
 use Rattle.scene_table.specs.Lent.{sceneIn}
+use Rattle.scene_table.proofs.ReadBack.{hash-long}
 use Rattle.scene_table.proofs.SceneBack.{Sayable, sayable}
 use Rattle.scene_table.proofs.LentScene.{lent-sayable}
-use Rattle.scene_reading.specs.Lines.{LinesAccepted}
-use Rattle.scene_reading.specs.Reading.{sceneOf}
 use Rattle.scene_reading.proofs.PrintBack.{reading-ok}
 use Rattle.scene_reading.proofs.Accessors.{accessors-give}
+use Rattle.authorization.specs.Digest.{digestOf}
+use Rattle.group_sighash.specs.GroupSighash.{groupSighash}
+use Rattle.group_sighash.proofs.SighashHash.{sighash-hash}
 use Rattle.account_lock.specs.declared.answer.LockAnswer.{LockAnswer}
 use Rattle.account_lock.specs.Lock as lock
-use Rattle.account_lock.proofs.DigestTheorem.{early-walked, reached-early, lock-digest}
+use Rattle.account_lock.proofs.LockLaws.{group-hashed}
+use Rattle.account_lock.proofs.LockTheorem.{late}
+use Rattle.account_lock.proofs.DigestTheorem.{others-pass, early-walked, reached-early}
 use Rattle.decide_scene.specs.Decided.{decidedBy, decided}
-use Rattle.digest_coverage.specs.Coverage.{sighashInputOf, sighashParts, sighashIn, digestInputIn}
+use Rattle.digest_coverage.specs.Coverage.{sighashInputOf, sighashParts, sceneDigestInput}
 use Rattle.digest_coverage.specs.Reaches.{LockReaches, TextReaches, Reaches}
 
 -- what is known of a scene whose digest is reached
@@ -31,7 +35,6 @@ pub record Reached (s : Scene) (d : List ℕ) : Type 0 where
   pub sayable : Sayable s
   pub early : AllPass (lock.earlyRows s)
   pub digest : d ≡ lock.digest s
-  pub input : d ≡ ckbHash (digestInputIn s)
 
 -- of a table and a store on which the lock reaches its digest
 module _ (table store : List ℕ) (room : ℕ) (reached : lock.lockOf table store room .reached ≡ true) where
@@ -41,16 +44,11 @@ module _ (table store : List ℕ) (room : ℕ) (reached : lock.lockOf table stor
       let h = reached-early table store room reached in
       ap (λ (r : lock.Result). r .digest) (early-walked table store room (h .0) (h .1))
 
-  result-input : lock.lockOf table store room .digest ≡ ckbHash (digestInputIn (sceneIn table store))
-  unfolding digestInputIn sighashIn sighashInputOf sighashParts
-  result-input = lock-digest table store room reached
-
   result-reached : (s : Scene) (d : List ℕ) → sceneIn table store ≡ s → lock.lockOf table store room .digest ≡ d → Sayable s → Reached s d
   result-reached s d e f ok = record {
     sayable = ok;
     early = rw e at (reached-early table store room reached .1);
     digest = sym f ∙ (result-digest ∙ ap lock.digest e);
-    input = sym f ∙ (result-input ∙ ap (λ (u : Scene). ckbHash (digestInputIn u)) e);
   }
 
 lock-reached : (s : Scene) (d : List ℕ) → LockReaches s d → Reached s d
@@ -78,3 +76,18 @@ text-reached s d h = go (readOf (h .text) (h .store) (h .table)) refl (h .reache
 pub digest-reached : (s : Scene) (d : List ℕ) → Reaches s d → Reached s d
 digest-reached s d (inl h) = lock-reached s d h
 digest-reached s d (inr h) = text-reached s d h
+
+module _ (s : Scene) (d : List ℕ) (h : Reaches s d) where
+  -- the digest is the hash of its input,
+  pub reached-input : d ≡ ckbHash (sceneDigestInput s)
+  unfolding lock.digest digestOf sceneDigestInput
+  reached-input = digest-reached s d h .digest
+
+  -- and so is the sighash in it
+  pub reached-sighash : groupSighash s ≡ ckbHash (sighashInputOf (sighashParts s))
+  unfolding sighashInputOf sighashParts
+  reached-sighash =
+      let known = digest-reached s d h in
+      let short : length (s .transaction) ≡ 32 = hash-long (s .transaction) (known .sayable .transaction) in
+      let rows = group-hashed s (late s (known .early) .0) (others-pass s (known .early)) in
+      sighash-hash s (omega arith) (known .sayable .fewWitnesses) rows

@@ -3,19 +3,19 @@
 -- Assumes nothing.
 use mathlib.Core.Path.{_≡_, refl}
 use mathlib.Core.Bool.{Bool, true, false, cond, _&&_}
-use mathlib.Core.List.{List, [], _∷_, _++_, map}
+use mathlib.Core.List.{List, [], _∷_, _++_}
 use Prim.Native.Nat.{ℕ, zero, suc, _-_, _<_}
 use native.Mathlib.Omega.{arith}
 use borrow.Author.Tests.{ltb-true}
-use lib.Dec.{eqb, ltb}
-use lib.ListN.{length, take, drop, getD}
+use lib.Dec.{eqb}
+use lib.ListN.{length, drop}
 use Rattle.octets.specs.Le.{toLe, Bytes}
 use Rattle.octets.specs.Lists.{every, joined}
 use Rattle.octets.specs.Layout.{Field, layoutBytes}
 use Rattle.octets.specs.Places.{bytesAt}
-use Rattle.octets.proofs.Every.{every-split, every-append, every-map, every-nth}
+use Rattle.octets.proofs.Every.{every-split, every-append, every-map}
 use Rattle.octets.proofs.LeLaws.{bytes-drop, bytes-take, bytes-append, bytes-to, number-lt}
-use Rattle.octets.proofs.Truth.{and-left, and-right}
+use Rattle.octets.proofs.Truth.{and-right}
 use Rattle.blake2b.specs.Rfc7693.{bytesOf, hashWords, hashOf}
 use Rattle.blake2b.specs.State.{ckbParameters, ckbHash}
 use Rattle.protocol.specs.Args.{accountOf}
@@ -27,7 +27,7 @@ use Rattle.molecule.specs.Molecule.{bytesVector, tableHead, tableBytes}
 use Rattle.molecule.specs.Table3.{secondOffsetOf, thirdOffsetOf, between, field2, field3}
 use Rattle.authorization.specs.Digest.{authDomain, digestHead, digestInput}
 use Rattle.authorization.specs.Hashed.{hashedWitness}
-use Rattle.authorization.specs.Sighash.{hashedWitnesses, sighashInput}
+use Rattle.authorization.specs.Sighash.{hashedWitnesses, sighashInput, sighashOf}
 use Rattle.scene_table.specs.Scene.{Cell, Input, Output, Scene}
 use Rattle.scene_table.specs.Valid.{bytesOk, hashBytesOk, cellOk, inputOk, outputOk}
 use Rattle.scene_table.proofs.SceneBack.{Sayable}
@@ -36,10 +36,11 @@ use Rattle.cell_search.specs.declared.cells.Source.{Source}
 use Rattle.cell_search.specs.declared.cells.Source.the-variants as source
 use Rattle.cell_search.specs.Search.{cellsOf, cellAt, noCell}
 use Rattle.group_sighash.specs.Witnesses.{groupWitnesses, groupOf, headOf, firstWitness, otherWitnesses, lockIn}
+use Rattle.group_sighash.specs.GroupSighash.{groupSighash}
 use Rattle.state_transition.specs.Resolve.{stateSource, currentState}
 use Rattle.account_state.specs.Fields.{sequenceOf}
 use Rattle.account_lock.specs.Lock as lock
-use Rattle.digest_coverage.specs.Coverage.{sighashInputOf, sighashParts, sighashIn, digestInputIn}
+use Rattle.digest_coverage.specs.Coverage.{sighashInputOf, sighashParts, sceneDigestInput}
 
 -- ---- bytes
 
@@ -195,9 +196,13 @@ module _ (s : Scene) (ok : Sayable s) where
       let others = row-bytes (otherWitnesses s) (every-other bytesOk s (ok .witnesses)) in
       bytes-append (s .transaction ++ first) (hashedWitnesses (otherWitnesses s)) (bytes-append (s .transaction) first transaction-bytes first-hashed) others
 
+  sighash-bytes : Bytes (groupSighash s)
+  unfolding groupSighash sighashOf
+  sighash-bytes = bytes-take 32 (bytesOf _) (bytes-words _)
+
   -- and of its digest
-  pub digest-input-bytes : Bytes (digestInputIn s)
-  unfolding digestInputIn digestInput digestHead sighashIn
+  pub digest-input-bytes : Bytes (sceneDigestInput s)
+  unfolding sceneDigestInput digestInput digestHead
   digest-input-bytes =
       let operation = lock.operation s ∷ [] in
       let account = lock.account s in
@@ -207,4 +212,4 @@ module _ (s : Scene) (ok : Sayable s) where
       let named = bytes-append (authDomain ++ operation) account domain account-bytes in
       let head = bytes-append (authDomain ++ operation ++ account) sequence named (bytes-to 8 (sequenceOf (lock.current s))) in
       let stated = bytes-append (authDomain ++ operation ++ account ++ sequence) state head (hash-bytes (lock.current s)) in
-      bytes-append (authDomain ++ operation ++ account ++ sequence ++ state) (sighashIn s) stated (hash-bytes (sighashInputOf (sighashParts s)))
+      bytes-append (authDomain ++ operation ++ account ++ sequence ++ state) (groupSighash s) stated sighash-bytes

@@ -13,7 +13,6 @@ use Rattle.octets.specs.Le.{Bytes}
 use Rattle.octets.specs.Lists.{every}
 use Rattle.octets.proofs.Every.{every-more}
 use Rattle.protocol.specs.declared.check.Check.the-variants.{Passed}
-use Rattle.molecule.specs.Canonical.{canonicalOf}
 use Rattle.molecule.proofs.CanonicalForm.{length-canonical, fields-within}
 use Rattle.scene_reader.specs.Reader.{readOf, readerCheck}
 use Rattle.scene_table.specs.Scene.{Scene, sceneBytes}

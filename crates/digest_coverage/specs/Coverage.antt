@@ -1,5 +1,6 @@
 -- 02, change 12, "What a digest covers": what a sighash input and a digest input are made of, and all that a digest covers.
 use mathlib.Core.Path.{_≡_}
+use mathlib.Core.Logic.{_⊎_}
 use mathlib.Core.Bool.{true}
 use mathlib.Core.List.{List}
 use Prim.Native.Nat.{ℕ, _^_, _<_}
@@ -13,6 +14,7 @@ use Rattle.authorization.specs.Digest.{digestInput}
 use Rattle.authorization.specs.Sighash.{sighashInput}
 use Rattle.scene_table.specs.Scene.{Scene}
 use Rattle.group_sighash.specs.Witnesses.{firstWitness, otherWitnesses}
+use Rattle.group_sighash.specs.GroupSighash.{groupSighash}
 use Rattle.account_state.specs.Fields.{sequenceOf}
 use Rattle.account_lock.specs.Lock as lock
 
@@ -50,18 +52,15 @@ digestPartsOf operation account sequence state sighash = record {
   sighash = sighash;
 }
 
--- of a scene
+-- those of a scene, and its digest's input
 unfoldable pub sighashParts : Scene → SighashParts
 sighashParts s = record { transaction = s .transaction; first = canonicalOf (firstWitness s); others = otherWitnesses s }
 
-unfoldable pub sighashIn : Scene → List ℕ
-sighashIn s = ckbHash (sighashInputOf (sighashParts s))
-
 unfoldable pub digestParts : Scene → DigestParts
-digestParts s = digestPartsOf (lock.operation s) (lock.account s) (sequenceOf (lock.current s)) (lock.current s) (sighashIn s)
+digestParts s = digestPartsOf (lock.operation s) (lock.account s) (sequenceOf (lock.current s)) (lock.current s) (groupSighash s)
 
-unfoldable pub digestInputIn : Scene → List ℕ
-digestInputIn s = digestInput (lock.operation s) (lock.account s) (sequenceOf (lock.current s)) (lock.current s) (sighashIn s)
+unfoldable pub sceneDigestInput : Scene → List ℕ
+sceneDigestInput s = digestInput (lock.operation s) (lock.account s) (sequenceOf (lock.current s)) (lock.current s) (groupSighash s)
 
 -- "its reach in one statement": all that a digest covers is the same in two scenes
 pub record SameCovered (s t : Scene) : Type 0 where
@@ -70,10 +69,15 @@ pub record SameCovered (s t : Scene) : Type 0 where
   pub state : lock.current s ≡ lock.current t
   pub sighash : sighashParts s ≡ sighashParts t
 
--- what no statement about a hash excludes: two different rows of bytes with one hash
-pub record Collision : Type 0 where
-  pub one : List ℕ
-  pub other : List ℕ
+-- what no statement about a hash excludes: two rows of bytes that differ and have one hash
+pub record Collision (one other : List ℕ) : Type 0 where
   pub bytes : Bytes one × Bytes other
   pub differ : ¬ (one ≡ other)
   pub hash : ckbHash one ≡ ckbHash other
+
+-- of the three pairs that two digests are made from: the digest inputs, the states, the sighash inputs
+abbrev pub CollisionIn : Scene → Scene → Type 0
+CollisionIn s t =
+    Collision (sceneDigestInput s) (sceneDigestInput t)
+    ⊎ Collision (lock.current s) (lock.current t)
+    ⊎ Collision (sighashInputOf (sighashParts s)) (sighashInputOf (sighashParts t))
