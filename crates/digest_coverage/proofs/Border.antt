@@ -16,7 +16,7 @@ use Rattle.group_sighash.specs.Witnesses.{groupWitnesses, groupOf, headOf, firs
 use Rattle.molecule.specs.Canonical.{canonicalOf}
 use Rattle.digest_coverage.specs.Coverage.{sighashInputOf, sighashParts}
 use Rattle.digest_coverage.proofs.Covered.{sighash-same}
-use Rattle.digest_coverage.specs.Border.{extraWitnesses, withInputs, BorderMoved, MoreGroup}
+use Rattle.digest_coverage.specs.Border.{extraWitnesses, withInputs, BorderMoved, MoreGroup, groupInput, twoWitnesses, secondExtra, secondOfGroup}
 
 -- inputs of the group alone have the witnesses one by one
 all-group : (more : List Input) (ws : List (List ℕ)) → every (λ (i : Input). eqb (i .group) 1) more ≡ true → groupWitnesses more ws ≡ take (length more) ws
@@ -90,3 +90,11 @@ module _ (s : Scene) (more : List Input) (h : MoreGroup more s) where
   border-differs a b e =
       let n = ap length (sym moved-group ∙ e) in
       omega (arith, length-append (groupOf s) (take (length more) (extraWitnesses s)), length-take (length more) (extraWitnesses s))
+
+-- in the smallest pair the second witness is an extra one, or the group's
+pub border-smallest : BorderMoved 1 secondExtra secondOfGroup × (¬ (groupOf secondOfGroup ≡ groupOf secondExtra))
+unfolding secondExtra secondOfGroup twoWitnesses groupInput groupOf groupWitnesses extraWitnesses withInputs every
+border-smallest =
+    let more = groupInput ∷ [] in
+    let h : MoreGroup more secondExtra = record { first = omega arith; group = refl } in
+    (border-unmarked secondExtra more h, border-differs secondExtra more h (omega arith) (omega arith))

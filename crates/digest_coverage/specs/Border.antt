@@ -1,12 +1,13 @@
 -- 02, change 12: "The border between group and extra witnesses isn't marked, and the statement names that."
 use mathlib.Core.Path.{_≡_}
 use mathlib.Core.Bool.{true}
-use mathlib.Core.List.{List, _++_}
+use mathlib.Core.List.{List, [], _∷_, _++_}
 use Prim.Native.Nat.{ℕ, _≤_}
 use lib.Dec.{eqb}
-use lib.ListN.{length, take, drop}
+use lib.ListN.{length, take, drop, replicate}
 use Rattle.octets.specs.Lists.{every}
 use Rattle.scene_table.specs.Scene.{Input, Scene}
+use Rattle.cell_search.specs.Search.{noCell}
 use Rattle.group_sighash.specs.Witnesses.{groupOf}
 use Rattle.digest_coverage.specs.Coverage.{sighashInputOf, sighashParts}
 
@@ -37,3 +38,24 @@ pub record BorderMoved (n : ℕ) (s t : Scene) : Type 0 where
   pub extra : extraWitnesses t ≡ drop n (extraWitnesses s)
   pub covered : sighashParts t ≡ sighashParts s
   pub input : sighashInputOf (sighashParts t) ≡ sighashInputOf (sighashParts s)
+
+-- the smallest such pair: two witnesses without a byte, and an input of the group, whose cell is empty, once or twice
+unfoldable pub groupInput : Input
+groupInput = record { group = 1; since = 0; cell = noCell; capacity = 0 }
+
+unfoldable pub twoWitnesses : List Input → Scene
+twoWitnesses inputs = record {
+  script = [];
+  transaction = replicate 32 0;
+  inputs = inputs;
+  outputs = [];
+  deps = [];
+  witnesses = [] ∷ [] ∷ [];
+  digits = [];
+}
+
+unfoldable pub secondExtra : Scene
+secondExtra = twoWitnesses (groupInput ∷ [])
+
+unfoldable pub secondOfGroup : Scene
+secondOfGroup = twoWitnesses (groupInput ∷ groupInput ∷ [])
