@@ -1,5 +1,6 @@
 pub mod InputTheorem
 pub mod Reached
+pub mod HashedWitnesses
 pub mod SceneBytes
 pub mod Sizes
 pub mod Covered

@@ -2,7 +2,7 @@
 -- and of its digest.
 -- Assumes nothing.
 use mathlib.Core.Path.{_≡_, refl}
-use mathlib.Core.Bool.{Bool, true, false, cond, _&&_}
+use mathlib.Core.Bool.{true, cond, _&&_}
 use mathlib.Core.List.{List, [], _∷_, _++_}
 use Prim.Native.Nat.{ℕ, zero, suc, _-_, _<_}
 use native.Mathlib.Omega.{arith}
@@ -13,7 +13,7 @@ use Rattle.octets.specs.Le.{toLe, Bytes}
 use Rattle.octets.specs.Lists.{every, joined}
 use Rattle.octets.specs.Layout.{Field, layoutBytes}
 use Rattle.octets.specs.Places.{bytesAt}
-use Rattle.octets.proofs.Every.{every-split, every-append, every-map}
+use Rattle.octets.proofs.Every.{every-split, every-map}
 use Rattle.octets.proofs.LeLaws.{bytes-drop, bytes-take, bytes-append, bytes-to, number-lt}
 use Rattle.octets.proofs.Truth.{and-right}
 use Rattle.blake2b.specs.Rfc7693.{bytesOf, hashWords, hashOf}
@@ -35,11 +35,12 @@ use Rattle.scene_table.proofs.Shape.{input-cell, output-cell}
 use Rattle.cell_search.specs.declared.cells.Source.{Source}
 use Rattle.cell_search.specs.declared.cells.Source.the-variants as source
 use Rattle.cell_search.specs.Search.{cellsOf, cellAt, noCell}
-use Rattle.group_sighash.specs.Witnesses.{groupWitnesses, groupOf, headOf, firstWitness, otherWitnesses, lockIn}
+use Rattle.group_sighash.specs.Witnesses.{firstWitness, otherWitnesses, lockIn}
 use Rattle.group_sighash.specs.GroupSighash.{groupSighash}
 use Rattle.state_transition.specs.Resolve.{stateSource, currentState}
 use Rattle.account_state.specs.Fields.{sequenceOf}
 use Rattle.account_lock.specs.Lock as lock
+use Rattle.digest_coverage.proofs.HashedWitnesses.{every-first, every-other}
 use Rattle.digest_coverage.specs.Coverage.{sighashInputOf, sighashParts, sceneDigestInput}
 
 -- ---- bytes
@@ -58,26 +59,26 @@ ok-bytes [] h i = omega arith
 ok-bytes (b ∷ s) h zero = ltb-true b 256 (every-split _ b s h .0)
 ok-bytes (b ∷ s) h (suc i) = ok-bytes s (every-split _ b s h .1) i
 
+-- the bytes of words are, and so CKB's hash is
 bytes-words : (h : List ℕ) → Bytes (bytesOf h)
 unfolding bytesOf
 bytes-words [] = no-bytes
 bytes-words (w ∷ h) = bytes-append (toLe 8 w) (bytesOf h) (bytes-to 8 w) (bytes-words h)
 
-domain-bytes : Bytes authDomain
-unfolding authDomain bytesOk every
-domain-bytes = ok-bytes authDomain refl
-
--- a hash is
 hash-bytes : (xs : List ℕ) → Bytes (ckbHash xs)
 unfolding ckbHash hashOf
 hash-bytes xs = bytes-take 32 (bytesOf (hashWords ckbParameters xs)) (bytes-words (hashWords ckbParameters xs))
+
+domain-bytes : Bytes authDomain
+unfolding authDomain bytesOk every
+domain-bytes = ok-bytes authDomain refl
 
 layout-bytes : (fs : List Field) → Bytes (layoutBytes fs)
 unfolding layoutBytes
 layout-bytes [] = no-bytes
 layout-bytes (f ∷ fs) = bytes-append (toLe (f .width) (f .value)) (layoutBytes fs) (bytes-to (f .width) (f .value)) (layout-bytes fs)
 
--- and so is a part of bytes, read or not
+-- a part of bytes is, read or not
 part-bytes : (s : List ℕ) (a : PlaceAnswer) → Bytes s → Bytes (bytesIn s a)
 unfolding bytesIn bytesAt
 part-bytes s (At p) b = bytes-take (p .len) (drop (p .start) s) (bytes-drop (p .start) s b)
@@ -103,41 +104,6 @@ row-bytes [] h = no-bytes
 row-bytes (w ∷ ws) h =
     let z = every-split bytesOk w ws h in
     bytes-append (hashedWitness w) (hashedWitnesses ws) (hashed-bytes w (ok-bytes w (z .0))) (row-bytes ws (z .1))
-
--- ---- the hashed witnesses are among the scene's
-
-module _ (p : List ℕ → Bool) where
-  every-group : (is : List Input) (ws : List (List ℕ)) → every p ws ≡ true → every p (groupWitnesses is ws) ≡ true
-  unfolding groupWitnesses every
-  every-group [] ws h = refl
-  every-group (i ∷ is) [] h = refl
-  every-group (i ∷ is) (w ∷ ws) h = let z = every-split p w ws h in go (eqb (i .group) 1) (z .0) (every-group is ws (z .1))
-    where
-      go : (b : Bool) → p w ≡ true → every p (groupWitnesses is ws) ≡ true → every p (cond b (w ∷ groupWitnesses is ws) (groupWitnesses is ws)) ≡ true
-      go true a e = rw a e
-      go false a e = e
-
-  every-behind : (n : ℕ) (ws : List (List ℕ)) → every p ws ≡ true → every p (drop n ws) ≡ true
-  unfolding every
-  every-behind zero ws h = h
-  every-behind (suc n) [] h = refl
-  every-behind (suc n) (w ∷ ws) h = every-behind n ws (every-split p w ws h .1)
-
-  every-head : (ws : List (List ℕ)) → every p ws ≡ true → p [] ≡ true → p (headOf ws) ≡ true
-  unfolding headOf
-  every-head [] h e = e
-  every-head (w ∷ ws) h e = every-split p w ws h .0
-
-  module _ (s : Scene) (h : every p (s .witnesses) ≡ true) where
-    pub every-first : p [] ≡ true → p (firstWitness s) ≡ true
-    unfolding firstWitness groupOf
-    every-first e = every-head (groupOf s) (every-group (s .inputs) (s .witnesses) h) e
-
-    pub every-other : every p (otherWitnesses s) ≡ true
-    unfolding otherWitnesses groupOf
-    every-other =
-        let g = every-group (s .inputs) (s .witnesses) h in
-        every-append p _ _ (every-behind 1 (groupOf s) g) (every-behind (length (s .inputs)) (s .witnesses) h)
 
 -- ---- a scene that a text can say
 

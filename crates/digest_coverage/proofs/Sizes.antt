@@ -32,7 +32,7 @@ use Rattle.decide_scene.proofs.TextBytes.{text-bytes}
 use Rattle.digest_coverage.specs.Coverage.{SighashSizes, sighashParts}
 use Rattle.digest_coverage.specs.Reaches.{Reaches}
 use Rattle.digest_coverage.proofs.Reached.{digest-reached}
-use Rattle.digest_coverage.proofs.SceneBytes.{every-first, every-other}
+use Rattle.digest_coverage.proofs.HashedWitnesses.{every-first, every-other}
 
 -- of a scene whose first group witness has 20 bytes less than a u64 holds, as the canonical one may have 20 more
 sizes-below : (s : Scene) → Sayable s → length (firstWitness s) + 20 < 2 ^ 64 → every (λ (w : List ℕ). ltb (length w) (2 ^ 64)) (otherWitnesses s) ≡ true
