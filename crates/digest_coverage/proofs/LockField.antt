@@ -9,9 +9,9 @@ use native.Mathlib.Omega.{arith}
 use lib.Dec.{eqb}
 use lib.ListN.{length, drop}
 use Rattle.molecule.specs.Canonical.{canonicalOf}
-use Rattle.molecule.specs.Table3.{field2, field3, table3Bytes}
+use Rattle.molecule.specs.Table3.{tableTotalOf, field2, field3, table3Bytes}
 use Rattle.molecule.proofs.Form.{length-three}
-use Rattle.molecule.proofs.Inverse.{field2-read, field3-read}
+use Rattle.molecule.proofs.Inverse.{written-passes, field2-read, field3-read}
 use Rattle.scene_table.specs.Scene.{Cell, Input, Scene}
 use Rattle.group_sighash.specs.Witnesses.{groupWitnesses, groupOf, headOf, firstWitness, otherWitnesses}
 use Rattle.cell_search.specs.declared.cells.Source.{Source}
@@ -136,3 +136,14 @@ any-lock-field s field h small =
       second = rw first (field2-read field (field2 w) (field3 w) (omega arith));
       third = rw first (field3-read field (field2 w) (field3 w) (omega arith));
     }
+
+-- where two lock fields differ in length, the total sizes at the front of the witnesses differ too
+pub header-differs : (field other witness : List ℕ) → length (withLockField field witness) < 2 ^ 32 → length (withLockField other witness) < 2 ^ 32
+    → ¬ (length field ≡ length other) → ¬ (tableTotalOf (withLockField field witness) ≡ tableTotalOf (withLockField other witness))
+unfolding withLockField table3Bytes
+header-differs field other w small small' differ e =
+    let l = length-three field (field2 w) (field3 w) in
+    let l' = length-three other (field2 w) (field3 w) in
+    let t = written-passes field (field2 w) (field3 w) (omega arith) .total in
+    let t' = written-passes other (field2 w) (field3 w) (omega arith) .total in
+    differ (omega arith)
