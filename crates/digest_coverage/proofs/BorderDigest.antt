@@ -33,6 +33,10 @@ use Rattle.digest_coverage.proofs.Border.{moved-first, border-unmarked}
 
 -- ---- a cell that is found among some is found among more, where it is still the only one
 
+none-more : (xs ys : List ℕ) → length xs ≡ 1 → length (xs ++ ys) ≡ 1 → xs ++ ys ≡ xs
+none-more xs [] p q = append-nil xs
+none-more xs (y ∷ ys) p q = absurd (omega (arith, length-append xs (y ∷ ys)))
+
 module _ (f : CellField) (hash : List ℕ) where
   matching-more : (k : ℕ) (cs more : List Cell) → matching f hash k (cs ++ more) ≡ matching f hash k cs ++ matching f hash (k + length cs) more
   unfolding matching
@@ -44,10 +48,6 @@ module _ (f : CellField) (hash : List ℕ) where
           ≡ cond b (k ∷ matching f hash (k + 1) cs) (matching f hash (k + 1) cs) ++ matching f hash (k + length (c ∷ cs)) more
       go true e = let n : k + suc (length cs) ≡ k + 1 + length cs = omega arith in rw (n, e)
       go false e = let n : k + suc (length cs) ≡ k + 1 + length cs = omega arith in rw n e
-
-  none-more : (xs ys : List ℕ) → length xs ≡ 1 → length (xs ++ ys) ≡ 1 → xs ++ ys ≡ xs
-  none-more xs [] p q = append-nil xs
-  none-more xs (y ∷ ys) p q = absurd (omega (arith, length-append xs (y ∷ ys)))
 
   module _ (cs more : List Cell) (one : length (matches f hash cs) ≡ 1) (still : length (matches f hash (cs ++ more)) ≡ 1) where
     same-matches : matches f hash (cs ++ more) ≡ matches f hash cs

@@ -63,9 +63,9 @@ sighash-covers p q a b e =
 -- ---- a digest input
 
 -- its parts, from left to right
-right-nested : (o n : ℕ) (a s h : List ℕ) → digestInput o a n s h ≡ authDomain ++ (o ∷ (a ++ (toLe 8 n ++ (ckbHash s ++ h))))
+input-parts : (o n : ℕ) (a s h : List ℕ) → digestInput o a n s h ≡ authDomain ++ (o ∷ (a ++ (toLe 8 n ++ (ckbHash s ++ h))))
 unfolding digestInput digestHead authDomain
-right-nested o n a s h = simp append-assoc
+input-parts o n a s h = simp append-assoc
 
 -- the five parts one by one
 parts-same : {o p n m : ℕ} {a b x y h k : List ℕ} → o ≡ p → a ≡ b → n ≡ m → x ≡ y → h ≡ k
@@ -78,7 +78,7 @@ pub digest-covers : (o p n m : ℕ) (a b s t h k : List ℕ) → length a ≡ 32
     → digestInput o a n s h ≡ digestInput p b m t k → digestPartsOf o a n s h ≡ digestPartsOf p b m t k
 unfolding digestPartsOf
 digest-covers o p n m a b s t h k la lb ln lm e =
-    let domain = append-parts authDomain _ authDomain _ (length authDomain) refl refl (sym (right-nested o n a s h) ∙ (e ∙ right-nested p m b t k)) in
+    let domain = append-parts authDomain _ authDomain _ (length authDomain) refl refl (sym (input-parts o n a s h) ∙ (e ∙ input-parts p m b t k)) in
     let operation = append-parts (o ∷ []) _ (p ∷ []) _ 1 refl refl (domain .1) in
     let account = append-parts a _ b _ 32 la lb (operation .1) in
     let sequence = append-parts (toLe 8 n) _ (toLe 8 m) _ 8 (length-to 8 n) (length-to 8 m) (account .1) in
