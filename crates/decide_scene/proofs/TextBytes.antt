@@ -10,7 +10,7 @@ use Rattle.scene_line.specs.Kind.{firstForm}
 use Rattle.scene_table.specs.Scene.{sceneBytes}
 use Rattle.scene_reading.specs.Lines.{LinesAccepted, kindOfLine, fieldsOfLine, bytesOfLine}
 use Rattle.scene_reading.specs.Reading.{sceneOf}
-use Rattle.scene_reading.proofs.Leaves.{scene-bytes-fit}
+use Rattle.scene_reading.proofs.Leaves.{bytes-said}
 use Rattle.decide_scene.proofs.StoreEnough.{pieces-short, line-short}
 
 -- lines say no more bytes than they and what stands behind them have
@@ -29,21 +29,5 @@ lines-short (l ∷ ls) ms =
 -- what a text says has no more bytes than the text
 pub text-bytes : (text : List ℕ) (n : ℕ) (p : LinesAccepted text n) → length (sceneBytes (sceneOf (p .lines))) ≤ length text
 text-bytes text n p =
-    let q : LinesAccepted text (length (joined (map bytesOfLine (p .lines)))) = record {
-      lines = p .lines;
-      inputs = p .inputs;
-      outputs = p .outputs;
-      deps = p .deps;
-      witnesses = p .witnesses;
-      ended = p .ended;
-      ordered = p .ordered;
-      counted = p .counted;
-      few-inputs = p .few-inputs;
-      few-outputs = p .few-outputs;
-      few-deps = p .few-deps;
-      few-witnesses = p .few-witnesses;
-      formed = p .formed;
-      room = omega arith;
-    } in
     let short : length (joined (p .lines ++ ([] ∷ []))) ≤ length text = rw (p .ended) at (pieces-short lineEnd text) in
-    omega (arith, scene-bytes-fit text _ q, lines-short (p .lines) ([] ∷ []))
+    rw (← bytes-said text n p) (omega (arith, lines-short (p .lines) ([] ∷ [])))

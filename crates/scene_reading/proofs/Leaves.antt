@@ -90,8 +90,8 @@ module _ (text : List ℕ) (n : ℕ) (p : LinesAccepted text n) where
   said = rw (lines-back text n p) at (each-printed (scene-prints scene (sayable scene (reading-ok text n p))))
 
   -- their bytes are the scene's
-  bytes-said : joined (map bytesOfLine (p .lines)) ≡ sceneBytes scene
-  unfolding sceneBytes
+  pub bytes-said : joined (map bytesOfLine (p .lines)) ≡ sceneBytes (sceneOf (p .lines))
+  unfolding scene sceneBytes
   bytes-said = rw (line-bytes (p .lines), said .read)
 
   -- and their records
