@@ -14,10 +14,12 @@ use crate::scenes::damage;
 use crate::scenes::readings::{read, Reading};
 use crate::{measure, scene_exports, true_hashes};
 use ckb_std::{Cell, Input, Scene};
-use std::time::{Duration, Instant, SystemTime, UNIX_EPOCH};
+use std::time::{Instant, SystemTime, UNIX_EPOCH};
 use std::{fs, io, panic};
 
 const FOLDER: &str = "target/fuzz";
+/// How many scenes are changed and compared beside everything else.
+const SCENES: u64 = 250_000;
 
 /// When a run ends, and what it starts from.
 pub struct Limits {
@@ -34,6 +36,15 @@ impl Limits {
             seconds: 60,
             count: u64::MAX,
             seed: now.map_or(0, |now| now.as_millis() as u64),
+        }
+    }
+
+    /// A number of scenes, however long they take: a busy machine compares no fewer.
+    pub fn counted() -> Self {
+        Limits {
+            seconds: u64::MAX,
+            count: SCENES,
+            ..Limits::usual()
         }
     }
 
@@ -260,9 +271,9 @@ fn save(text: Vec<u8>, seed: u64) -> io::Result<()> {
 pub fn run(report: &mut Report, limits: &Limits) {
     println!("fuzz: seed {}", limits.seed);
     let mut fuzz = Fuzz::new(report, limits.seed);
-    let end = Instant::now() + Duration::from_secs(limits.seconds);
+    let start = Instant::now();
     let mut count = 0;
-    while count < limits.count && Instant::now() < end {
+    while count < limits.count && start.elapsed().as_secs() < limits.seconds {
         fuzz.once();
         count += 1;
     }

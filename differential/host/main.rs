@@ -91,7 +91,7 @@ fn compare(long: bool) -> ExitCode {
     #[cfg(originals)]
     locks::run(&mut report, long);
     #[cfg(originals)]
-    fuzz::run(&mut report, &fuzz::Limits::usual());
+    fuzz::run(&mut report, &fuzz::Limits::counted());
     #[cfg(not(originals))]
     let _ = long;
     print(&report)
