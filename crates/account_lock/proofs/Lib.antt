@@ -1,17 +1,3 @@
 pub mod Resolved
 pub mod LockLaws
 pub mod LockTheorem
-pub mod DigestTheorem
-pub mod AnswerTheorem
-pub mod LongRequest
-pub mod EarlyNumbers
-pub mod Numbers
-pub mod AnswerRoom
-pub mod Unsatisfied
-pub mod Real
-pub mod OwnNumber
-pub mod HashNumber
-pub mod Session
-pub mod SessionNumber
-pub mod Waiting
-pub mod Fee

@@ -3,29 +3,25 @@
 use mathlib.Core.Path.{_≡_, sym, ap, _∙_}
 use mathlib.Core.Bool.{true}
 use mathlib.Core.List.{List, _++_}
-use Prim.Native.Nat.{ℕ, _-_, _+_, _≤_}
+use Prim.Native.Nat.{ℕ, _-_}
 use native.Mathlib.Omega.{arith}
 use lib.ListN.{length, drop, length-drop}
 use lib.Seq.{length-take-le}
-use borrow.Author.Tests.{eqb-true, leb-true}
+use borrow.Author.Tests.{eqb-true}
 use Rattle.protocol.specs.Args.{argsRows, accountOf}
 use Rattle.protocol.specs.Policy.{isOperation, operationRows}
 use Rattle.protocol.specs.Rows.{AllPass, decide, _▷_, _then_}
-use Rattle.protocol.proofs.AllPass.{decide-both, then-assoc, all-pass-append, all-pass-split}
+use Rattle.protocol.proofs.AllPass.{decide-both, then-assoc, all-pass-split}
 use Rattle.protocol.specs.declared.error.ProtocolError.{ProtocolError}
-use Rattle.protocol.specs.declared.error.ProtocolError.the-variants.{InvalidWitness}
 use Rattle.protocol.specs.declared.check.Check.{Check}
 use Rattle.protocol.specs.declared.check.Check.the-variants.{Passed, Failed}
-use Rattle.molecule.specs.Table3.{tableRows}
 use Rattle.molecule.specs.Bytes as molecule
 use Rattle.molecule.proofs.BytesTheorem.{lock-read, args-read}
 use Rattle.octets.specs.Places.{bytesAt}
-use Rattle.account_witness.specs.Fields.{proofCountOf}
 use Rattle.account_witness.specs.Header.{witnessHeaderRows}
 use Rattle.scene_table.specs.Scene.{Scene}
 use Rattle.cell_hashes.specs.Hashes.{hashRows}
-use Rattle.group_sighash.specs.Witnesses.{firstWitness, lockIn, firstWitnessRows, countRows, groupRows, otherRows, witnessFits}
-use Rattle.group_sighash.specs.GroupSighash.{sighashRows}
+use Rattle.group_sighash.specs.Witnesses.{firstWitness, lockIn, firstWitnessRows, countRows, groupRows, otherRows}
 use Rattle.state_transition.specs.Resolve.{resolveRows, resolvedOf}
 use Rattle.account_lock.specs.Lock.{argsIn, accountIn, scriptRows, account, operation, statesRows, lateRows, earlyRows, witnessLock, refused, orWalked, walkResult, lateResult, lockScene}
 use Rattle.account_lock.specs.Calls.{ScriptAndGroupPass}
@@ -74,33 +70,15 @@ account-whole script h =
     let m : length (drop 1 (argsIn script)) ≡ length (argsIn script) - 1 = length-drop 1 (argsIn script) in
     length-take-le 32 (drop 1 (argsIn script)) (omega arith)
 
--- and a group whose rows pass has a table and an operation
+-- and a group whose rows pass has a witness lock and an operation
 module _ (s : Scene) (h : AllPass (groupRows s)) where
-  lock-rows : AllPass (molecule.witnessLockRows (firstWitness s)) × AllPass (witnessHeaderRows (lockIn (firstWitness s)) ++ countRows (lockIn (firstWitness s)))
+  pub lock-rows : AllPass (molecule.witnessLockRows (firstWitness s)) × AllPass (witnessHeaderRows (lockIn (firstWitness s)) ++ countRows (lockIn (firstWitness s)))
   unfolding groupRows firstWitnessRows
   lock-rows = all-pass-split (molecule.witnessLockRows (firstWitness s)) _ (h .1 .1)
-
-  pub group-table : AllPass (tableRows InvalidWitness (firstWitness s))
-  unfolding molecule.witnessLockRows
-  group-table = all-pass-split (tableRows InvalidWitness (firstWitness s)) _ (lock-rows .0) .0
 
   pub group-operation : isOperation (operation s) ≡ true
   unfolding operation witnessLock witnessHeaderRows
   group-operation = all-pass-split (witnessHeaderRows (lockIn (firstWitness s))) (countRows (lockIn (firstWitness s))) (lock-rows .1) .0 .1 .1 .1 .1 .0
-
-  -- and its witness lock has at most 131,072 bytes and at most 16 proofs
-  pub group-length : length (witnessLock s) ≤ 131072
-  unfolding witnessLock witnessHeaderRows
-  group-length = leb-true _ _ (all-pass-split (witnessHeaderRows (lockIn (firstWitness s))) (countRows (lockIn (firstWitness s))) (lock-rows .1) .0 .1 .0)
-
-  pub group-count : proofCountOf (witnessLock s) ≤ 16
-  unfolding witnessLock countRows
-  group-count = leb-true _ _ (all-pass-split (witnessHeaderRows (lockIn (firstWitness s))) (countRows (lockIn (firstWitness s))) (lock-rows .1) .1 .0)
-
--- what the sighash tests has passed
-pub group-hashed : (s : Scene) → AllPass (groupRows s) → AllPass (otherRows s) → AllPass (sighashRows s)
-unfolding sighashRows groupRows firstWitnessRows witnessFits
-group-hashed s g o = (g .0, (g .1 .0, all-pass-append (tableRows InvalidWitness (firstWitness s)) (otherRows s) (group-table s g) o))
 
 -- where the script and the group pass
 module _ (id bytes : List ℕ) (s : Scene) (n : ScriptAndGroupPass id bytes s) where

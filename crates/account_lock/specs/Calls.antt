@@ -11,6 +11,7 @@ use Rattle.group_sighash.specs.Witnesses.{firstWitness, groupRows}
 use Rattle.state_transition.specs.declared.resolve.ResolvedState.{ResolvedState}
 use Rattle.state_transition.specs.Resolve.{resolvedOf}
 use Rattle.decision.specs.Walk.{answered}
+use Rattle.proof_walk.specs.declared.Authorization.{Authorization}
 use Rattle.account_lock.specs.declared.answer.LockAnswer.{LockAnswer}
 use Rattle.account_lock.specs.Lock as lock
 
@@ -21,14 +22,24 @@ pub record ScriptAndGroupPass (id bytes : List ℕ) (s : Scene) : Type 0 where
   pub script : AllPass (lock.scriptRows (s .script))
   pub group : AllPass (groupRows s)
 
--- and the account's current state
-pub record DigestInputs (id bytes state : List ℕ) (s : Scene) : Type 0 where
+-- and the operation and the account's current state
+pub record DigestInputs (id bytes : List ℕ) (asked : ℕ) (state : List ℕ) (s : Scene) : Type 0 where
   pub pass : ScriptAndGroupPass id bytes s
+  pub operation : asked ≡ lock.operation s
   pub current : state ≡ lock.current s
 
--- the witness lock, the current state, and where the states stand
-pub record StatesFound (bytes state : List ℕ) (found : ResolvedState) (s : Scene) : Type 0 where
+-- the witness lock, the current state, and what every request carries
+pub record WalkInputs (bytes state : List ℕ) (given : Authorization) (s : Scene) : Type 0 where
+  pub group : AllPass (groupRows s)
   pub witness : bytes ≡ lock.witnessLock s
+  pub current : state ≡ lock.current s
+  pub operation : given .operation ≡ lock.operation s
+  pub digest : given .digest ≡ lock.digest s
+
+-- the witness lock, its operation, the current state, and where the states stand
+pub record StatesFound (bytes : List ℕ) (asked : ℕ) (state : List ℕ) (found : ResolvedState) (s : Scene) : Type 0 where
+  pub witness : bytes ≡ lock.witnessLock s
+  pub operation : asked ≡ lock.operation s
   pub current : state ≡ lock.current s
   pub resolved : found ≡ resolvedOf (lock.operation s) (lock.account s) s
 

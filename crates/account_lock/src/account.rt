@@ -25,7 +25,7 @@ ghost use mathlib.Core.Path.{_≡_};
 ghost use Rattle.protocol.specs.Rows.{decide};
 ghost use Rattle.scene_table.specs.Lent.{sceneIn};
 ghost use Rattle.account_lock.specs.Lock.{statesRows, lateResult, walkResult, digest};
-ghost use Rattle.account_lock.specs.Calls.{ScriptAndGroupPass, DigestInputs, StatesFound, ReturnsResult, StoresRequests};
+ghost use Rattle.account_lock.specs.Calls.{ScriptAndGroupPass, DigestInputs, WalkInputs, StatesFound, ReturnsResult, StoresRequests};
 
 // The digest that every request carries.
 fn lock_digest(
@@ -33,12 +33,12 @@ fn lock_digest(
     store: &[u8],
     account_id: &[u8],
     witness: &[u8],
+    operation: u8,
     current: &[u8],
 ) -> [u8; 32]
-    requires { ⌜ DigestInputs (now «account_id») (now witness) (now current) (sceneIn (now table) (now store)) ⌝ }
+    requires { ⌜ DigestInputs (now «account_id») (now witness) operation (now current) (sceneIn (now table) (now store)) ⌝ }
     ensures { λ r. ⌜ r ≡ digest (sceneIn (now (table .entry)) (now (store .entry))) ⌝ }
 {
-    let operation = operation_of(lock_of(witness));
     let account = array_32(account_id);
     let sighash = sighash_with(table, store, witness);
     digest_of(operation, account, sequence_of(current), current, sighash)
@@ -48,19 +48,16 @@ fn lock_digest(
 fn walk_account(
     table: &[u32],
     store: &[u8],
-    account_id: &[u8],
-    witness: &[u8],
+    lock: &[u8],
     current: &[u8],
+    authorization: Authorization,
     answer: &mut [u8],
 ) -> LockAnswer
-    requires { ⌜ DigestInputs (now «account_id») (now witness) (now current) (sceneIn (now table) (now store)) ⌝ }
+    requires { ⌜ WalkInputs (now lock) (now current) authorization (sceneIn (now table) (now store)) ⌝ }
     ensures { λ r. ⌜ ReturnsResult walkResult (now (table .entry)) (now (store .entry)) (now (answer .entry)) r ⌝ }
     ensures { λ _. ⌜ StoresRequests walkResult (now (table .entry)) (now (store .entry)) (now (answer .entry)) (now (answer .exit)) ⌝ }
 {
-    let digest = lock_digest(table, store, account_id, witness, current);
-    let lock = lock_of(witness);
-    let operation = operation_of(lock);
-    let authorization = Authorization { operation, digest };
+    let digest = authorization.digest;
     let walked = walk_proofs(table, store, current, lock, authorization, answer);
     let weighed = walked.found;
     let count = walked.count;
@@ -83,13 +80,13 @@ fn check_states(
     table: &[u32],
     store: &[u8],
     lock: &[u8],
+    operation: u8,
     current: &[u8],
     state: ResolvedState,
 ) -> Check
-    requires { ⌜ StatesFound (now lock) (now current) state (sceneIn (now table) (now store)) ⌝ }
+    requires { ⌜ StatesFound (now lock) operation (now current) state (sceneIn (now table) (now store)) ⌝ }
     ensures { λ r. ⌜ r ≡ decide Check.Passed (statesRows (sceneIn (now (table .entry)) (now (store .entry)))) ⌝ }
 {
-    let operation = operation_of(lock);
     let successor = successor_state(table, store, operation, state.successor);
     let since = state_since(table, store, state.current);
     check_data(current, successor).and(validate_transition(
@@ -119,9 +116,13 @@ pub(crate) fn lock_account(
     let current = current_state(table, store, operation, state.current);
     let found = state.found;
     match found
-        .and(check_states(table, store, lock, current, state))
+        .and(check_states(table, store, lock, operation, current, state))
         .and(check_others(table, store)) {
         Check::Failed(error) => refused(error),
-        Check::Passed => walk_account(table, store, account_id, witness, current, answer),
+        Check::Passed => {
+            let digest = lock_digest(table, store, account_id, witness, operation, current);
+            let authorization = Authorization { operation, digest };
+            walk_account(table, store, lock, current, authorization, answer)
+        }
     }
 }

@@ -1,5 +1,5 @@
-// The program: decides the scene of standard input, and prints one line `answer,NUMBER,COUNT,LENGTH,DIGEST`. Where standard input
-// cannot be read it prints none, and says so on standard error.
+// The program: decides the scene of standard input, and prints one line `answer,NUMBER,COUNT,LENGTH,DIGEST,FEE`. Where standard
+// input cannot be read it prints none, and says so on standard error.
 use decide_scene::PROGRAM_SCENE_MAX_LEN;
 use decide_scene::program_line;
 use libc::STDERR_FILENO;

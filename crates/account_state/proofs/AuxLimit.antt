@@ -1,6 +1,6 @@
--- 02, change 6: no entry that a step hands out, and none of an accepted state, has an aux above the limit.
+-- 02, change 6: no entry that a step hands out, and none of an accepted state, has an aux above the limit; so the readers promise it.
 -- Assumes nothing.
-use mathlib.Core.Path.{_≡_, refl}
+use mathlib.Core.Path.{_≡_, refl, sym}
 use mathlib.Core.List.{List}
 use Prim.Native.Nat.{ℕ, zero, suc, _+_, _≤_}
 use native.Mathlib.Omega.{arith}
@@ -10,10 +10,11 @@ use Rattle.protocol.specs.declared.check.Check.{Check}
 use Rattle.protocol.specs.declared.check.Check.the-variants.{Passed, Failed}
 use Rattle.protocol.proofs.AllPass.{passed-all-pass, all-pass-split}
 use Rattle.account_state.specs.Fields.{auxLengthOf, auxMaxLength, entryCountOf, entryLengthOf, entrySlotOf, keyLengthOf, keyOffset, entryBytesOf}
-use Rattle.account_state.specs.Reading.{entryOf, entriesOf, stateReading, AuxWithin}
-use Rattle.account_state.specs.State.{stateRows, entryRows, entriesRows, entryAt, entryCursorBehind, entryStepAnswer, entryStep, StepWithin}
+use Rattle.account_state.specs.Reading.{entryOf, entriesOf, stateEntries, stateReading, AuxWithin}
+use Rattle.account_state.specs.State.{stateRows, stateFault, stateHeaderOf, summaryOf, stateAnswer, readState, StateWithin, CheckWithin, entryRows, entriesRows, entryAt, entryCursorBehind, entryStepAnswer, entryStep, StepWithin}
 use Rattle.account_state.specs.declared.entry.EntryCursor.{EntryCursor}
 use Rattle.account_state.specs.declared.entry.EntryStep.{EntryStep}
+use Rattle.account_state.specs.declared.StateAnswer.{StateAnswer}
 use Rattle.account_state.proofs.Passed.{entry-passed, state-passed}
 
 -- a step
@@ -50,3 +51,20 @@ entries-within (suc n) e least h =
 pub state-within : (s : List ℕ) → AllPass (stateRows s) → AuxWithin (stateReading s .entries)
 unfolding stateReading
 state-within s h = entries-within (entryCountOf s) (entryBytesOf s) 0 (state-passed s h .entries)
+
+-- so an answer that is the reader's keeps the limit
+pub state-promised : (s : List ℕ) {r : StateAnswer} → r ≡ readState s → (r ≡ readState s) × StateWithin s r
+unfolding readState stateAnswer stateFault
+state-promised s e = (e, rw e (go (decide Passed (stateRows s)) refl))
+  where
+    go : (k : Check) → decide Passed (stateRows s) ≡ k → StateWithin s (stateAnswer k (stateHeaderOf s) (summaryOf (stateEntries s)))
+    go Passed h = state-within s (passed-all-pass (stateRows s) h)
+    go (Failed x) h = tt
+
+-- and so does what the checks find
+pub check-promised : (s : List ℕ) {k : Check} → k ≡ decide Passed (stateRows s) → (k ≡ decide Passed (stateRows s)) × CheckWithin s k
+check-promised s {k} e = (e, go k e)
+  where
+    go : (j : Check) → j ≡ decide Passed (stateRows s) → CheckWithin s j
+    go Passed h = state-within s (passed-all-pass (stateRows s) (sym h))
+    go (Failed x) h = tt

@@ -8,4 +8,6 @@ pub mod Steps
 pub mod StateGiven
 pub mod Slots
 pub mod AuxLimit
+pub mod FortyFour
 pub mod Smallest
+pub mod Session

@@ -22,11 +22,11 @@ given s at = rw (drop-drop codeHashOffset at s, drop-drop keyOffset at s, drop-d
 
 module _ (s : List ℕ) where
   -- the bytes from the cursor after k entries on
-  abbrev from : ℕ → List ℕ
+  abbrev pub from : ℕ → List ℕ
   from k = drop (entryCursorAt s k .offset) s
 
   -- the rows of suc n entries: those of the entry at the cursor, then those of n entries from the next cursor on
-  rows-unrolled : (n k : ℕ) → entriesRows (suc n) (from k) (entryCursorAt s k .least)
+  pub rows-unrolled : (n k : ℕ) → entriesRows (suc n) (from k) (entryCursorAt s k .least)
       ≡ entryRows (from k) (entryCursorAt s k .least) ++ entriesRows n (from (suc k)) (entryCursorAt s (suc k) .least)
   unfolding entriesRows entryCursorAt entryCursorBehind
   rows-unrolled n k = rw (drop-drop (entryLengthOf (from k)) (entryCursorAt s k .offset) s)

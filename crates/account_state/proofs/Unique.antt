@@ -11,6 +11,7 @@ use Rattle.octets.proofs.LayoutLaws.{numbers-back, length-numbers}
 use Rattle.octets.proofs.Parts.{part-back}
 use Rattle.account_state.specs.Fields.{stateMagicOf, stateVersionOf, stateHeaderLengthOf, stateReservedOf, abiOf, algorithmOf, auxLengthOf, entryCountOf, entryLengthOf, entrySlotOf, flagsOf, hashTypeOf, keyLengthOf, recoverySinceOf, recoveryThresholdOf, rotateThresholdOf, sequenceOf, spendThresholdOf, capabilitiesOf, weightOf}
 use Rattle.account_state.specs.Reading.{EntryReading, StateReading, stateMagic, entrySize, entryHeadFields, entryLengthFields, entryBytes, entriesBytes, stateHeaderFields, stateHead, stateBytes, entryOf, entriesOf, stateReading, EntryTyped, EntriesTyped, StateTyped}
+use Rattle.account_state.specs.State.{behindEntries}
 
 -- the length of an entry's bytes
 pub length-entry-bytes : (e : EntryReading) → length (e .codeHash) ≡ 32 → length (entryBytes e) ≡ entrySize e
@@ -71,6 +72,15 @@ module _ (e : EntryReading) (t s : List ℕ) (y : EntryTyped e) (q : s ≡ entry
       let e₈ : auxLengthOf s ≡ length (e .aux) = ap (fieldValue 1) lengths-read in
       rw (e₁, e₂, e₃, e₄, e₅, e₆, e₇, e₈, hash-read, key-read, aux-read)
 
+-- what follows an entry at the front of bytes, and its slot
+module _ (e : EntryReading) (t : List ℕ) (y : EntryTyped e) where
+  pub rest-read : drop (entryLengthOf (entryBytes e ++ t)) (entryBytes e ++ t) ≡ t
+  rest-read = rw (size-read e t (entryBytes e ++ t) y refl) (drop-at (entryBytes e) t (length (entryBytes e)) refl)
+
+  pub slot-read : entrySlotOf (entryBytes e ++ t) ≡ e .slot
+  unfolding entryOf
+  slot-read = ap (λ (x : EntryReading). x .slot) (entry-read e t (entryBytes e ++ t) y refl)
+
 pub entries-read : (es : List EntryReading) → EntriesTyped es → entriesOf (length es) (entriesBytes es) ≡ es
 unfolding entriesOf entriesBytes
 entries-read [] y = refl
@@ -82,6 +92,12 @@ entries-read (e ∷ es) y =
       drop-at (entryBytes e) (entriesBytes es) (length (entryBytes e)) refl,
       entries-read es (y .1),
     )
+
+-- no byte follows the last of them
+pub entries-behind : (es : List EntryReading) → EntriesTyped es → behindEntries (length es) (entriesBytes es) ≡ []
+unfolding behindEntries entriesBytes
+entries-behind [] y = refl
+entries-behind (e ∷ es) y = ap (behindEntries (length es)) (rest-read e (entriesBytes es) (y .0)) ∙ entries-behind es (y .1)
 
 -- the numbers of a state's header
 head-numbers : (r : StateReading) → StateTyped r → layoutAt (4 ∷ 1 ∷ 1 ∷ 2 ∷ 8 ∷ 2 ∷ 2 ∷ 2 ∷ 1 ∷ 1 ∷ 8 ∷ []) (stateBytes r) 0 ≡ stateHead r

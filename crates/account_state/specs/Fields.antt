@@ -17,6 +17,10 @@ stateVersionOf s = numberAt s 4 1
 abbrev pub flagsOf : List ℕ → ℕ
 flagsOf s = numberAt s 5 1
 
+-- the original's STATE_FLAGS_KNOWN_MASK; 01: "flags above 3 (21)"
+abbrev pub stateFlagsKnownMask : ℕ
+stateFlagsKnownMask = 3
+
 -- 01: "With flag 1 set the same holds for recovery."
 abbrev pub recoveryEnabled : ℕ → Bool
 recoveryEnabled flags = eqb (flags / 1 % 2) 1
@@ -66,6 +70,10 @@ algorithmOf e = numberAt e 4 2
 
 abbrev pub capabilitiesOf : List ℕ → ℕ
 capabilitiesOf e = numberAt e 6 2
+
+-- the original's CAP_KNOWN_MASK; 01: "capabilities at most 0x000F"
+abbrev pub capKnownMask : ℕ
+capKnownMask = 0x000f
 
 abbrev pub weightOf : List ℕ → ℕ
 weightOf e = numberAt e 8 2

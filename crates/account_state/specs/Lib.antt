@@ -1,4 +1,6 @@
 pub mod Fields
 pub mod Reading
 pub mod State
+pub mod AuxRefused
+pub mod Session
 pub mod EntriesWalk

@@ -11,8 +11,8 @@ use Rattle.protocol.specs.Rows.{Row, row, decide}
 use Rattle.protocol.specs.declared.error.ProtocolError.the-variants.{InvalidState, InvalidVerifierRef, UnsupportedVersion, UnsupportedAlgorithm, UnsatisfiableThreshold, AuxTooLong}
 use Rattle.protocol.specs.declared.check.Check.{Check}
 use Rattle.protocol.specs.declared.check.Check.the-variants.{Passed, Failed}
-use Rattle.account_state.specs.Fields.{stateMagicOf, stateVersionOf, flagsOf, recoveryEnabled, stateHeaderLengthOf, sequenceOf, spendThresholdOf, rotateThresholdOf, recoveryThresholdOf, entryCountOf, stateReservedOf, recoverySinceOf, entryLengthOf, entrySlotOf, algorithmOf, capabilitiesOf, weightOf, hashTypeOf, abiOf, codeHashOffset, keyOffset, keyLengthOf, auxLengthOf, auxMaxLength, entryBytesOf}
-use Rattle.account_state.specs.Reading.{EntryReading, stateMagic, entriesOf, stateEntries, stateReading, capableWeight}
+use Rattle.account_state.specs.Fields.{stateMagicOf, stateVersionOf, flagsOf, stateFlagsKnownMask, recoveryEnabled, stateHeaderLengthOf, sequenceOf, spendThresholdOf, rotateThresholdOf, recoveryThresholdOf, entryCountOf, stateReservedOf, recoverySinceOf, entryLengthOf, entrySlotOf, algorithmOf, capabilitiesOf, capKnownMask, weightOf, hashTypeOf, abiOf, codeHashOffset, keyOffset, keyLengthOf, auxLengthOf, auxMaxLength, entryBytesOf}
+use Rattle.account_state.specs.Reading.{EntryReading, stateMagic, entriesOf, stateEntries, stateReading, capableWeight, AuxWithin}
 use Rattle.account_state.specs.declared.header.StateHeader.{StateHeader}
 use Rattle.account_state.specs.declared.header.StateHeaderAnswer.{StateHeaderAnswer}
 use Rattle.account_state.specs.declared.header.StateHeaderAnswer.the-variants as header
@@ -34,7 +34,7 @@ stateHeaderRows s =
     ∷ row (leb (length s) 16384) InvalidState
     ∷ row (eqb (stateMagicOf s) stateMagic) InvalidState
     ∷ row (eqb (stateVersionOf s) 1) UnsupportedVersion
-    ∷ row (leb (flagsOf s) 3) InvalidState
+    ∷ row (leb (flagsOf s) stateFlagsKnownMask) InvalidState
     ∷ row (eqb (stateHeaderLengthOf s) 32) InvalidState
     ∷ row (eqb (stateReservedOf s) 0) InvalidState
     ∷ row (leb 1 (entryCountOf s)) InvalidState
@@ -57,7 +57,7 @@ entryLayoutRows e least =
 unfoldable pub entryFieldRows : EntryFields → List Row
 entryFieldRows f =
     row (leb 1 (f .weight)) InvalidState
-    ∷ row (leb (f .capabilities) 0x000f) InvalidState
+    ∷ row (leb (f .capabilities) capKnownMask) InvalidState
     ∷ row (leb (f .«verifier_hash_type») 1) InvalidVerifierRef
     ∷ row (eqb (f .«verifier_abi») 1) InvalidVerifierRef
     ∷ row (isSupportedAlgorithm (f .«algorithm_id»)) UnsupportedAlgorithm
@@ -237,6 +237,16 @@ stateAnswer (Failed e) h t = answer.Refused e
 
 unfoldable pub readState : List ℕ → StateAnswer
 readState s = stateAnswer (stateFault s) (stateHeaderOf s) (summaryOf (stateEntries s))
+
+-- 02, change 6: the reader takes its limit "and says so to all above it": the reading of an accepted state keeps it
+abbrev pub StateWithin : List ℕ → StateAnswer → Type 0
+StateWithin s (answer.Valid h t) = AuxWithin (stateReading s .entries)
+StateWithin s (answer.Refused e) = Unit {0}
+
+-- likewise of what the checks of a state find
+abbrev pub CheckWithin : List ℕ → Check → Type 0
+CheckWithin s Passed = AuxWithin (stateReading s .entries)
+CheckWithin s (Failed e) = Unit {0}
 
 -- what the readers hand out of a state, with the header h and the weights t of its answer, is its reading: the header's fields, the
 -- weights of the entries, and at each step the next entry; behind the last no byte follows

@@ -16,7 +16,7 @@ ghost use mathlib.Core.Path.{_≡_};
 ghost use Prim.Native.Nat.{_≤_};
 ghost use lib.ListN.{length};
 ghost use Rattle.protocol.specs.Rows.{decide};
-ghost use Rattle.account_state.specs.State.{stateRows, stateHeaderOf, stateAnswer, readState};
+ghost use Rattle.account_state.specs.State.{stateRows, stateHeaderOf, stateAnswer, readState, StateWithin, CheckWithin};
 ghost use Rattle.account_state.specs.EntriesWalk.{endFault};
 pub use self::entry::AuthenticatorEntry;
 pub use self::entry::EntryCursor;
@@ -86,6 +86,7 @@ fn state_end(state: &[u8], walk: EntriesWalk) -> StateAnswer
 // The whole state: its header, and the weights of the holders of each capability; or the number of the first check that fails.
 pub fn validate_state(state: &[u8]) -> StateAnswer
     ensures { λ r. ⌜ r ≡ readState (now (state .entry)) ⌝ }
+    ensures { λ r. ⌜ StateWithin (now (state .entry)) r ⌝ }
 {
     match check_head(state) {
         Check::Failed(error) => StateAnswer::Refused(error),
@@ -99,6 +100,7 @@ pub fn validate_state(state: &[u8]) -> StateAnswer
 // What the checks of the whole state find.
 pub fn check_state(state: &[u8]) -> Check
     ensures { λ r. ⌜ r ≡ decide Check.Passed (stateRows (now (state .entry))) ⌝ }
+    ensures { λ r. ⌜ CheckWithin (now (state .entry)) r ⌝ }
 {
     match validate_state(state) {
         StateAnswer::Valid(_, _) => Check::Passed,

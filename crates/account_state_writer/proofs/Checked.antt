@@ -8,7 +8,6 @@ use native.Mathlib.Omega.{arith}
 use borrow.Author.Tests.{eq-eqb, le-leb, leb-true}
 use lib.Dec.{leb, eqb}
 use lib.ListN.{length, take, drop, length-append, length-drop}
-use lib.Seq.{drop-at}
 use Rattle.octets.specs.Layout.{layoutBytes, layoutAt, fieldValue}
 use Rattle.octets.proofs.LayoutLaws.{length-numbers}
 use Rattle.octets.proofs.Parts.{part-length}
@@ -18,11 +17,11 @@ use Rattle.protocol.specs.declared.error.ProtocolError.the-variants.{InvalidSta
 use Rattle.protocol.specs.declared.check.Check.{Check}
 use Rattle.protocol.specs.declared.check.Check.the-variants.{Passed, Failed}
 use Rattle.protocol.proofs.AllPass.{decide-append, decide-failed, decide-then, passed-all-pass}
-use Rattle.account_state.specs.Fields.{auxLengthOf, auxMaxLength, entryLengthOf, entrySlotOf, keyLengthOf, abiOf, algorithmOf, capabilitiesOf, hashTypeOf, stateHeaderLengthOf, stateMagicOf, stateReservedOf, stateVersionOf, weightOf}
+use Rattle.account_state.specs.Fields.{auxLengthOf, auxMaxLength, entryLengthOf, keyLengthOf, abiOf, algorithmOf, capabilitiesOf, hashTypeOf, stateHeaderLengthOf, stateMagicOf, stateReservedOf, stateVersionOf, weightOf}
 use Rattle.account_state.specs.Reading.{EntryReading, StateReading, EntryTyped, EntriesTyped, StateTyped, stateMagic, entryLengthFields, entryBytes, entriesBytes, stateHeaderFields, stateHead, stateBytes, entryOf}
-use Rattle.account_state.specs.State.{stateHeaderRows, entryLayoutRows, entryFieldRows, originalEntryRows, behindEntries, thresholdRows, summaryOf, stateEndRows, stateTailRows}
+use Rattle.account_state.specs.State.{stateHeaderRows, entryLayoutRows, entryFieldRows, originalEntryRows, thresholdRows, summaryOf, stateEndRows, stateTailRows}
 use Rattle.account_state.proofs.Inverse.{Keys}
-use Rattle.account_state.proofs.Unique.{HeaderRead, length-entry-bytes, lengths-read, size-read, entry-read, entries-read, state-header-read, behind-head}
+use Rattle.account_state.proofs.Unique.{HeaderRead, length-entry-bytes, lengths-read, size-read, entry-read, rest-read, slot-read, entries-read, entries-behind, state-header-read, behind-head}
 use Rattle.account_state_writer.specs.Checks.{headChecks, entryChecks, entriesChecks, stateChecks, writtenChecks, lentSummary, lentWithin}
 use Rattle.account_state_writer.specs.Slices.{lentWidth, lentAuxLength, lentBytes}
 use Rattle.account_state_writer.specs.Writer.{entryFrom, entriesFrom, neededBytes, originalEntriesRows, originalStateRows, auxLimitRows, writtenRows}
@@ -34,10 +33,6 @@ unfolding _▷_
 row-true Passed e = refl
 row-true (Failed x) e = refl
 
--- what follows an entry at the front of bytes
-rest-read : (e : EntryReading) (t : List ℕ) → EntryTyped e → drop (entryLengthOf (entryBytes e ++ t)) (entryBytes e ++ t) ≡ t
-rest-read e t y = rw (size-read e t (entryBytes e ++ t) y refl) (drop-at (entryBytes e) t (length (entryBytes e)) refl)
-
 -- an entry at the front of bytes
 module _ (e : EntryReading) (t : List ℕ) (y : EntryTyped e) (k : length (e .key) ≡ 32) where
   abbrev s : List ℕ
@@ -45,10 +40,6 @@ module _ (e : EntryReading) (t : List ℕ) (y : EntryTyped e) (k : length (e .ke
 
   size : length (entryBytes e) ≡ 80 + length (e .aux)
   size = let l = length-entry-bytes e (y .codeHash) in omega arith
-
-  slot-read : entrySlotOf s ≡ e .slot
-  unfolding entryOf
-  slot-read = ap (λ (x : EntryReading). x .slot) (entry-read e t s y refl)
 
   entry-checked : (c : Check) (least : ℕ) → decide c (originalEntryRows s least) ≡ decide c (entryChecks e least)
   unfolding originalEntryRows entryLayoutRows entryFieldRows entryChecks entryOf entryLengthFields layoutAt decide
@@ -66,7 +57,7 @@ module _ (e : EntryReading) (t : List ℕ) (y : EntryTyped e) (k : length (e .ke
       let f₃ : weightOf s ≡ e .weight = ap (λ (x : EntryReading). x .weight) r in
       let f₄ : hashTypeOf s ≡ e .hashType = ap (λ (x : EntryReading). x .hashType) r in
       let f₅ : abiOf s ≡ e .abi = ap (λ (x : EntryReading). x .abi) r in
-      rw (e₁, e₂, e₃, m, a, slot-read, f₁, f₂, f₃, f₄, f₅) (simp row-true)
+      rw (e₁, e₂, e₃, m, a, slot-read e t y, f₁, f₂, f₃, f₄, f₅) (simp row-true)
 
 -- entries one behind another
 entries-checked : (es : List EntryReading) → EntriesTyped es → Keys es → (c : Check) (least : ℕ)
@@ -77,13 +68,8 @@ entries-checked (e ∷ es) y k c least =
     let t = entriesBytes es in
     let s = entryBytes e ++ t in
     decide-append c (originalEntryRows s least) _
-    ∙ (rw (rest-read e t (y .0), slot-read e t (y .0) (k .0), entry-checked e t (y .0) (k .0) c least) (entries-checked es (y .1) (k .1) _ (e .slot + 1))
+    ∙ (rw (rest-read e t (y .0), slot-read e t (y .0), entry-checked e t (y .0) (k .0) c least) (entries-checked es (y .1) (k .1) _ (e .slot + 1))
     ∙ sym (decide-append c (entryChecks e least) _))
-
-entries-behind : (es : List EntryReading) → EntriesTyped es → behindEntries (length es) (entriesBytes es) ≡ []
-unfolding behindEntries entriesBytes
-entries-behind [] y = refl
-entries-behind (e ∷ es) y = ap (behindEntries (length es)) (rest-read e (entriesBytes es) (y .0)) ∙ entries-behind es (y .1)
 
 -- a state
 module _ (r : StateReading) (y : StateTyped r) (k : Keys (r .entries)) (h : length (stateBytes r) ≤ 16384) where

@@ -3,3 +3,4 @@ pub mod Checked
 pub mod Agreed
 pub mod Limit
 pub mod WritesBack
+pub mod Session

@@ -8,7 +8,7 @@ use lib.Dec.{leb}
 use lib.ListN.{length, drop}
 use Rattle.protocol.specs.Rows.{Row, row}
 use Rattle.protocol.specs.declared.error.ProtocolError.the-variants.{InvalidState}
-use Rattle.account_state.specs.Fields.{auxMaxLength}
+use Rattle.account_state.specs.Fields.{stateFlagsKnownMask, auxMaxLength}
 use Rattle.account_state.specs.Reading.{EntryReading, capableShare}
 use Rattle.account_state.specs.State.{entryFieldRows, thresholdRows, summaryOf}
 use Rattle.account_state.specs.declared.entry.EntryFields.{EntryFields}
@@ -18,7 +18,7 @@ use Rattle.account_state_writer.specs.Writer.{auxLimitRows}
 
 unfoldable pub headChecks : ℕ → ℕ → List Row
 headChecks flags count =
-    row (leb flags 3) InvalidState ∷ row (leb 1 count) InvalidState ∷ row (leb count 16) InvalidState ∷ []
+    row (leb flags stateFlagsKnownMask) InvalidState ∷ row (leb 1 count) InvalidState ∷ row (leb count 16) InvalidState ∷ []
 
 -- the fields of an entry that its reading says
 abbrev pub readingFields : EntryReading → EntryFields

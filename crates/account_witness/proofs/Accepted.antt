@@ -59,11 +59,6 @@ unfolding witnessHeaderAnswer
 witness-header-found-back h Passed = refl
 witness-header-found-back h (Failed e) = refl
 
--- so the reader's answer tells what the rows find
-pub witness-header-found : (s : List ℕ) → witnessHeaderFound (readWitnessHeader s) ≡ decide Passed (witnessHeaderRows s)
-unfolding readWitnessHeader
-witness-header-found s = witness-header-found-back (witnessHeaderOf s) (decide Passed (witnessHeaderRows s))
-
 -- accepted exactly where every row passes
 pub witness-header-accepts : (s : List ℕ) → (readWitnessHeader s ≡ header.Header (witnessHeaderOf s)) ↔ AllPass (witnessHeaderRows s)
 unfolding readWitnessHeader witnessHeaderAnswer

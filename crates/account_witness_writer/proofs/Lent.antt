@@ -10,7 +10,7 @@ use lib.Dec.{leb}
 use lib.ListN.{length, length-append, length-map}
 use lib.Seq.{take-append-seam, drop-append-seam}
 use Rattle.octets.specs.Le.{Bytes}
-use Rattle.octets.specs.Lists.{every, joined}
+use Rattle.octets.specs.Lists.{every, isRising, sum, joined}
 use Rattle.octets.specs.Layout.{layoutBytes}
 use Rattle.octets.proofs.Parts.{part-length}
 use Rattle.octets.proofs.LayoutLaws.{length-numbers}
@@ -20,7 +20,7 @@ use Rattle.account_witness.specs.Header.{witnessHeaderFields}
 use Rattle.account_witness.specs.Walk.{proofAt, proofsLayoutRows}
 use Rattle.account_witness.specs.Witness.{witnessRows}
 use Rattle.account_witness.specs.Reading.{ProofReading, WitnessReading, proofsBytes, witnessHead, witnessBytes, proofGiven, proofsOf, witnessReading, proofSlots}
-use Rattle.account_witness_writer.specs.Writer.{sum, lentProofs, isRising, witnessTotal, lentProofRows, witnessWriterRows, proofLengths, proofsPayload}
+use Rattle.account_witness_writer.specs.Writer.{lentProofs, witnessTotal, lentProofRows, witnessWriterRows, proofLengths, proofsPayload}
 use Rattle.account_witness_writer.proofs.WriterLaws.{length-lent}
 use Rattle.account_witness.proofs.Inverse.{witness-holds, proofs-split, length-proofs, witness-back}
 

@@ -12,7 +12,7 @@ use lib.Dec.{eqb, leb}
 use lib.ListN.{length, take, drop, getD, length-append, length-drop, drop-of-length-le}
 use lib.Seq.{sets, drop-cons, drop-drop, length-take-le}
 use Rattle.octets.specs.Le.{toLe}
-use Rattle.octets.specs.Lists.{every, joined}
+use Rattle.octets.specs.Lists.{every, sum, joined}
 use Rattle.octets.specs.Layout.{layoutBytes}
 use Rattle.octets.proofs.Parts.{part-length}
 use Rattle.octets.proofs.Stores.{sets-append, sets-front}
@@ -23,7 +23,7 @@ use Rattle.protocol.proofs.Back.{write-passed}
 use Rattle.account_witness.specs.Header.{witnessHeaderFields}
 use Rattle.account_witness.proofs.Unique.{length-proof}
 use Rattle.account_witness.specs.Reading.{ProofReading, proofFields, proofBytes, proofsBytes, witnessBytes}
-use Rattle.account_witness_writer.specs.Writer.{sum, lentProofs, witnessFrom, isRising, witnessTotal, lentProofRows, witnessWriterRows, witnessWriterFault}
+use Rattle.account_witness_writer.specs.Writer.{lentProofs, witnessFrom, witnessTotal, lentProofRows, witnessWriterRows, witnessWriterFault}
 
 -- two tests that tell the same
 eqb-by : (a b c d : ℕ) (t : Bool) → eqb a b ≡ t → (a ≡ b → c ≡ d) → (c ≡ d → a ≡ b) → t ≡ eqb c d
@@ -33,15 +33,6 @@ eqb-by a b c d false e f g = sym (ne-eqb c d (λ q. eqb-false a b e (g q)))
 pub eqb-same : (a b c d : ℕ) → (a ≡ b → c ≡ d) → (c ≡ d → a ≡ b) → eqb a b ≡ eqb c d
 eqb-same a b c d f g = eqb-by a b c d (eqb a b) refl f g
 
--- a turn of the loop that adds, and its end
-pub sum-turn : (l : List ℕ) (i : ℕ) → i < length l → sum (drop i l) ≡ getD l i 0 + sum (drop (i + 1) l)
-unfolding sum
-sum-turn l i h = rw (add-one, drop-cons l i 0)
-
-pub sum-end : (l : List ℕ) (i : ℕ) → length l ≤ i → sum (drop i l) ≡ 0
-unfolding sum
-sum-end l i h = rw (drop-of-length-le l h)
-
 -- a turn of the loop that looks for an empty proof, and its end
 pub filled-turn : (l : List ℕ) (i : ℕ) → i < length l → every (leb 1) (drop i l) ≡ (leb 1 (getD l i 0) && every (leb 1) (drop (i + 1) l))
 unfolding every
@@ -50,16 +41,6 @@ filled-turn l i h = rw (add-one, drop-cons l i 0)
 pub filled-end : (l : List ℕ) (i : ℕ) → length l ≤ i → every (leb 1) (drop i l) ≡ true
 unfolding every
 filled-end l i h = rw (drop-of-length-le l h)
-
--- a turn of the loop over the slots, and its end
-pub rising-turn : (l : List ℕ) (least i : ℕ) → i < length l
-    → isRising least (drop i l) ≡ (leb least (getD l i 0) && isRising (getD l i 0 + 1) (drop (i + 1) l))
-unfolding isRising
-rising-turn l least i h = rw (add-one i, drop-cons l i 0)
-
-pub rising-end : (l : List ℕ) (least i : ℕ) → length l ≤ i → isRising least (drop i l) ≡ true
-unfolding isRising
-rising-end l least i h = rw (drop-of-length-le l h)
 
 -- a proof's numbers and bytes, stored one behind another
 pub proof-stored : (l : List ℕ) (at slot : ℕ) (bytes : List ℕ)

@@ -9,7 +9,7 @@ use native.Mathlib.Omega.{arith}
 use borrow.Author.Tests.{leb-true, le-leb, eq-eqb}
 use lib.Dec.{leb}
 use lib.ListN.{length, length-append}
-use Rattle.octets.specs.Lists.{every, joined}
+use Rattle.octets.specs.Lists.{every, isRising, joined}
 use Rattle.octets.specs.Layout.{layoutBytes, layoutAt, fieldValue}
 use Rattle.octets.proofs.Truth.{and-both}
 use Rattle.octets.proofs.LayoutLaws.{length-numbers}
@@ -20,7 +20,7 @@ use Rattle.account_witness.specs.Header.{witnessHeaderRows, witnessHeaderFields
 use Rattle.account_witness.specs.Walk.{proofLayoutRows, proofsLayoutRows}
 use Rattle.account_witness.specs.Witness.{witnessRows}
 use Rattle.account_witness.specs.Reading.{ProofReading, WitnessReading, proofFields, proofBytes, proofsBytes, witnessHead, witnessBytes, proofSlots, ProofTyped, ProofsTyped, WitnessTyped}
-use Rattle.account_witness_writer.specs.Writer.{isRising, witnessTotal, lentProofRows, witnessWriterRows, proofLengths, proofsPayload}
+use Rattle.account_witness_writer.specs.Writer.{witnessTotal, lentProofRows, witnessWriterRows, proofLengths, proofsPayload}
 use Rattle.account_witness_writer.proofs.Lent.{length-slots, lent-total}
 use Rattle.account_witness.proofs.Unique.{length-proof, table-read, len-read, witness-header-read}
 

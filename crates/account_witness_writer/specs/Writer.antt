@@ -1,11 +1,10 @@
 -- The writer of witness locks. Proofs are lent as slices: a slot and a length for each, and the bytes of all proofs end to end.
 use Prim.Native.Nat.{ℕ, _+_, _*_, _^_, _<_}
-use mathlib.Core.Bool.{Bool, true, _&&_}
 use mathlib.Core.List.{List, [], _∷_, map}
 use lib.Dec.{leb, eqb}
 use lib.ListN.{length, take, drop}
 use Rattle.octets.specs.Le.{Bytes}
-use Rattle.octets.specs.Lists.{every, joined}
+use Rattle.octets.specs.Lists.{every, isRising, sum, joined}
 use Rattle.protocol.specs.Policy.{isOperation}
 use Rattle.protocol.specs.Rows.{Row, row}
 use Rattle.protocol.specs.Write.{writeFault, writeAnswer, afterWrite}
@@ -14,11 +13,6 @@ use Rattle.protocol.specs.declared.check.Check.{Check}
 use Rattle.protocol.specs.declared.check.WriteAnswer.{WriteAnswer}
 use Rattle.account_witness.specs.Fields.{witnessHeaderLength, proofHeaderLength}
 use Rattle.account_witness.specs.Reading.{ProofReading, WitnessReading, WitnessTyped, witnessBytes}
-
--- the lengths together
-unfoldable pub sum : List ℕ → ℕ
-sum [] = 0
-sum (n ∷ ns) = n + sum ns
 
 -- the proofs that the slices lend: each takes its length of the bytes that are left
 unfoldable pub lentProofs : List ℕ → List ℕ → List ℕ → List ProofReading
@@ -30,11 +24,6 @@ lentProofs (slot ∷ slots) (len ∷ lengths) bytes =
 unfoldable pub witnessFrom : ℕ → ℕ → List ℕ → List ℕ → List ℕ → WitnessReading
 witnessFrom operation sequence slots lengths bytes =
     record { operation = operation; sequence = sequence; proofs = lentProofs slots lengths bytes }
-
--- 01, Proof: "slots rise strictly", from `least` on
-unfoldable pub isRising : ℕ → List ℕ → Bool
-isRising least [] = true
-isRising least (slot ∷ slots) = leb least slot && isRising (slot + 1) slots
 
 -- the length of the written form
 abbrev pub witnessTotal : List ℕ → List ℕ → ℕ

@@ -1,6 +1,7 @@
 // The writer's refusals: slices that disagree, the operation, the proofs, a short buffer.
 use account_witness::PROOF_HEADER_LEN;
 use octets::fits;
+use octets::is_rising;
 use protocol::ACCOUNT_WITNESS_HEADER_LEN;
 use protocol::ACCOUNT_WITNESS_MAX_LOCK_LEN;
 use protocol::AUTHENTICATOR_MAX_COUNT;
@@ -10,10 +11,10 @@ use protocol::is_operation;
 ghost use mathlib.Core.Path.{_≡_};
 ghost use Prim.Native.Nat.{_+_, _*_};
 ghost use lib.Dec.{leb, eqb};
-ghost use Rattle.octets.specs.Lists.{every};
+ghost use Rattle.octets.specs.Lists.{every, sum};
 ghost use Rattle.protocol.specs.Rows.{decide};
 ghost use Rattle.account_witness.specs.Fields.{witnessHeaderLength, proofHeaderLength};
-ghost use Rattle.account_witness_writer.specs.Writer.{sum, isRising, lentProofRows, witnessWriterFault};
+ghost use Rattle.account_witness_writer.specs.Writer.{lentProofRows, witnessWriterFault};
 
 // Whether the lengths add up to `total`. What is left of it never falls below zero.
 fn adds_up(lengths: &[u32], total: usize) -> bool
@@ -46,23 +47,6 @@ fn all_filled(lengths: &[u32]) -> bool
     true
 }
 
-// Whether the slots rise strictly.
-fn all_rising(slots: &[u16]) -> bool
-    ensures { λ r. ⌜ r ≡ isRising 0 (now (slots .entry)) ⌝ }
-{
-    let mut least: u32 = 0;
-    let mut i: usize = 0;
-    while i < slots.len() {
-        let slot = slots[i] as u32;
-        if slot < least {
-            return false;
-        }
-        least = slot + 1;
-        i += 1;
-    }
-    true
-}
-
 // Whether a witness lock of `count` proofs with `len` bytes in all is at most `limit` long.
 fn total_within(limit: usize, count: usize, len: usize) -> bool
     ensures { λ r. ⌜ r ≡ leb (witnessHeaderLength + (proofHeaderLength * count + len)) limit ⌝ }
@@ -88,7 +72,7 @@ fn check_lent(before: Check, slots: &[u16], lengths: &[u32], bytes: &[u8]) -> Ch
             total_within(ACCOUNT_WITNESS_MAX_LOCK_LEN, slots.len(), bytes.len()),
             invalid,
         )
-        .require(all_rising(slots), invalid)
+        .require(is_rising(slots), invalid)
 }
 
 // The writer's refusals.

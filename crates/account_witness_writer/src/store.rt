@@ -19,10 +19,11 @@ ghost use Prim.Native.Nat.{_≤_};
 ghost use lib.ListN.{length};
 ghost use lib.Seq.{sets};
 ghost use Rattle.octets.specs.Layout.{layoutBytes};
+ghost use Rattle.octets.specs.Lists.{sum};
 ghost use Rattle.account_witness.specs.Fields.{witnessHeaderLength};
 ghost use Rattle.account_witness.specs.Header.{witnessHeaderFields};
 ghost use Rattle.account_witness.specs.Reading.{proofBytes, proofsBytes};
-ghost use Rattle.account_witness_writer.specs.Writer.{sum, lentProofs, witnessTotal};
+ghost use Rattle.account_witness_writer.specs.Writer.{lentProofs, witnessTotal};
 
 pub(crate) fn store_header(out: &mut [u8], operation: u8, count: usize, sequence: u64)
     ensures { λ _. ⌜ now (out .exit) ≡ sets (now (out .entry)) 0 (layoutBytes (witnessHeaderFields operation count sequence)) ⌝ }

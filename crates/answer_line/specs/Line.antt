@@ -4,16 +4,12 @@ use Prim.Native.Nat.{ℕ}
 use mathlib.Core.Bool.{Bool, cond}
 use mathlib.Core.List.{List, [], _∷_, _++_}
 use lib.Dec.{eqb}
-use Rattle.scene_text.specs.Print.{lineText, hexText, decimalText}
-use Rattle.scene_text.specs.Text.{lineEnd}
+use Rattle.text.specs.Print.{lineText, hexText, numberText}
+use Rattle.text.specs.Text.{lineEnd}
 
 -- the word `answer`
 unfoldable pub answerWord : List ℕ
 answerWord = 97 ∷ 110 ∷ 115 ∷ 119 ∷ 101 ∷ 114 ∷ []
-
--- "The first three fields are decimal": a number of 64 bits has at most 20 digits
-unfoldable pub numberText : ℕ → List ℕ
-numberText n = decimalText 20 n
 
 -- "DIGEST has 64 lower-case digits or is empty where there is none"
 unfoldable pub digestText : Bool → List ℕ → List ℕ
@@ -23,6 +19,7 @@ digestText reached digest = cond reached (hexText digest) []
 unfoldable pub feeText : ℕ → ℕ → List ℕ
 feeText number fee = cond (eqb number 0) (numberText fee) []
 
+-- "one line `answer,NUMBER,COUNT,LENGTH,DIGEST`", "The first three fields are decimal", and FEE after them
 unfoldable pub lineOf : ℕ → ℕ → ℕ → Bool → List ℕ → ℕ → List ℕ
 lineOf number count total reached digest fee =
     lineText answerWord (numberText number ∷ numberText count ∷ numberText total ∷ digestText reached digest ∷ feeText number fee ∷ [])

@@ -1,19 +1,18 @@
 // The line that the program prints.
-mod put; // put.rt
-
-use crate::put::put_byte;
-use crate::put::put_decimal;
-use crate::put::put_hex;
 use octets::store_bytes;
-use scene_text::COMMA;
-use scene_text::LINE_END;
+use text::COMMA;
+use text::LINE_END;
+use text::put_byte;
+use text::put_decimal;
+use text::put_hex;
 ghost use mathlib.Core.Path.{_≡_};
 ghost use mathlib.Core.List.{_∷_};
 ghost use Prim.Native.Nat.{_+_, _≤_};
 ghost use lib.ListN.{length};
 ghost use lib.Seq.{sets};
-ghost use Rattle.scene_text.specs.Text.{comma};
-ghost use Rattle.answer_line.specs.Line.{numberText, digestText, feeText, lineOf};
+ghost use Rattle.text.specs.Text.{comma};
+ghost use Rattle.text.specs.Print.{numberText};
+ghost use Rattle.answer_line.specs.Line.{digestText, feeText, lineOf};
 
 // A comma and a number from `at` on; where they end.
 fn put_number(out: &mut [u8], at: usize, value: u64) -> usize
@@ -22,8 +21,9 @@ fn put_number(out: &mut [u8], at: usize, value: u64) -> usize
     ensures { λ r. ⌜ r ≤ at + 21 ⌝ }
     ensures { λ _. ⌜ now (out .exit) ≡ sets (now (out .entry)) at (comma ∷ numberText value) ⌝ }
 {
+    let start = at + 1;
     put_byte(out, at, COMMA);
-    put_decimal(out, at + 1, 20, value)
+    start + put_decimal(out, start, value)
 }
 
 // A comma and the digest, if there is one, from `at` on; where they end.
@@ -33,11 +33,12 @@ fn put_digest(out: &mut [u8], at: usize, reached: bool, digest: &[u8; 32]) -> us
     ensures { λ r. ⌜ r ≤ at + 65 ⌝ }
     ensures { λ _. ⌜ now (out .exit) ≡ sets (now (out .entry)) at (comma ∷ digestText reached (now (digest .entry))) ⌝ }
 {
+    let start = at + 1;
     put_byte(out, at, COMMA);
     if reached {
-        put_hex(out, at + 1, digest)
+        start + put_hex(out, start, digest)
     } else {
-        at + 1
+        start
     }
 }
 

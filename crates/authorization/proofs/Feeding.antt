@@ -1,6 +1,6 @@
 -- The canonical witness fed in parts: its length, its first 20 bytes, and fields 2 and 3 of the witness.
 -- Assumes nothing.
-use mathlib.Core.Path.{_≡_, sym, ap, _∙_}
+use mathlib.Core.Path.{_≡_, ap, _∙_}
 use mathlib.Core.List.{List, _++_}
 use Prim.Native.Nat.{ℕ, _+_}
 use lib.ListN.{length, take}

@@ -42,10 +42,10 @@ pub next-within : (s : Blake2b) → 0 < s .fed % 128 → nextBlock s ≡ s .bloc
 unfolding nextBlock
 next-within s h = rw (ne-eqb (s .fed % 128) 0 (λ e. omega arith))
 
--- at a block's border
-pub next-border : (s : Blake2b) → s .fed % 128 ≡ 0 → nextBlock s ≡ replicate 128 0
+-- where a block has just ended
+pub next-zeros : (s : Blake2b) → s .fed % 128 ≡ 0 → nextBlock s ≡ replicate 128 0
 unfolding nextBlock
-next-border s e = rw (eq-eqb (s .fed % 128) 0 e)
+next-zeros s e = rw (eq-eqb (s .fed % 128) 0 e)
 
 module _ (s : Blake2b) (b : ℕ) (small : s .fed < 2 ^ 64) where
   stored-run : (bs : List ℕ) → s .fed % 128 + 1 + length bs ≤ 128 → 0 < length bs → storedRun (stored s b) bs ≡ storedRun s (b ∷ bs)

@@ -1,6 +1,5 @@
-pub mod Table
 pub mod Bytes
 pub mod Feed
-pub mod Border
+pub mod WholeBlocks
 pub mod Whole
 pub mod Chain

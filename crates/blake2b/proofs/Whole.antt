@@ -12,9 +12,10 @@ use lib.ListN.{length, take, drop, set, length-append, length-drop, drop-of-leng
 use lib.Seq.{take-all, take-append-le, drop-append-le, drop-append-seam, set-append-seam}
 use Rattle.octets.specs.Lists.{joined}
 use Rattle.blake2b.specs.declared.Blake2b.{Blake2b}
-use Rattle.blake2b.specs.Rfc7693.{wordsOf, bytesOf, F, startWords, zeroPadded, blockOf, lastOf, chained, hashWords, hashOf}
+use Rattle.blake2b_compression.specs.Compression.{wordsOf, F}
+use Rattle.blake2b.specs.Rfc7693.{bytesOf, startWords, zeroPadded, blockOf, lastOf, chained, hashWords, hashOf}
 use Rattle.blake2b.specs.State.{begun, waiting, flushedWords, flushed, nextBlock, stored, fedAll, fedParts, finished}
-use Rattle.blake2b.proofs.Feed.{flushed-room, next-within, next-border, fed-parts}
+use Rattle.blake2b.proofs.Feed.{flushed-room, next-within, next-zeros, fed-parts}
 
 -- bytes that come later change no whole block
 block-more : (xs ys : List ℕ) (i : ℕ) → (i + 1) * 128 ≤ length xs → blockOf (xs ++ ys) i ≡ blockOf xs i
@@ -96,7 +97,7 @@ module _ (p xs : List ℕ) (b : ℕ) (s : Blake2b) (w : After p xs s) (small : l
         let h = times in let l = long-ys in let f = last-full in let n = w .count in
         let at : s .fed % 128 ≡ 0 = omega arith in
         let end : 128 * lastOf ys ≡ length xs = omega arith in
-        rw (next-border s at, at, last-padded ys, end, drop-append-seam) (padded-more [] b (omega arith))
+        rw (next-zeros s at, at, last-padded ys, end, drop-append-seam) (padded-more [] b (omega arith))
 
     full : After p ys (stored (flushed s) b)
     unfolding nextBlock stored
@@ -125,7 +126,7 @@ module _ (p xs : List ℕ) (b : ℕ) (s : Blake2b) (w : After p xs s) (small : l
         let n = w .count in let q = place-room in let h = waits xs in
         let at : s .fed % 128 ≡ 0 = omega arith in
         let end : length xs ≤ 128 * lastOf xs = omega (arith, length-drop (128 * lastOf xs) xs) in
-        rw (next-border s at, w .last, last-padded xs, drop-of-length-le xs end)
+        rw (next-zeros s at, w .last, last-padded xs, drop-of-length-le xs end)
 
     next-room : nextBlock s ≡ s .block
     next-room =

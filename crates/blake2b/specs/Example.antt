@@ -5,7 +5,8 @@ use Prim.Native.Nat.{ℕ}
 use lib.ListN.{replicate}
 use Rattle.octets.specs.Le.{toLe, fromLe, numberAt}
 use Rattle.octets.specs.Lists.{tabulate}
-use Rattle.blake2b.specs.Rfc7693.{rotr, wordsOf, bytesOf, IV, SIGMA, add, turn, G, mixed, round, rowOf, rounds, xorAt, flagged, workVector, halves, F, startWords, zeroPadded, blockOf, chained, lastOf, hashWords, hashOf}
+use Rattle.blake2b_compression.specs.Compression.{rotr, wordsOf, IV, SIGMA, add, turn, G, mixed, round, rowOf, rounds, xorAt, flagged, workVector, halves, F}
+use Rattle.blake2b.specs.Rfc7693.{bytesOf, startWords, zeroPadded, blockOf, chained, lastOf, hashWords, hashOf}
 
 -- 64 bytes of digest, no key, fanout and depth 1
 abbrev pub appendixParameters : List ℕ

@@ -1,4 +1,3 @@
 pub mod Rfc7693
-pub mod Schedule
 pub mod Example
 pub mod State

@@ -7,7 +7,8 @@ use mathlib.Core.Bool.{true, false, cond}
 use mathlib.Core.List.{List, [], _∷_, _++_}
 use lib.Dec.{eqb}
 use lib.ListN.{set, replicate}
-use Rattle.blake2b.specs.Rfc7693.{wordsOf, F, startWords, hashOf}
+use Rattle.blake2b_compression.specs.Compression.{wordsOf, F}
+use Rattle.blake2b.specs.Rfc7693.{startWords, hashOf}
 use Rattle.blake2b.specs.declared.Blake2b.{Blake2b}
 
 -- nothing fed yet

@@ -1,7 +1,7 @@
 // The block that is being filled: its next place, how full it is, how many bytes fill it up, and the words once a full one is compressed.
 use super::Blake2b;
-use super::compression::compress;
-use super::compression::message_words;
+use blake2b_compression::compress;
+use blake2b_compression::message_words;
 ghost use mathlib.Core.Path.{_≡_};
 ghost use Prim.Native.Nat.{_-_, _%_, _≤_, min};
 ghost use Rattle.blake2b.specs.State.{waiting, flushedWords};

@@ -1,12 +1,11 @@
 // BLAKE2b of RFC 7693, without a key: a hash state that is begun from a parameter block, fed and finished.
-mod compression; // compression.rt
 mod block; // block.rt
 
 use self::block::fill_bytes;
 use self::block::flush;
 use self::block::next_place;
-use self::compression::compress;
-use self::compression::message_words;
+use blake2b_compression::compress;
+use blake2b_compression::message_words;
 ghost use mathlib.Core.Path.{_≡_};
 ghost use lib.ListN.{take};
 ghost use lib.Seq.{sets};
@@ -50,16 +49,7 @@ impl Blake2b {
     pub const BLOCK: usize = 128;
 
     // The initialization vector.
-    pub const IV: [u64; 8] = [
-        0x6a09e667f3bcc908,
-        0xbb67ae8584caa73b,
-        0x3c6ef372fe94f82b,
-        0xa54ff53a5f1d36f1,
-        0x510e527fade682d1,
-        0x9b05688c2b3e6c1f,
-        0x1f83d9abfb41bd6b,
-        0x5be0cd19137e2179,
-    ];
+    pub const IV: [u64; 8] = blake2b_compression::IV;
 
     // A state that nothing was fed to, from a parameter block.
     pub fn with_parameters(p: [u8; 64]) -> Self

@@ -1,15 +1,16 @@
 -- A total in the code is the sum, as far as a u64 holds it: capacity by capacity, and what is found of two totals.
 -- Assumes nothing.
-use mathlib.Core.Path.{_≡_, refl, sym, ap, _∙_}
+use mathlib.Core.Path.{_≡_, refl, sym}
 use mathlib.Core.Bool.{Bool, true, false, cond}
 use mathlib.Core.List.{List, [], _∷_}
 use Prim.Native.Nat.{ℕ, _+_, _-_, _^_, _≤_, _<_}
 use native.Mathlib.Nat.{zero-add, add-zero, add-assoc}
 use native.Mathlib.Omega.{arith}
-use borrow.Author.Tests.{le-leb, lt-leb, leb-true, leb-false, lt-ltb, le-ltb}
-use lib.Dec.{leb, ltb}
+use borrow.Author.Tests.{leb-true, leb-false, lt-ltb, le-ltb}
+use lib.Dec.{leb}
 use lib.ListN.{drop}
-use Rattle.scene_table.specs.Scene.{Input, Output, Scene}
+use Rattle.octets.specs.Lists.{sum}
+use Rattle.scene_table.specs.Scene.{Input, Output}
 use Rattle.scene_table.specs.Lent.{sceneIn}
 use Rattle.scene_table.proofs.Records.{Listed, map-listed}
 use Rattle.scene_table.proofs.PlaceLaws.{lentInput, lentOutput, lent-given}
@@ -17,7 +18,7 @@ use Rattle.capacity.specs.declared.total.Side.{Side}
 use Rattle.capacity.specs.declared.total.Side.the-variants.{Inputs, Outputs}
 use Rattle.capacity.specs.declared.total.Total.{Total}
 use Rattle.capacity.specs.declared.total.Total.the-variants.{Sum, Above}
-use Rattle.capacity.specs.Capacity.{capacities, sumOf, totalCapacity}
+use Rattle.capacity.specs.Capacity.{capacities}
 use Rattle.capacity.specs.Totals.{totalOf, totalWith, sideCount, sideCapacity}
 
 -- one capacity more
@@ -46,14 +47,14 @@ unfoldable pub totalFrom : Total → List ℕ → Total
 totalFrom t [] = t
 totalFrom t (c ∷ cs) = totalFrom (totalWith t c) cs
 
-total-from : (n : ℕ) (cs : List ℕ) → totalFrom (totalOf n) cs ≡ totalOf (n + sumOf cs)
-unfolding totalFrom sumOf
+total-from : (n : ℕ) (cs : List ℕ) → totalFrom (totalOf n) cs ≡ totalOf (n + sum cs)
+unfolding totalFrom sum
 total-from n [] = rw add-zero
 total-from n (c ∷ cs) = rw (total-with n c, total-from (n + c) cs, add-assoc)
 
-pub total-whole : (cs : List ℕ) → totalOf (sumOf cs) ≡ totalFrom (Sum 0) cs
+pub total-whole : (cs : List ℕ) → totalOf (sum cs) ≡ totalFrom (Sum 0) cs
 unfolding totalOf
-total-whole cs = sym (rw (zero-add (sumOf cs)) at (total-from 0 cs))
+total-whole cs = sym (rw (zero-add (sum cs)) at (total-from 0 cs))
 
 -- the capacities are the table's
 pub capacities-listed : (side : Side) (table store : List ℕ)

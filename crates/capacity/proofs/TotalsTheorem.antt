@@ -1,7 +1,7 @@
 -- What the rows of the totals say, for any scene: they pass where both totals are within a u64 and the inputs cover the outputs; they
 -- give 39 where a total is above, and 48 where the outputs exceed the inputs and neither is.
 -- Assumes nothing.
-use mathlib.Core.Path.{_≡_, refl, ap}
+use mathlib.Core.Path.{_≡_, refl}
 use mathlib.Core.Logic.{_↔_, _⊎_, inl, inr}
 use mathlib.Core.Bool.{Bool, true, false}
 use Prim.Native.Nat.{ℕ, _+_, _-_, _^_, _≤_, _<_}

@@ -1,8 +1,9 @@
 -- 02, change 9: the totals of all inputs and of all outputs, the lock's rows for them, and the fee.
-use Prim.Native.Nat.{ℕ, _+_, _-_, _^_, _≤_, _<_}
+use Prim.Native.Nat.{ℕ, _-_, _^_, _≤_, _<_}
 use mathlib.Core.List.{List, [], _∷_, map}
 use mathlib.Core.Logic.{_⊎_}
 use lib.Dec.{leb}
+use Rattle.octets.specs.Lists.{sum}
 use Rattle.protocol.specs.Rows.{Row, row, decide}
 use Rattle.protocol.specs.declared.error.ProtocolError.the-variants.{LengthOverflow, OutputsExceedInputs}
 use Rattle.protocol.specs.declared.check.Check.{Check}
@@ -17,13 +18,9 @@ unfoldable pub capacities : Side → Scene → List ℕ
 capacities Inputs s = map (λ (i : Input). i .capacity) (s .inputs)
 capacities Outputs s = map (λ (o : Output). o .capacity) (s .outputs)
 
-unfoldable pub sumOf : List ℕ → ℕ
-sumOf [] = 0
-sumOf (n ∷ ns) = n + sumOf ns
-
 -- "inputs' total" and "outputs' total", whole numbers of any size
 unfoldable pub totalCapacity : Side → Scene → ℕ
-totalCapacity side s = sumOf (capacities side s)
+totalCapacity side s = sum (capacities side s)
 
 abbrev pub inputTotal : Scene → ℕ
 inputTotal s = totalCapacity Inputs s

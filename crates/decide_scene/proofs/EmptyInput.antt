@@ -3,11 +3,11 @@
 use mathlib.Core.Path.{_≡_, refl}
 use mathlib.Core.List.{[], _∷_}
 use Rattle.protocol.specs.Rows.{_▷_, decide}
-use Rattle.scene_text.specs.Text.{pieces}
+use Rattle.text.specs.Text.{pieces}
 use Rattle.scene_reader.specs.Reader.{sceneEndRows, linesRows, linesPut, readerStart, sceneLimitRows, sceneRows, readOf}
 use Rattle.account_lock.specs.Lock as lock
-use Rattle.answer_line.specs.Line.{answerWord, numberText, digestText, feeText, lineOf}
-use Rattle.scene_text.specs.Print.{partedBy, lineText, decimalText}
+use Rattle.answer_line.specs.Line.{answerWord, digestText, feeText, lineOf}
+use Rattle.text.specs.Print.{partedBy, lineText, decimalText, numberText}
 use Rattle.decide_scene.specs.Decided.{decidedBy, decided, programDecides, resultLine, programLine}
 
 pub empty-input : programLine [] ≡ 97 ∷ 110 ∷ 115 ∷ 119 ∷ 101 ∷ 114 ∷ 44 ∷ 50 ∷ 44 ∷ 48 ∷ 44 ∷ 48 ∷ 44 ∷ 44 ∷ 10 ∷ []

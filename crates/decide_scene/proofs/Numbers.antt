@@ -16,13 +16,13 @@ use Rattle.protocol.specs.declared.error.ProtocolError.the-variants.{SceneTooLo
 use Rattle.protocol.specs.declared.check.Check.{Check}
 use Rattle.protocol.specs.declared.check.Check.the-variants.{Passed, Failed}
 use Rattle.protocol.proofs.Each.{Each, Refuses, each-append, each-refuses}
-use Rattle.scene_text.specs.Text.{pieces, lineEnd}
+use Rattle.text.specs.Text.{pieces, lineEnd}
 use Rattle.scene_reader.specs.Reader.{ReaderState, ReaderOutcome, readerRefuses, readerHolds, outcomeAfter, lineRows, rowsOfLine, linePut, sceneEndRows, linesRows, linesPut, readerStart, sceneLimitRows, sceneRows, readOf, readerCheck}
 use Rattle.scene_table.specs.Valid.{validTable}
 use Rattle.scene_reading.proofs.Accessors.{left-store-length, reader-leaves-valid}
 use Rattle.account_lock.specs.Lock as lock
-use Rattle.account_lock.proofs.Numbers.{lock-seven, lock-never-six}
-use Rattle.account_lock.proofs.AnswerRoom.{lock-never-five}
+use Rattle.lock_theorems.proofs.Numbers.{lock-seven, lock-never-six}
+use Rattle.lock_theorems.proofs.AnswerRoom.{lock-never-five}
 use Rattle.protocol.specs.Limits.{answerBufferLength, tableMinEntries}
 use Rattle.decide_scene.specs.Decided.{decidedBy, decided, programDecides, programSceneMaxLength}
 use Rattle.decide_scene.proofs.StoreEnough.{reader-never-six}

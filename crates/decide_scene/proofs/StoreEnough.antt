@@ -18,8 +18,8 @@ use Rattle.protocol.specs.declared.check.Check.{Check}
 use Rattle.protocol.specs.declared.check.Check.the-variants.{Passed, Failed}
 use Rattle.protocol.proofs.AllPass.{failed-first}
 use Rattle.protocol.proofs.Each.{Refuses, each-refuses}
-use Rattle.scene_text.specs.Text.{pieces, before, hexBytes, comma, lineEnd}
-use Rattle.scene_text.proofs.HexLaws.{hex-length}
+use Rattle.text.specs.Text.{pieces, before, hexBytes, comma, lineEnd}
+use Rattle.text.proofs.HexLaws.{hex-length}
 use Rattle.scene_line.specs.declared.form.Form.{Form}
 use Rattle.scene_line.specs.Line.{nextForm, hexForm, fieldBytes, lineBytes}
 use Rattle.scene_line.specs.Kind.{firstForm, lineKind, lineFields}

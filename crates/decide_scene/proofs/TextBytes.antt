@@ -5,7 +5,7 @@ use mathlib.Core.List.{List, [], _∷_, _++_, map}
 use native.Mathlib.Omega.{arith}
 use lib.ListN.{length, length-append}
 use Rattle.octets.specs.Lists.{joined}
-use Rattle.scene_text.specs.Text.{lineEnd}
+use Rattle.text.specs.Text.{lineEnd}
 use Rattle.scene_line.specs.Kind.{firstForm}
 use Rattle.scene_table.specs.Scene.{sceneBytes}
 use Rattle.scene_reading.specs.Lines.{LinesAccepted, kindOfLine, fieldsOfLine, bytesOfLine}

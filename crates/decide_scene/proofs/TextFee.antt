@@ -11,7 +11,7 @@ use Rattle.scene_reading.specs.Lines.{LinesAccepted}
 use Rattle.scene_reading.specs.Reading.{sceneOf}
 use Rattle.scene_reading.proofs.Accessors.{accessors-give}
 use Rattle.account_lock.specs.Lock as lock
-use Rattle.account_lock.proofs.Fee.{result-balance}
+use Rattle.lock_theorems.proofs.Fee.{result-balance}
 use Rattle.decide_scene.specs.Decided.{decidedBy, decided}
 
 -- where a text is accepted, what its input lines are worth is what its output lines are worth and the fee

@@ -11,8 +11,9 @@ use lib.Dec.{eqb}
 use lib.ListN.{length}
 use Rattle.account_state.specs.Fields.{auxMaxLength}
 use Rattle.account_state.specs.Reading.{EntryReading, AuxWithin}
+use Rattle.quorum.specs.Slots.{noEntry, entryFor}
 use Rattle.account_witness.specs.Reading.{ProofReading}
-use Rattle.decision.specs.Proofs.{Context, noEntry, entryFor, longProofRow, WithinLimits}
+use Rattle.decision.specs.Proofs.{Context, longProofRow, WithinLimits}
 
 -- the entry of any slot keeps the limit
 entry-within : (slot : ℕ) (es : List EntryReading) → AuxWithin es → length (entryFor slot es .aux) ≤ auxMaxLength

@@ -6,13 +6,13 @@ use mathlib.Core.Logic.{_↔_, _≢_, _⊎_, inl, inr, ⊎-elim}
 use mathlib.Core.Bool.{Bool, true, false, cond}
 use mathlib.Core.List.{List, [], _∷_, _++_, append-assoc, append-nil, List·Memᴰ, Memᴰ·cast, List·Memᴰ·head, List·Memᴰ·tail, List·Memᴰ·not-nil, List·Memᴰ·cases-cons}
 use Prim.Native.Nat.{ℕ, zero, suc, _+_, _≤_, _<_, zero-le, suc-le-suc}
-use native.Mathlib.Nat.{le-of-suc-le-suc, le-refl}
+use native.Mathlib.Nat.{le-of-suc-le-suc}
 use native.Mathlib.Omega.{arith}
-use native.Mathlib.Decide.{ℕ-discrete}
 use lib.ListN.{length, getD, take, drop, length-append}
 use lib.Dec.{eqb}
 use borrow.Author.Tests.{eq-eqb, ne-eqb, eqb-true, eqb-false, leb-true, le-leb, ltb-true, lt-ltb}
 use Rattle.octets.specs.Lists.{Rising}
+use Rattle.octets.proofs.RisingLaws.{rising-less}
 use Rattle.protocol.specs.Errors.{errorNumber}
 use Rattle.protocol.specs.Rows.{_▷_, decide, checkNumber}
 use Rattle.protocol.specs.declared.error.ProtocolError.{ProtocolError}
@@ -22,10 +22,13 @@ use Rattle.protocol.specs.declared.check.Check.the-variants.{Passed, Failed}
 use Rattle.protocol.proofs.ErrorNumbers.{not-0}
 use Rattle.protocol.proofs.AllPass.{passed-all-pass, all-pass-passed}
 use Rattle.protocol.proofs.Each.{Each, Refuses, each-refuses}
+use Rattle.quorum.specs.Slots.{knownSlot, entryFor, slotsWeight}
+use Rattle.quorum.specs.Operation.{capable}
+use Rattle.quorum.proofs.Weights.{weight-subset}
 use Rattle.account_witness.specs.Reading.{ProofReading, proofSlots}
-use Rattle.decision.specs.Proofs.{Context, knownSlot, entryFor, capable, requestLimitRows, authenticatorRows, proofRows, requestOf, requestsOf}
+use Rattle.decision.specs.Proofs.{Context, requestLimitRows, authenticatorRows, proofRows, requestOf, requestsOf}
 use Rattle.decision.specs.Walk.{WalkOutcome, walkOutcome, verdict, approvedWeight, lastRows, unlessFailed, walkFrom}
-use Rattle.decision.specs.Decision.{EachPasses, Approved, slotsWeight, Quorum}
+use Rattle.decision.specs.Decision.{EachPasses, Approved, Quorum}
 
 -- The three ways on from a proof.
 module _ (c : Context) (clean : Bool) (i weight : ℕ) (made : List ℕ) (p : ProofReading) (ps : List ProofReading) where
@@ -127,54 +130,19 @@ end-passes clean weight threshold = (there, back)
     back : (clean ≡ true) × (0 < threshold) × (threshold ≤ weight) → decide Passed (lastRows clean weight threshold) ≡ Passed
     back h = all-pass-passed (lastRows clean weight threshold) (h .0, (lt-ltb _ _ (h .1), (le-leb _ _ (h .2), tt)))
 
--- The sum over a rising list is at most that over a rising list with the same members and more.
-after : {least s : ℕ} (xs : List ℕ) → Rising least xs → List·Memᴰ s xs → least ≤ s
-after [] r m = absurd (List·Memᴰ·not-nil m)
-after (x ∷ xs) r m =
-    ⊎-elim (λ e. omega arith) (λ t. let h = after xs (r .1) t in omega arith) (List·Memᴰ·cases-cons m)
-
-rising-less : {k l : ℕ} (xs : List ℕ) → k ≤ l → Rising l xs → Rising k xs
-rising-less [] h r = tt
-rising-less (x ∷ xs) h r = (omega (arith, r .0), r .1)
-
 module _ (c : Context) where
-  weightOf-le : (ss bs : List ℕ) (k l : ℕ) → Rising k ss → Rising l bs → ((s : ℕ) → List·Memᴰ s ss → List·Memᴰ s bs)
-      → slotsWeight c ss ≤ slotsWeight c bs
-  weightOf-le [] bs k l rs ra sub = zero-le
-  weightOf-le (s ∷ ss) [] k l rs ra sub = absurd (List·Memᴰ·not-nil (sub s (List·Memᴰ·head refl)))
-  weightOf-le (s ∷ ss) (b ∷ bs) k l rs ra sub = go (ℕ-discrete s b)
-      (λ sub′. weightOf-le ss bs (s + 1) (b + 1) (rs .1) (ra .1) sub′)
-      (λ sub′. weightOf-le (s ∷ ss) bs k (b + 1) rs (ra .1) sub′)
-    where
-      -- a member of s ∷ ss other than b is in bs
-      past : (t : ℕ) → (t ≡ b → ⊥) → List·Memᴰ t (s ∷ ss) → List·Memᴰ t bs
-      past t ne m = ⊎-elim (λ e. absurd (ne e)) (λ h. h) (List·Memᴰ·cases-cons (sub t m))
-
-      go : Dec (s ≡ b)
-          → (((t : ℕ) → List·Memᴰ t ss → List·Memᴰ t bs) → slotsWeight c ss ≤ slotsWeight c bs)
-          → (((t : ℕ) → List·Memᴰ t (s ∷ ss) → List·Memᴰ t bs) → slotsWeight c (s ∷ ss) ≤ slotsWeight c bs)
-          → slotsWeight c (s ∷ ss) ≤ slotsWeight c (b ∷ bs)
-      go (yes e) both right =
-          let w : slotsWeight c ss ≤ slotsWeight c bs = both (λ t m. past t (λ q. let h : s + 1 ≤ t = after ss (rs .1) m in omega arith) (List·Memᴰ·tail m)) in
-          rw e (omega arith)
-      go (no n) both right =
-          let low : b + 1 ≤ s = after bs (ra .1) (past s n (List·Memᴰ·head refl)) in
-          let w : slotsWeight c (s ∷ ss) ≤ slotsWeight c bs =
-          right (λ t m. past t (λ q. let h : s ≤ t = after (s ∷ ss) (le-refl s, rs .1) m in omega arith) m) in
-          omega arith
-
   -- the slots of the approved proofs, from proof i on
   abbrev approved : ℕ → List ProofReading → List ℕ
   approved i [] = []
   approved i (p ∷ ps) = cond (eqb (verdict c i) 0) (p .slot ∷ approved (i + 1) ps) (approved (i + 1) ps)
 
   approved-weight : (i : ℕ) (p : ProofReading) (ps : List ProofReading)
-      → approvedWeight c i p + slotsWeight c (approved (i + 1) ps) ≡ slotsWeight c (approved i (p ∷ ps))
+      → approvedWeight c i p + slotsWeight (c .entries) (approved (i + 1) ps) ≡ slotsWeight (c .entries) (approved i (p ∷ ps))
   unfolding approvedWeight
   approved-weight i p ps = go (eqb (verdict c i) 0)
     where
-      go : (b : Bool) → cond b (entryFor (p .slot) (c .entries) .weight) 0 + slotsWeight c (approved (i + 1) ps)
-          ≡ slotsWeight c (cond b (p .slot ∷ approved (i + 1) ps) (approved (i + 1) ps))
+      go : (b : Bool) → cond b (entryFor (p .slot) (c .entries) .weight) 0 + slotsWeight (c .entries) (approved (i + 1) ps)
+          ≡ slotsWeight (c .entries) (cond b (p .slot ∷ approved (i + 1) ps) (approved (i + 1) ps))
       go true = refl
       go false = omega arith
 
@@ -229,7 +197,7 @@ module _ (c : Context) where
   -- where every proof's rows pass, the walk makes every request and weighs the approved
   walk-each : (clean : Bool) (i weight : ℕ) (made : List ℕ) (ps : List ProofReading) → EachPasses c i (length made) ps
       → walkFrom c clean i weight made ps
-      ≡ walkOutcome (decide Passed (lastRows clean (weight + slotsWeight c (approved i ps)) (c .threshold))) (i + length ps) (made ++ requestsOf c ps)
+      ≡ walkOutcome (decide Passed (lastRows clean (weight + slotsWeight (c .entries) (approved i ps)) (c .threshold))) (i + length ps) (made ++ requestsOf c ps)
   unfolding walkFrom requestsOf
   walk-each clean i weight made [] pass =
       let a : weight + 0 ≡ weight = omega arith in
@@ -238,7 +206,7 @@ module _ (c : Context) where
   walk-each clean i weight made (p ∷ ps) pass =
       let req = requestOf c p in
       let fits : EachPasses c (i + 1) (length (made ++ req)) ps = rw length-append (pass .2) in
-      let a : weight + approvedWeight c i p + slotsWeight c (approved (i + 1) ps) ≡ weight + slotsWeight c (approved i (p ∷ ps)) = omega (arith, approved-weight i p ps) in
+      let a : weight + approvedWeight c i p + slotsWeight (c .entries) (approved (i + 1) ps) ≡ weight + slotsWeight (c .entries) (approved i (p ∷ ps)) = omega (arith, approved-weight i p ps) in
       let b : i + 1 + length ps ≡ i + suc (length ps) = omega arith in
       walk-goes c clean i weight made p ps (all-pass-passed (proofRows c (length made) p) (pass .0)) (pass .1)
       ∙ (walk-each clean (i + 1) (weight + approvedWeight c i p) (made ++ req) ps fits ∙ rw (a, b, append-assoc))
@@ -262,9 +230,9 @@ module _ (c : Context) where
 
 -- where every proof's rows pass, the walk finds what the approved weight makes of the rows behind the last proof
 each-found : (c : Context) (clean : Bool) (ps : List ProofReading) → EachPasses c 0 0 ps
-    → walkFrom c clean 0 0 [] ps .found ≡ decide Passed (lastRows clean (slotsWeight c (approved c 0 ps)) (c .threshold))
+    → walkFrom c clean 0 0 [] ps .found ≡ decide Passed (lastRows clean (slotsWeight (c .entries) (approved c 0 ps)) (c .threshold))
 each-found c clean ps pass =
-    let z : 0 + slotsWeight c (approved c 0 ps) ≡ slotsWeight c (approved c 0 ps) = omega arith in
+    let z : 0 + slotsWeight (c .entries) (approved c 0 ps) ≡ slotsWeight (c .entries) (approved c 0 ps) = omega arith in
     ap (λ (o : WalkOutcome). o .found) (walk-each c clean 0 0 [] ps pass) ∙ rw z
 
 -- Its number is 0 or 28 exactly where nothing follows the proofs and each proof's rows pass.
@@ -273,7 +241,7 @@ pub walk-zero-or-28 : (c : Context) (clean : Bool) (ps : List ProofReading)
 walk-zero-or-28 c clean ps = (last-each c clean 0 0 [] ps, back)
   where
     back : (clean ≡ true) × EachPasses c 0 0 ps → ZeroOr28 (checkNumber (walkFrom c clean 0 0 [] ps .found))
-    back h = rw (each-found c clean ps (h .1), h .0) (end-number (slotsWeight c (approved c 0 ps)) (c .threshold))
+    back h = rw (each-found c clean ps (h .1), h .0) (end-number (slotsWeight (c .entries) (approved c 0 ps)) (c .threshold))
 
 -- Passed exactly where nothing follows the proofs, each proof's rows pass, and there is a quorum.
 pub walk-decides : (c : Context) (clean : Bool) (ps : List ProofReading) → Rising 0 (proofSlots ps)
@@ -289,7 +257,7 @@ walk-decides c clean ps rises = (there, back)
     there : walkFrom c clean 0 0 [] ps .found ≡ Passed → (clean ≡ true) × EachPasses c 0 0 ps × Quorum c ps
     there h =
         let z = walk-zero-or-28 c clean ps .0 (inl (ap checkNumber h)) in
-        let e = end-passes clean (slotsWeight c (approved c 0 ps)) (c .threshold) .0 (sym (each-found c clean ps (z .1)) ∙ h) in
+        let e = end-passes clean (slotsWeight (c .entries) (approved c 0 ps)) (c .threshold) .0 (sym (each-found c clean ps (z .1)) ∙ h) in
         let quorum : Quorum c ps = record {
           set = approved c 0 ps;
           isSet = approved-rising c 0 0 ps rises;
@@ -308,9 +276,9 @@ walk-decides c clean ps rises = (there, back)
     back : (clean ≡ true) × EachPasses c 0 0 ps × Quorum c ps → walkFrom c clean 0 0 [] ps .found ≡ Passed
     back h =
         let q = h .2 in
-        let le = weightOf-le c (q .set) (approved c 0 ps) 0 0 (q .isSet) (approved-rising c 0 0 ps rises) (member q) in
+        let le = weight-subset (c .entries) (q .set) (approved c 0 ps) 0 0 (q .isSet) (approved-rising c 0 0 ps rises) (member q) in
         each-found c clean ps (h .1)
-        ∙ end-passes clean (slotsWeight c (approved c 0 ps)) (c .threshold) .1 (h .0, q .above, omega (arith, q .enough))
+        ∙ end-passes clean (slotsWeight (c .entries) (approved c 0 ps)) (c .threshold) .1 (h .0, q .above, omega (arith, q .enough))
 
 -- Where each proof's rows pass: one request for each proof, in order.
 pub walk-answers : (c : Context) (clean : Bool) (ps : List ProofReading) → EachPasses c 0 0 ps

@@ -17,12 +17,14 @@ use Rattle.account_state.specs.Fields.{auxLengthOf, entryCountOf, entryLengthOf
 use Rattle.account_state.specs.Reading.{EntryReading, entryOf, entriesOf, stateReading, EntriesTyped}
 use Rattle.account_state.specs.State.{stateRows}
 use Rattle.account_state.proofs.Inverse.{Keys, state-typed, state-keys}
+use Rattle.quorum.specs.Slots.{knownSlot, entryFor}
+use Rattle.quorum.specs.Operation.{hasBit, capable}
 use Rattle.account_witness.specs.Reading.{ProofReading, witnessProofs}
 use Rattle.verifier_request.specs.Reading.{RequestTyped}
 use Rattle.verifier_request.specs.Writer as writer
 use Rattle.verifier_request.proofs.RequestTheorem.{request-accepted}
 use Rattle.scene_table.specs.Scene.{Cell}
-use Rattle.decision.specs.Proofs.{Context, contextFor, knownSlot, entryFor, capable, hasBit, requestLimitRows, authenticatorRows, proofRows, requestContent, requestOf}
+use Rattle.decision.specs.Proofs.{Context, contextFor, requestLimitRows, authenticatorRows, proofRows, requestContent, requestOf}
 use Rattle.decision.specs.Requests.{EntryFits, EntriesFit, ContextFits, RequestRead, RequestsRead}
 use Rattle.decision.specs.Decision.{EachPasses, ProofsPass}
 

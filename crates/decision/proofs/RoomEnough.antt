@@ -23,6 +23,7 @@ use Rattle.protocol.proofs.Each.{EachFailing, Refuses, failing-refuses}
 use Rattle.account_state.specs.Fields.{auxLengthOf, entryCountOf, entryLengthOf, keyLengthOf, entrySlotOf}
 use Rattle.account_state.specs.Reading.{EntryReading, entryOf, entriesOf}
 use Rattle.account_state.specs.State as state
+use Rattle.quorum.specs.Slots.{noEntry, entryFor}
 use Rattle.account_witness.specs.Fields.{proofCountOf, proofLengthAt}
 use Rattle.account_witness.specs.Reading.{ProofReading, proofGiven, proofSlots}
 use Rattle.account_witness.specs.Walk as witness
@@ -31,7 +32,7 @@ use Rattle.verifier_request.specs.Fields.{requestSize}
 use Rattle.verifier_request.specs.Writer.{requestTotal}
 use Rattle.verifier_request.proofs.Form.{length-request}
 use Rattle.protocol.specs.Limits.{answerBufferLength}
-use Rattle.decision.specs.Proofs.{Context, noEntry, entryFor, requestLimitRows, authenticatorRows, proofRows, requestContent, requestOf, requestsOf}
+use Rattle.decision.specs.Proofs.{Context, requestLimitRows, authenticatorRows, proofRows, requestContent, requestOf, requestsOf}
 use Rattle.decision.specs.Walk.{WalkOutcome, walkOutcome, verdict, approvedWeight, lastRows, unlessFailed, walkFrom, proofsUntilFault, walkList, walkLock}
 use Rattle.decision.proofs.Listed.{listed-stops, listed-goes, listed-rising, ListBehind}
 

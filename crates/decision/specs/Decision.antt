@@ -1,5 +1,6 @@
--- Demand 3: the lock accepts exactly when every earlier check passes and a set of current-state slots with the capability and an
--- approved proof reaches the threshold, itself above zero; then the answer buffer holds one request for each proof.
+-- Demand 3, what it says of the proofs: every earlier check passes, and a set of current-state slots with the capability and an
+-- approved proof reaches the threshold, itself above zero. The lock asks besides for totals of capacities that pass (02, change 9):
+-- account_lock specs/Decides `LockDecision`.
 use Prim.Native.Nat.{ℕ, _+_, _≤_, _<_}
 use mathlib.Core.Path.{_≡_}
 use mathlib.Core.Logic.{_≢_}
@@ -8,9 +9,11 @@ use mathlib.Core.List.{List, [], _∷_, List·Memᴰ}
 use lib.ListN.{length, getD}
 use Rattle.octets.specs.Lists.{Rising}
 use Rattle.protocol.specs.Rows.{AllPass}
+use Rattle.quorum.specs.Slots.{knownSlot, entryFor, slotsWeight}
+use Rattle.quorum.specs.Operation.{capable}
 use Rattle.account_witness.specs.Reading.{ProofReading, witnessProofs, proofSlots}
 use Rattle.account_witness.specs.Walk.{witnessProofRows}
-use Rattle.decision.specs.Proofs.{Context, knownSlot, entryFor, capable, proofRows, requestOf}
+use Rattle.decision.specs.Proofs.{Context, proofRows, requestOf}
 use Rattle.decision.specs.Walk.{verdict}
 
 -- each proof's rows pass, from proof i on with `used` bytes of the answer written, and its verdict is not 2
@@ -34,14 +37,10 @@ pub record Approved (c : Context) (ps : List ProofReading) (s : ℕ) : Type 0 wh
   pub itsSlot : getD (proofSlots ps) index 0 ≡ s
   pub isApproved : verdict c index ≡ 0
 
-abbrev pub slotsWeight : Context → List ℕ → ℕ
-slotsWeight c [] = 0
-slotsWeight c (s ∷ ss) = entryFor s (c .entries) .weight + slotsWeight c ss
-
 -- a set of such slots, strictly rising, that together weigh at least the threshold, which is above zero
 pub record Quorum (c : Context) (ps : List ProofReading) : Type 0 where
   pub set : List ℕ
   pub isSet : Rising 0 set
   pub each : (s : ℕ) → List·Memᴰ s set → Approved c ps s
-  pub enough : c .threshold ≤ slotsWeight c set
+  pub enough : c .threshold ≤ slotsWeight (c .entries) set
   pub above : 0 < c .threshold

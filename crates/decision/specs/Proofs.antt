@@ -1,18 +1,16 @@
 -- One proof: the rows that it passes before its request is made, and the request.
 use Prim.Native.Nat.{ℕ, _-_}
 use mathlib.Core.Path.{_≡_}
-use mathlib.Core.Bool.{Bool, true, false, cond}
+use mathlib.Core.Bool.{true, cond}
 use mathlib.Core.List.{List, [], _∷_, _++_}
 use lib.ListN.{length, getD}
 use lib.Dec.{eqb, leb}
 use Rattle.octets.specs.Lists.{arrayOf}
-use Rattle.protocol.specs.Policy.{capabilityFor, hasCapability}
 use Rattle.protocol.specs.Rows.{Row, row}
 use Rattle.protocol.specs.declared.error.ProtocolError.the-variants.{InvalidWitness, InvalidCapability, InvalidVerifierRef, InvalidRequest, LengthOverflow, BufferTooShort}
-use Rattle.protocol.specs.declared.policy.OperationCapability.{OperationCapability}
-use Rattle.protocol.specs.declared.policy.OperationCapability.the-variants.{Capability, Refused}
-use Rattle.account_state.specs.Fields.{spendThresholdOf, rotateThresholdOf, recoveryThresholdOf}
 use Rattle.account_state.specs.Reading.{EntryReading, stateEntries}
+use Rattle.quorum.specs.Slots.{knownSlot, entryFor}
+use Rattle.quorum.specs.Operation.{capable, thresholdOf}
 use Rattle.account_witness.specs.Reading.{ProofReading}
 use Rattle.verifier_request.specs.Fields.{requestSize}
 use Rattle.verifier_request.specs.Reading.{RequestReading, requestWith, requestBytes}
@@ -32,11 +30,6 @@ pub record Context : Type 0 where
   pub digest : List ℕ
   pub room : ℕ
 
--- 01, State header: "spend, rotate and recovery thresholds", for the operations 1, 2 and 3
-unfoldable pub thresholdOf : ℕ → List ℕ → ℕ
-thresholdOf operation state =
-    cond (eqb operation 1) (spendThresholdOf state) (cond (eqb operation 2) (rotateThresholdOf state) (recoveryThresholdOf state))
-
 -- what the bytes of the current state settle, beside the scene's deps and digits
 unfoldable pub contextFor : List ℕ → List Cell → List ℕ → ℕ → List ℕ → ℕ → Context
 contextFor state deps digits operation digest room =
@@ -49,27 +42,6 @@ contextFor state deps digits operation digest room =
       digest = digest;
       room = room;
     }
-
--- the state has an entry for the slot, and which
-unfoldable pub knownSlot : ℕ → List EntryReading → Bool
-knownSlot slot [] = false
-knownSlot slot (e ∷ es) = cond (eqb (e .slot) slot) true (knownSlot slot es)
-
-unfoldable pub noEntry : EntryReading
-noEntry =
-    record { slot = 0; algorithm = 0; capabilities = 0; weight = 0; hashType = 0; abi = 0; codeHash = []; key = []; aux = [] }
-
-unfoldable pub entryFor : ℕ → List EntryReading → EntryReading
-entryFor slot [] = noEntry
-entryFor slot (e ∷ es) = cond (eqb (e .slot) slot) e (entryFor slot es)
-
--- the capabilities have the bit that the operation needs
-unfoldable pub hasBit : OperationCapability → ℕ → Bool
-hasBit (Capability bit) capabilities = hasCapability capabilities bit
-hasBit (Refused e) capabilities = false
-
-unfoldable pub capable : ℕ → ℕ → Bool
-capable operation capabilities = hasBit (capabilityFor operation) capabilities
 
 -- 01, each entry: "0 names a dep by data hash, 1 by type hash"
 unfoldable pub verifierField : ℕ → CellField

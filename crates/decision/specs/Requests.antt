@@ -6,10 +6,11 @@ use Rattle.octets.specs.Le.{Bytes}
 use Rattle.octets.specs.Lists.{arrayOf}
 use Rattle.protocol.specs.Rows.{AllPass}
 use Rattle.account_state.specs.Reading.{EntryReading, EntryTyped}
+use Rattle.quorum.specs.Slots.{entryFor}
 use Rattle.account_witness.specs.Reading.{ProofReading}
 use Rattle.verifier_request.specs.Reader.{requestRows}
 use Rattle.verifier_request.specs.Reading as request
-use Rattle.decision.specs.Proofs.{Context, entryFor, requestContent, requestOf}
+use Rattle.decision.specs.Proofs.{Context, requestContent, requestOf}
 
 -- an entry as an accepted state has it: of its types, with a key of 32 bytes, and with bytes in aux
 pub record EntryFits (e : EntryReading) : Type 0 where

@@ -12,7 +12,8 @@ use Rattle.account_witness.specs.Fields.{proofCountOf, witnessHeaderLength, pro
 use Rattle.account_witness.specs.Reading.{ProofReading, proofOf}
 use Rattle.account_witness.specs.Walk as witness
 use Rattle.scene_table.specs.Places.{verdictAt}
-use Rattle.decision.specs.Proofs.{Context, entryFor, proofRows, requestOf}
+use Rattle.quorum.specs.Slots.{entryFor}
+use Rattle.decision.specs.Proofs.{Context, proofRows, requestOf}
 
 -- the verdict of proof i
 unfoldable pub verdict : Context → ℕ → ℕ

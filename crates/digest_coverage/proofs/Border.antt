@@ -25,7 +25,7 @@ all-group [] ws h = refl
 all-group (i ∷ is) [] h = refl
 all-group (i ∷ is) (w ∷ ws) h = let z = every-split _ i is h in rw (z .0, all-group is ws (z .1))
 
--- behind other inputs they have those behind theirs
+-- after other inputs they have those after theirs
 group-more : (is more : List Input) (ws : List (List ℕ)) → every (λ (i : Input). eqb (i .group) 1) more ≡ true
     → groupWitnesses (is ++ more) ws ≡ groupWitnesses is ws ++ take (length more) (drop (length is) ws)
 unfolding groupWitnesses

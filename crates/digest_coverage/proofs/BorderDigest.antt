@@ -23,13 +23,13 @@ use Rattle.group_sighash.specs.Witnesses.{groupOf, groupRows, lockIn}
 use Rattle.state_transition.specs.Resolve.{stateIndices, stateSource, stateIndex, currentState, spendRows, changeRows, resolveRows}
 use Rattle.account_witness.specs.Fields.{operationOf}
 use Rattle.account_lock.specs.Lock as lock
-use Rattle.account_lock.proofs.LockTheorem.{late}
 use Rattle.digest_coverage.specs.Coverage.{SameCovered}
 use Rattle.digest_coverage.specs.Border.{withInputs, MoreGroup}
 use Rattle.digest_coverage.specs.Reaches.{Reaches}
 use Rattle.digest_coverage.proofs.Covered.{one-digest}
-use Rattle.digest_coverage.proofs.Reached.{digest-reached}
+use Rattle.digest_coverage.proofs.HasDigest.{has-digest}
 use Rattle.digest_coverage.proofs.Border.{moved-first, border-unmarked}
+use Rattle.lock_theorems.proofs.Passes.{late}
 
 -- ---- a cell that is found among some is found among more, where it is still the only one
 
@@ -115,4 +115,4 @@ module _ (s : Scene) (more : List Input) where
   -- so the digests are one, for lent memory and for texts
   pub border-one-digest : (d e : List ℕ) → Reaches s d → Reaches (withInputs more s) e → every (λ (i : Input). eqb (i .group) 1) more ≡ true → e ≡ d
   border-one-digest d e a b g =
-      one-digest (withInputs more s) s e d b a (border-covered g (digest-reached s d a .early) (digest-reached (withInputs more s) e b .early))
+      one-digest (withInputs more s) s e d b a (border-covered g (has-digest s d a .early) (has-digest (withInputs more s) e b .early))

@@ -16,7 +16,7 @@ use Rattle.account_state.specs.Fields.{sequenceOf}
 use Rattle.account_lock.specs.Lock as lock
 use Rattle.digest_coverage.specs.Coverage.{SighashParts, sighashInputOf, sighashParts, SameCovered}
 use Rattle.digest_coverage.specs.Reaches.{Reaches}
-use Rattle.digest_coverage.proofs.Reached.{digest-reached}
+use Rattle.digest_coverage.proofs.HasDigest.{has-digest}
 
 -- a scene's sighash is worked out from its parts
 sighashFrom : SighashParts → List ℕ
@@ -48,4 +48,4 @@ covered-digest s t c =
 
 -- so two scenes of which all that a digest covers is the same give one digest, where both reach it
 pub one-digest : (s t : Scene) (d e : List ℕ) → Reaches s d → Reaches t e → SameCovered s t → d ≡ e
-one-digest s t d e a b c = digest-reached s d a .digest ∙ (covered-digest s t c ∙ sym (digest-reached t e b .digest))
+one-digest s t d e a b c = has-digest s d a .digest ∙ (covered-digest s t c ∙ sym (has-digest t e b .digest))

@@ -14,18 +14,19 @@ use Rattle.octets.proofs.LeLaws.{number-lt}
 use Rattle.octets.proofs.Same.{same-eq, eq-same}
 use Rattle.blake2b.specs.State.{ckbHash}
 use Rattle.scene_table.specs.Scene.{Scene}
+use Rattle.scene_table.proofs.SceneBack.{Sayable}
 use Rattle.group_sighash.specs.GroupSighash.{groupSighash}
 use Rattle.account_state.specs.Fields.{sequenceOf}
 use Rattle.account_lock.specs.Lock as lock
 use Rattle.account_lock.proofs.LockLaws.{account-whole}
-use Rattle.account_lock.proofs.LockTheorem.{script-passes}
 use Rattle.digest_coverage.specs.Coverage.{sighashInputOf, sighashParts, DigestParts, digestPartsOf, digestParts, sceneDigestInput, SameCovered, Collision, CollisionIn}
 use Rattle.digest_coverage.specs.Reaches.{Reaches}
 use Rattle.digest_coverage.proofs.InputTheorem.{sighash-covers, digest-covers}
 use Rattle.digest_coverage.proofs.Covered.{one-digest}
-use Rattle.digest_coverage.proofs.Reached.{Reached, digest-reached, reached-input, reached-sighash}
+use Rattle.digest_coverage.proofs.HasDigest.{has-digest, reached-sayable, reached-input, reached-sighash}
 use Rattle.digest_coverage.proofs.SceneBytes.{state-bytes, sighash-input-bytes, digest-input-bytes}
 use Rattle.digest_coverage.proofs.Sizes.{reached-sizes}
+use Rattle.lock_theorems.proofs.Passes.{script-passes}
 
 -- one hash: the same bytes, or a collision
 one-hash : (a b : List ℕ) → Bytes a → Bytes b → ckbHash a ≡ ckbHash b → (a ≡ b) ⊎ Collision a b
@@ -39,10 +40,10 @@ one-hash a b p q e = go (same a b) refl
 module _ (s : Scene) (d : List ℕ) (h : Reaches s d) where
   pub reached-account : length (lock.account s) ≡ 32
   unfolding lock.account
-  reached-account = account-whole (s .script) (script-passes s (digest-reached s d h .early))
+  reached-account = account-whole (s .script) (script-passes s (has-digest s d h .early))
 
   pub reached-sequence : sequenceOf (lock.current s) < 2 ^ 64
-  reached-sequence = omega (arith, number-lt (lock.current s) 8 8 (state-bytes s (digest-reached s d h .sayable)))
+  reached-sequence = omega (arith, number-lt (lock.current s) 8 8 (state-bytes s (reached-sayable s d h)))
 
 module _ (s t : Scene) (d e : List ℕ) (a : Reaches s d) (b : Reaches t e) where
   -- of two scenes whose digests are reached, equal digest inputs have equal parts
@@ -64,13 +65,13 @@ module _ (s t : Scene) (d e : List ℕ) (a : Reaches s d) (b : Reaches t e) wher
   pub equal-digests : d ≡ e → SameCovered s t ⊎ CollisionIn s t
   unfolding digestParts digestPartsOf
   equal-digests h =
-      go (one-hash (sceneDigestInput s) (sceneDigestInput t) (digest-input-bytes s (known .sayable)) (digest-input-bytes t (known' .sayable)) (sym (reached-input s d a) ∙ (h ∙ reached-input t e b)))
+      go (one-hash (sceneDigestInput s) (sceneDigestInput t) (digest-input-bytes s ok) (digest-input-bytes t ok') (sym (reached-input s d a) ∙ (h ∙ reached-input t e b)))
     where
-      known : Reached s d
-      known = digest-reached s d a
+      ok : Sayable s
+      ok = reached-sayable s d a
 
-      known' : Reached t e
-      known' = digest-reached t e b
+      ok' : Sayable t
+      ok' = reached-sayable t e b
 
       covered : digestParts s ≡ digestParts t → (lock.current s ≡ lock.current t) ⊎ Collision (lock.current s) (lock.current t)
           → (sighashInputOf (sighashParts s) ≡ sighashInputOf (sighashParts t)) ⊎ Collision (sighashInputOf (sighashParts s)) (sighashInputOf (sighashParts t))
@@ -90,8 +91,8 @@ module _ (s t : Scene) (d e : List ℕ) (a : Reaches s d) (b : Reaches t e) wher
           let states = ap (λ (q : DigestParts). q .stateHash) p in
           let sighashes = sym (reached-sighash s d a) ∙ (ap (λ (q : DigestParts). q .sighash) p ∙ reached-sighash t e b) in
           covered p
-          (one-hash (lock.current s) (lock.current t) (state-bytes s (known .sayable)) (state-bytes t (known' .sayable)) states)
-          (one-hash (sighashInputOf (sighashParts s)) (sighashInputOf (sighashParts t)) (sighash-input-bytes s (known .sayable)) (sighash-input-bytes t (known' .sayable)) sighashes)
+          (one-hash (lock.current s) (lock.current t) (state-bytes s ok) (state-bytes t ok') states)
+          (one-hash (sighashInputOf (sighashParts s)) (sighashInputOf (sighashParts t)) (sighash-input-bytes s ok) (sighash-input-bytes t ok') sighashes)
       go (inr c) = inr (inl c)
 
   -- what a digest covers, in one statement: where all of it is the same, the digest is; and where the digest is, all of it is the same,

@@ -22,11 +22,11 @@ module _ (p : List ℕ → Bool) where
       go true a e = rw a e
       go false a e = e
 
-  every-behind : (n : ℕ) (ws : List (List ℕ)) → every p ws ≡ true → every p (drop n ws) ≡ true
+  every-after : (n : ℕ) (ws : List (List ℕ)) → every p ws ≡ true → every p (drop n ws) ≡ true
   unfolding every
-  every-behind zero ws h = h
-  every-behind (suc n) [] h = refl
-  every-behind (suc n) (w ∷ ws) h = every-behind n ws (every-split p w ws h .1)
+  every-after zero ws h = h
+  every-after (suc n) [] h = refl
+  every-after (suc n) (w ∷ ws) h = every-after n ws (every-split p w ws h .1)
 
   every-head : (ws : List (List ℕ)) → every p ws ≡ true → p [] ≡ true → p (headOf ws) ≡ true
   unfolding headOf
@@ -42,4 +42,4 @@ module _ (p : List ℕ → Bool) where
     unfolding otherWitnesses groupOf
     every-other =
         let g = every-group (s .inputs) (s .witnesses) h in
-        every-append p _ _ (every-behind 1 (groupOf s) g) (every-behind (length (s .inputs)) (s .witnesses) h)
+        every-append p _ _ (every-after 1 (groupOf s) g) (every-after (length (s .inputs)) (s .witnesses) h)

@@ -19,7 +19,7 @@ use Rattle.authorization.specs.Hashed.{hashedWitness}
 use Rattle.authorization.specs.Sighash.{hashedWitnesses, sighashInput}
 use Rattle.authorization.proofs.SighashTheorem.{hashed-length}
 use Rattle.scene_table.proofs.Lines.{append-parts}
-use Rattle.account_lock.proofs.DigestTheorem.{length-hash}
+use Rattle.blake2b.proofs.Bytes.{length-hash}
 use Rattle.digest_coverage.specs.Coverage.{SighashParts, sighashInputOf, SighashSizes, DigestParts, digestPartsOf}
 
 -- the bytes of a u64 say which it is

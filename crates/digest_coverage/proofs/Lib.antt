@@ -1,10 +1,14 @@
 pub mod InputTheorem
-pub mod Reached
+pub mod HasDigest
 pub mod HashedWitnesses
 pub mod SceneBytes
 pub mod Sizes
+pub mod CanonicalFields
 pub mod Covered
 pub mod EqualDigests
 pub mod LockField
 pub mod Border
 pub mod BorderDigest
+pub mod StoredScene
+pub mod EarlyReaches
+pub mod DigestReach

@@ -22,6 +22,7 @@ use Rattle.state_transition.specs.Resolve.{stateSource, stateIndex, currentStat
 use Rattle.account_lock.specs.Lock as lock
 use Rattle.digest_coverage.specs.Coverage.{sighashParts, SameCovered}
 use Rattle.digest_coverage.specs.Reaches.{Reaches}
+use Rattle.digest_coverage.proofs.CanonicalFields.{canonical-same}
 use Rattle.digest_coverage.proofs.Covered.{sighash-same, one-digest}
 use Rattle.digest_coverage.specs.LockField.{firstReplaced, withFirstWitness, withLockField, DifferInLock}
 
@@ -38,7 +39,7 @@ module _ (witness : List ℕ) where
       go true e h = rw e
       go false e h = rw e h
 
-  -- and so do those behind the inputs
+  -- and so do the extra ones
   extra-rest : (is : List Input) (ws : List (List ℕ)) → drop (length is) (firstReplaced witness is ws) ≡ drop (length is) ws
   unfolding firstReplaced
   extra-rest [] ws = refl
@@ -87,14 +88,9 @@ unfolding currentState stateIndex
 replaced-state witness o id s =
     ap (λ (cells : List Cell). cellAt cells (indexOf (cellSearch TypeHash id cells)) .content) (replaced-cells (stateSource o) witness s)
 
--- the canonical witness has an empty lock field, and fields 2 and 3
-canonical-same : (v w : List ℕ) → field2 v ≡ field2 w → field3 v ≡ field3 w → canonicalOf v ≡ canonicalOf w
-unfolding canonicalOf
-canonical-same v w p q = rw (p, q)
-
 module _ (s t : Scene) (d : DifferInLock s t) where
   same-canonical : canonicalOf (firstWitness t) ≡ canonicalOf (firstWitness s)
-  same-canonical = canonical-same (firstWitness t) (firstWitness s) (d .second) (d .third)
+  same-canonical = canonical-same (firstWitness t) (firstWitness s) (d .fields)
 
   same-others : otherWitnesses t ≡ otherWitnesses s
   same-others = ap otherWitnesses (d .scene) ∙ replaced-others (firstWitness t) s
@@ -133,8 +129,10 @@ any-lock-field s field h small =
     let long = length-three field (field2 w) (field3 w) in
     record {
       scene = rw first;
-      second = rw first (field2-read field (field2 w) (field3 w) (omega arith));
-      third = rw first (field3-read field (field2 w) (field3 w) (omega arith));
+      fields = rw first (record {
+        second = field2-read field (field2 w) (field3 w) (omega arith);
+        third = field3-read field (field2 w) (field3 w) (omega arith);
+      });
     }
 
 -- where two lock fields differ in length, the total sizes at the front of the witnesses differ too

@@ -11,9 +11,10 @@ use lib.Dec.{eqb}
 use lib.ListN.{length, drop}
 use Rattle.octets.specs.Le.{toLe, Bytes}
 use Rattle.octets.specs.Lists.{every, joined}
-use Rattle.octets.specs.Layout.{Field, layoutBytes}
+use Rattle.octets.specs.Layout.{layoutBytes}
 use Rattle.octets.specs.Places.{bytesAt}
 use Rattle.octets.proofs.Every.{every-split, every-map}
+use Rattle.octets.proofs.LayoutLaws.{layout-bytes}
 use Rattle.octets.proofs.LeLaws.{bytes-drop, bytes-take, bytes-append, bytes-to, number-lt}
 use Rattle.octets.proofs.Truth.{and-right}
 use Rattle.blake2b.specs.Rfc7693.{bytesOf, hashWords, hashOf}
@@ -45,7 +46,7 @@ use Rattle.digest_coverage.specs.Coverage.{sighashInputOf, sighashParts,
 
 -- ---- bytes
 
-no-bytes : Bytes []
+pub no-bytes : Bytes []
 no-bytes i = omega arith
 
 one-byte : (b : ℕ) → b < 256 → Bytes (b ∷ [])
@@ -53,7 +54,7 @@ one-byte b h zero = h
 one-byte b h (suc i) = omega arith
 
 -- what passes the test of bytes is bytes
-ok-bytes : (s : List ℕ) → bytesOk s ≡ true → Bytes s
+pub ok-bytes : (s : List ℕ) → bytesOk s ≡ true → Bytes s
 unfolding bytesOk
 ok-bytes [] h i = omega arith
 ok-bytes (b ∷ s) h zero = ltb-true b 256 (every-split _ b s h .0)
@@ -72,11 +73,6 @@ hash-bytes xs = bytes-take 32 (bytesOf (hashWords ckbParameters xs)) (bytes-word
 domain-bytes : Bytes authDomain
 unfolding authDomain bytesOk every
 domain-bytes = ok-bytes authDomain refl
-
-layout-bytes : (fs : List Field) → Bytes (layoutBytes fs)
-unfolding layoutBytes
-layout-bytes [] = no-bytes
-layout-bytes (f ∷ fs) = bytes-append (toLe (f .width) (f .value)) (layoutBytes fs) (bytes-to (f .width) (f .value)) (layout-bytes fs)
 
 -- a part of bytes is, read or not
 part-bytes : (s : List ℕ) (a : PlaceAnswer) → Bytes s → Bytes (bytesIn s a)

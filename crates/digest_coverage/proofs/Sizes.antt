@@ -4,7 +4,7 @@
 use mathlib.Core.Path.{_≡_, refl}
 use mathlib.Core.Bool.{Bool, true}
 use mathlib.Core.List.{List}
-use Prim.Native.Nat.{ℕ, _+_, _^_, _<_}
+use Prim.Native.Nat.{ℕ, _+_, _^_, _≤_, _<_}
 use native.Mathlib.Omega.{arith}
 use borrow.Author.Tests.{leb-true, ltb-true, lt-ltb}
 use lib.Dec.{leb, ltb}
@@ -12,6 +12,7 @@ use lib.ListN.{length}
 use Rattle.octets.specs.Le.{Bytes}
 use Rattle.octets.specs.Lists.{every}
 use Rattle.octets.proofs.Every.{every-more}
+use Rattle.protocol.specs.Rows.{AllPass}
 use Rattle.protocol.specs.declared.check.Check.the-variants.{Passed}
 use Rattle.molecule.proofs.CanonicalForm.{length-canonical, fields-within}
 use Rattle.scene_reader.specs.Reader.{readOf, readerCheck}
@@ -26,13 +27,13 @@ use Rattle.scene_reading.specs.Reading.{sceneOf}
 use Rattle.scene_reading.proofs.PrintBack.{reading-ok}
 use Rattle.scene_reading.proofs.SceneAccepts.{reader-accepts}
 use Rattle.group_sighash.specs.Witnesses.{firstWitness, otherWitnesses, groupRows, firstWitnessRows, otherRows, witnessFits}
-use Rattle.account_lock.proofs.LockTheorem.{late}
-use Rattle.account_lock.proofs.DigestTheorem.{others-pass}
+use Rattle.account_lock.specs.Lock as lock
 use Rattle.decide_scene.proofs.TextBytes.{text-bytes}
 use Rattle.digest_coverage.specs.Coverage.{SighashSizes, sighashParts}
 use Rattle.digest_coverage.specs.Reaches.{Reaches}
-use Rattle.digest_coverage.proofs.Reached.{digest-reached}
+use Rattle.digest_coverage.proofs.HasDigest.{has-digest, reached-sayable}
 use Rattle.digest_coverage.proofs.HashedWitnesses.{every-first, every-other}
+use Rattle.lock_theorems.proofs.Passes.{late, others-fit}
 
 -- of a scene whose first group witness has 20 bytes less than a u64 holds, as the canonical one may have 20 more
 sizes-below : (s : Scene) → Sayable s → length (firstWitness s) + 20 < 2 ^ 64 → every (λ (w : List ℕ). ltb (length w) (2 ^ 64)) (otherWitnesses s) ≡ true
@@ -68,11 +69,18 @@ text-sizes text n m e p =
     scene-sizes (sceneOf (p .lines)) (sayable _ (reading-ok text n p)) (omega (arith, text-bytes text n p))
 
 -- the rows before the proofs' have limits of their own
-pub reached-sizes : (s : Scene) (d : List ℕ) → Reaches s d → SighashSizes (sighashParts s)
-unfolding groupRows firstWitnessRows otherRows witnessFits
-reached-sizes s d h =
-    let known = digest-reached s d h in
-    let first = leb-true (length (firstWitness s)) 132096 (late s (known .early) .0 .1 .0) in
-    let others = others-pass s (known .early) .0 in
-    sizes-below s (known .sayable) (omega arith)
-    (every-more witnessFits (λ (w : List ℕ). ltb (length w) (2 ^ 64)) (λ w f. lt-ltb (length w) (2 ^ 64) (omega (arith, leb-true (length w) 132096 f))) (otherWitnesses s) others)
+module _ (s : Scene) (d : List ℕ) (h : Reaches s d) where
+  early : AllPass (lock.earlyRows s)
+  early = has-digest s d h .early
+
+  pub reached-first : length (firstWitness s) ≤ 132096
+  unfolding groupRows firstWitnessRows
+  reached-first = leb-true (length (firstWitness s)) 132096 (late s early .0 .1 .0)
+
+  pub reached-sizes : SighashSizes (sighashParts s)
+  unfolding otherRows witnessFits
+  reached-sizes =
+      let held : List ℕ → Bool = λ w. ltb (length w) (2 ^ 64) in
+      let others =
+      every-more witnessFits held (λ w f. lt-ltb (length w) (2 ^ 64) (omega (arith, leb-true (length w) 132096 f))) (otherWitnesses s) (others-fit s early .0) in
+      sizes-below s (reached-sayable s d h) (omega (arith, reached-first)) others

@@ -15,7 +15,7 @@ use Rattle.digest_coverage.specs.Coverage.{sighashInputOf, sighashParts}
 unfoldable pub extraWitnesses : Scene → List (List ℕ)
 extraWitnesses s = drop (length (s .inputs)) (s .witnesses)
 
--- the scene with more inputs behind its own, all else the same
+-- the scene with more inputs after its own, all else the same
 unfoldable pub withInputs : List Input → Scene → Scene
 withInputs more s = record {
   script = s .script;
@@ -27,7 +27,7 @@ withInputs more s = record {
   digits = s .digits;
 }
 
--- inputs of the group, put behind those of a scene that has a first group witness
+-- inputs of the group, put after those of a scene that has a first group witness
 pub record MoreGroup (more : List Input) (s : Scene) : Type 0 where
   pub first : 1 ≤ length (groupOf s)
   pub group : every (λ (i : Input). eqb (i .group) 1) more ≡ true

@@ -2,3 +2,4 @@ pub mod Coverage
 pub mod LockField
 pub mod Border
 pub mod Reaches
+pub mod DigestReach

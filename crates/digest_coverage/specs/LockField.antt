@@ -30,9 +30,13 @@ withFirstWitness witness s = record {
 unfoldable pub withLockField : List ℕ → List ℕ → List ℕ
 withLockField field witness = table3Bytes (record { first = field; second = field2 witness; third = field3 witness })
 
--- t is s but for the first group witness, and there fields 2 and 3 are the same. The lock fields may have any lengths: where they
--- differ, the total and the offsets in front of the fields do too
+-- two witnesses that are the same but for the lock field. The lock fields may have any lengths: where they differ, the total and the
+-- offsets in front of the fields do too
+pub record SameFields (v w : List ℕ) : Type 0 where
+  pub second : field2 v ≡ field2 w
+  pub third : field3 v ≡ field3 w
+
+-- t is s but for the first group witness, and there fields 2 and 3 are the same
 pub record DifferInLock (s t : Scene) : Type 0 where
   pub scene : t ≡ withFirstWitness (firstWitness t) s
-  pub second : field2 (firstWitness t) ≡ field2 (firstWitness s)
-  pub third : field3 (firstWitness t) ≡ field3 (firstWitness s)
+  pub fields : SameFields (firstWitness t) (firstWitness s)

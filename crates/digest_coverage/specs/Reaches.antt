@@ -6,12 +6,15 @@ use mathlib.Core.Bool.{true}
 use mathlib.Core.List.{List}
 use Prim.Native.Nat.{ℕ}
 use Rattle.octets.specs.Le.{Bytes}
+use Rattle.protocol.specs.Rows.{AllPass}
 use Rattle.scene_table.specs.Scene.{Scene}
 use Rattle.scene_table.specs.Lent.{sceneIn}
+use Rattle.scene_table.specs.Valid.{sceneOk}
 use Rattle.scene_reading.specs.Lines.{LinesAccepted}
 use Rattle.scene_reading.specs.Reading.{sceneOf}
 use Rattle.account_lock.specs.declared.answer.LockAnswer.{LockAnswer}
 use Rattle.account_lock.specs.Decides.{LockOutcome}
+use Rattle.account_lock.specs.Lock as lock
 use Rattle.decide_scene.specs.Decided.{decided}
 
 -- by `lock`'s own answer, for any table, store and answer buffer that are lent to it
@@ -40,3 +43,10 @@ pub record TextReaches (s : Scene) (d : List ℕ) : Type 0 where
 
 abbrev pub Reaches : Scene → List ℕ → Type 0
 Reaches s d = LockReaches s d ⊎ TextReaches s d
+
+-- 01: "The lock returns .. the digest, none if unreached.": the scenes that reach one are those which a text can say, with at most 64
+-- lines of a kind, and which pass every row before the proofs'; and it is document 01's digest
+pub record HasDigest (s : Scene) (d : List ℕ) : Type 0 where
+  pub scene : sceneOk s ≡ true
+  pub early : AllPass (lock.earlyRows s)
+  pub digest : d ≡ lock.digest s

@@ -1,7 +1,7 @@
 -- 01, main.rs: "Sighash input: transaction hash; canonical first group witness; other group witnesses; witnesses whose index is
 -- at least the number of inputs." The sighash of a scene, and what its function answers.
 use Prim.Native.Nat.{ℕ}
-use mathlib.Core.List.{List, [], _∷_, _++_}
+use mathlib.Core.List.{List, _∷_, _++_}
 use lib.ListN.{length, replicate}
 use lib.Dec.{leb}
 use Rattle.protocol.specs.Rows.{Row, row, decide}

@@ -1,4 +1,4 @@
--- The bytes in a field, the lock of a witness and the args of a script: accepted exactly where every check table-passes, and then
+-- The bytes in a field, the lock of a witness and the args of a script: accepted exactly where every check passes, and then
 -- the field is the vector of the bytes at the place that the reader gives.
 -- Assumes nothing.
 use mathlib.Core.Path.{_≡_, refl, sym, ap, _∙_}
@@ -66,7 +66,7 @@ pub args-read : (s : List ℕ) → AllPass (scriptArgsRows s) → bytesAt s (scr
 unfolding readScriptArgs placeAnswer bytesIn
 args-read s h = rw (all-pass-passed (scriptArgsRows s) h)
 
--- accepted exactly where every check table-passes, refused exactly with the first that fails
+-- accepted exactly where every check passes, refused exactly with the first that fails
 pub bytes-accepts : (field : List ℕ) → (readBytes field ≡ At (bytesPlaceFrom 0 field)) ↔ AllPass (bytesRows InvalidWitness field)
 unfolding readBytes
 bytes-accepts field = place-accepts (bytesRows InvalidWitness field) (bytesPlaceFrom 0 field)
@@ -95,7 +95,7 @@ length-vector : (q : List ℕ) → length (bytesVector q) ≡ 4 + length q
 unfolding bytesVector
 length-vector q = simp (length-append, length-to)
 
--- the one reading of a field that table-passes
+-- the one reading of a field whose rows pass
 vector-one : (e : ProtocolError) (v : List ℕ) → Bytes v → AllPass (bytesRows e v) → OneReading (λ (items : List ℕ). Unit {0}) bytesVector v (take (tableTotalOf v) (drop 4 v))
 vector-one e v b h =
     record {

@@ -1,4 +1,4 @@
--- The canonical witness: 20 bytes, and then fields 2 and 3, where the table table-passes the witness from field 2 on.
+-- The canonical witness: 20 bytes, and then fields 2 and 3, which of a table whose rows pass are the witness from field 2 on.
 -- Assumes nothing.
 use mathlib.Core.Path.{_≡_, refl, sym, ap, _∙_}
 use mathlib.Core.List.{List, [], _∷_, _++_, append-assoc, append-nil}
@@ -71,7 +71,7 @@ fields-within s =
     omega arith
 
 module _ (s : List ℕ) (z : TablePasses s) where
-  -- fields 2 and 3 of a table that table-passes stand end to end
+  -- fields 2 and 3 of a table whose rows pass stand end to end
   pub fields-end : field2 s ++ field3 s ≡ drop (secondOffsetOf s) s
   unfolding field2 field3 between
   fields-end =

@@ -1,7 +1,7 @@
 -- The canonical witness: it is read back with an empty lock and the other two fields as they were, and it is handed out in
 -- parts without a copy.
 -- Assumes nothing.
-use mathlib.Core.Path.{_≡_, refl, sym, _∙_}
+use mathlib.Core.Path.{_≡_, refl, sym}
 use mathlib.Core.List.{List, [], _∷_}
 use Prim.Native.Nat.{ℕ, _+_, _^_, _<_}
 use native.Mathlib.Omega.{arith}

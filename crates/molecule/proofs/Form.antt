@@ -1,4 +1,4 @@
--- Tables of three fields: their written form, what the loose reader's rows and its answer say, and the fields of one that table-passes them.
+-- Tables of three fields: their written form, what the loose reader's rows and its answer say, and the fields of one whose rows pass.
 -- Assumes nothing.
 use mathlib.Core.Path.{_≡_, refl}
 use mathlib.Core.List.{List, [], _∷_, _++_, append-nil}
@@ -46,7 +46,7 @@ module _ (a b c : List ℕ) where
       let n : length (layoutBytes h) ≡ 16 = length-numbers h in
       rw (three-layout) (simp (length-append, n) (omega arith))
 
--- what the rows say of a table that table-passes them
+-- what the rows say of a table where all of them pass
 pub record TablePasses (s : List ℕ) : Type 0 where
   pub header : 16 ≤ length s
   pub total : tableTotalOf s ≡ length s
@@ -72,7 +72,7 @@ unfolding tableRows
 table-passes-hold e s z =
     (le-leb _ _ (z .header), (eq-eqb _ _ (z .total), (eq-eqb _ _ (z .first), (le-leb _ _ (z .second), (le-leb _ _ (z .third), (le-leb _ _ (z .end), tt))))))
 
--- the fields of a table that table-passes
+-- the fields of a table whose rows pass
 module _ (s : List ℕ) (z : TablePasses s) where
   pub length-field1 : length (field1 s) ≡ secondOffsetOf s - 16
   unfolding field1 between
@@ -104,11 +104,3 @@ table-given s f h =
     let z = answer-given (λ k. tableAnswer k (tableFieldsOf s)) tableFound (table-found-back (tableFieldsOf s)) (decide Passed (tableRows InvalidWitness s)) (Fields f) h refl in
     let e : Fields (tableFieldsOf s) ≡ Fields f = z .1 in
     (passed-all-pass (tableRows InvalidWitness s) (z .0), cc)
-
--- the offsets of the answer don't fall or pass the length
-pub given-order : (s : List ℕ) (f : TableFields) → readTable s ≡ Fields f → (f .second ≤ f .third) × (f .third ≤ length s)
-unfolding tableFieldsOf
-given-order s f h =
-    let g = table-given s f h in
-    let z = table-passes InvalidWitness s (g .0) in
-    rw (g .1) (z .third, z .end)

@@ -1,4 +1,4 @@
--- Tables of three fields: accepted exactly where every check table-passes, and then exactly one reading has them as its written
+-- Tables of three fields: accepted exactly where every check passes, and then exactly one reading has them as its written
 -- form, which is the one that the reader gives; and what is written so is accepted. Strict Molecule differs only inside
 -- the fields, which the reader does not open.
 -- Assumes nothing.
@@ -22,7 +22,7 @@ use Rattle.molecule.specs.Table3.{tableRows, tableFieldsOf, tableAnswer,
 use Rattle.molecule.proofs.Form.{length-three, TablePasses, table-passes, table-passes-hold, tableFound, table-found-back, table-given}
 use Rattle.molecule.proofs.Inverse.{table-written, written-passes, field1-read, field2-read, field3-read}
 
--- accepted exactly where every check table-passes
+-- accepted exactly where every check passes
 pub table-accepts : (s : List ℕ) → (readTable s ≡ Fields (tableFieldsOf s)) ↔ AllPass (tableRows InvalidWitness s)
 unfolding readTable tableAnswer
 table-accepts s = answer-accepts (λ k. tableAnswer k (tableFieldsOf s)) tableFound (table-found-back (tableFieldsOf s)) (tableRows InvalidWitness s)
@@ -44,7 +44,7 @@ table-accepted e r h =
     let small : 16 + length a + length b + length c < 2 ^ 32 = omega arith in
     (table-passes-hold e (tableBytes (a ∷ b ∷ c ∷ [])) (written-passes a b c small), rw (field1-read a b c small, field2-read a b c small, field3-read a b c small))
 
--- a table that table-passes has a size that fits
+-- a table whose rows pass has a size that fits
 fits-field : (s : List ℕ) → Bytes s → TablePasses s → length s < 2 ^ 32
 fits-field s b z = rw (z .total) at (number-lt s 0 4 b)
 

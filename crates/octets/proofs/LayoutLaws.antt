@@ -2,14 +2,14 @@
 -- Assumes nothing.
 use mathlib.Core.Path.{_≡_, refl, sym, ap, _∙_}
 use mathlib.Core.List.{List, [], _∷_, _++_, append-assoc}
-use Prim.Native.Nat.{ℕ, zero, suc, _+_, _^_, _≤_, _<_}
-use native.Mathlib.Nat.{add-zero, add-assoc}
+use Prim.Native.Nat.{ℕ, _+_, _≤_}
 use native.Mathlib.Omega.{arith}
+use lib.Dec.{lit<}
 use lib.ListN.{length, take, drop, length-append, length-drop}
 use lib.Seq.{sets, take-add, drop-drop, length-take-le}
 use Rattle.octets.specs.Le.{toLe, fromLe, numberAt, Bytes}
 use Rattle.octets.specs.Layout.{Field, layoutBytes, layoutAt, fieldWidths, layoutWidth, LayoutFits}
-use Rattle.octets.proofs.LeLaws.{length-to, from-to-fit, to-from, bytes-take, bytes-drop}
+use Rattle.octets.proofs.LeLaws.{length-to, from-to-fit, to-from, bytes-take, bytes-drop, bytes-append, bytes-to}
 use Rattle.octets.proofs.Stores.{sets-append}
 use Rattle.octets.proofs.Parts.{part-back}
 
@@ -18,6 +18,12 @@ pub length-numbers : (fs : List Field) → length (layoutBytes fs) ≡ layoutWid
 unfolding layoutBytes
 length-numbers [] = refl
 length-numbers (f ∷ fs) = rw (length-append, length-to (f .width) (f .value), length-numbers fs)
+
+-- and are bytes, whatever its numbers
+pub layout-bytes : (fs : List Field) → Bytes (layoutBytes fs)
+unfolding layoutBytes
+layout-bytes [] = λ i. lit< tt
+layout-bytes (f ∷ fs) = bytes-append (toLe (f .width) (f .value)) (layoutBytes fs) (bytes-to (f .width) (f .value)) (layout-bytes fs)
 
 -- the bytes of one number are written back
 pub number-back : (s : List ℕ) (at w : ℕ) → Bytes s → at + w ≤ length s → toLe w (numberAt s at w) ≡ take w (drop at s)

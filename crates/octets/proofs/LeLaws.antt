@@ -3,7 +3,7 @@
 use mathlib.Core.Path.{_≡_, refl, sym, ap, _∙_}
 use mathlib.Core.List.{List, [], _∷_, _++_}
 use Prim.Native.Nat.{ℕ, zero, suc, _+_, _-_, _*_, _/_, _%_, _^_, _≤_, _<_}
-use native.Mathlib.Nat.{pow-suc, zero-add, one-le-pow, pow-le-pow-right, lt-of-lt-of-le, zero-lt-suc, mod-eq-of-lt, mod-lt, mod-add-div, mul-comm, mul-assoc, add-mul-mod-self-left, le-of-suc-le-suc, not-suc-le-zero}
+use native.Mathlib.Nat.{pow-suc, one-le-pow, pow-le-pow-right, lt-of-lt-of-le, zero-lt-suc, mod-eq-of-lt, mod-lt, mod-add-div, mul-comm, mul-assoc, add-mul-mod-self-left, le-of-suc-le-suc, not-suc-le-zero}
 use native.Mathlib.Omega.{arith}
 use lib.Dec.{lit<}
 use lib.ListN.{length, take, drop, getD, length-drop}

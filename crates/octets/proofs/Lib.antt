@@ -7,3 +7,6 @@ pub mod Parts
 pub mod Arrays
 pub mod Filled
 pub mod Same
+pub mod ZeroLoop
+pub mod RisingLaws
+pub mod Sums

@@ -1,12 +1,12 @@
 -- Runs of stores into a list: one behind another, past the end, and from the front.
 -- Assumes nothing.
-use mathlib.Core.Path.{_≡_, refl, sym, ap, _∙_}
+use mathlib.Core.Path.{_≡_, refl, sym, _∙_}
 use mathlib.Core.List.{List, [], _∷_, _++_, append-nil, append-assoc}
-use Prim.Native.Nat.{ℕ, zero, suc, _+_, _-_, _≤_, _<_}
-use native.Mathlib.Nat.{zero-add, add-zero, sub-zero}
+use Prim.Native.Nat.{ℕ, zero, suc, _+_, _-_, _≤_}
+use native.Mathlib.Nat.{zero-add, add-zero}
 use native.Mathlib.Omega.{arith}
-use lib.ListN.{length, take, drop, set, length-set, length-take, drop-of-length-le}
-use lib.Seq.{sets, sets-eq, set-out, take-at, take-nil, take-all, drop-drop, length-take-le}
+use lib.ListN.{length, take, drop, set, length-set, drop-of-length-le}
+use lib.Seq.{sets, sets-eq, set-out, take-all, drop-drop, length-take-le}
 use borrow.Rule.Slice.PartMut.{midOf, putMid}
 use Rattle.octets.proofs.Parts.{part-length}
 
@@ -43,10 +43,6 @@ sets-over l bs h =
     let m : length l ≤ length (take (length l) bs) = omega arith in
     sym (sets-clip bs l 0 (length l) (omega arith))
     ∙ (sets-front l (take (length l) bs) (omega arith) ∙ rw (drop-of-length-le l m, append-nil))
-
--- what was stored from the front of a list is what its first part holds
-pub front-back : (l m bs : List ℕ) → length bs ≤ length l → m ≡ sets l 0 bs → take (length bs) m ≡ bs
-front-back l m bs h e = rw (e, sets-front l bs h, take-at bs (drop (length bs) l) (length bs) refl)
 
 -- a part of a list was lent, and a run that fills it was stored there
 pub sets-lent : (l bs ys : List ℕ) (at n : ℕ) → length bs ≡ n → at + n ≤ length l → ys ≡ sets (midOf at n l) 0 bs → putMid at n l ys ≡ sets l at bs

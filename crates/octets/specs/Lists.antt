@@ -1,8 +1,8 @@
--- Lists of numbers: equal or not, tested, strictly rising, made from a function, joined from parts, and in an array.
+-- Lists of numbers: equal or not, tested, strictly rising, added up, made from a function, joined from parts, and in an array.
 use Prim.Native.Nat.{ℕ, zero, suc, _+_, _≤_}
 use mathlib.Core.Bool.{Bool, true, false, _&&_}
 use mathlib.Core.List.{List, [], _∷_, _++_}
-use lib.Dec.{eqb}
+use lib.Dec.{eqb, leb}
 use lib.ListN.{replicate}
 use lib.Seq.{sets}
 
@@ -22,6 +22,16 @@ every p (x ∷ xs) = p x && every p xs
 abbrev pub Rising : ℕ → List ℕ → Type 0
 Rising least [] = Unit {0}
 Rising least (s ∷ ss) = (least ≤ s) × Rising (s + 1) ss
+
+-- the test of it
+unfoldable pub isRising : ℕ → List ℕ → Bool
+isRising least [] = true
+isRising least (s ∷ ss) = leb least s && isRising (s + 1) ss
+
+-- the numbers together
+unfoldable pub sum : List ℕ → ℕ
+sum [] = 0
+sum (n ∷ ns) = n + sum ns
 
 -- f 0, f 1, .. f (n - 1)
 unfoldable pub tabulate : (ℕ → ℕ) → ℕ → List ℕ

@@ -1,4 +1,3 @@
-pub mod EntryLaws
 pub mod RequestLaws
 pub mod Answered
 pub mod OneProof

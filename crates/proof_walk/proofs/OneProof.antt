@@ -20,7 +20,8 @@ use Rattle.account_witness.specs.declared.walk.Proof.{Proof}
 use Rattle.account_witness.specs.declared.walk.ProofCursor.{ProofCursor}
 use Rattle.account_witness.specs.declared.walk.ProofStep.the-variants as proof-step
 use Rattle.account_witness.proofs.WalkLaws.{proof-step-next, proof-step-refused}
-use Rattle.decision.specs.Proofs.{Context, entryFor, proofRows}
+use Rattle.quorum.specs.Slots.{entryFor}
+use Rattle.decision.specs.Proofs.{Context, proofRows}
 use Rattle.decision.specs.Walk.{verdict, approvedWeight}
 use Rattle.proof_walk.specs.Steps.{proofWith, RequestStepIs, proofCheck, verdictOutcome, ProofWalked, ProofOutcomeIs}
 use Rattle.proof_walk.specs.declared.request.RequestStep.the-variants as step

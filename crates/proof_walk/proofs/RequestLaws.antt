@@ -17,7 +17,11 @@ use Rattle.protocol.specs.declared.check.WriteAnswer.the-variants.{Written}
 use Rattle.protocol.proofs.Back.{write-room}
 use Rattle.protocol.proofs.AllPass.{passed-all-pass}
 use Rattle.account_state.specs.Fields.{hashTypeOf, codeHashOf, weightOf}
-use Rattle.account_state.specs.Reading.{EntryReading, entryOf, stateEntries}
+use Rattle.account_state.specs.Reading.{EntryReading, entryOf}
+use Rattle.quorum.specs.Slots.{entryFor}
+use Rattle.quorum.specs.Places.{entryPlace, isKnown, entryIn}
+use Rattle.quorum.specs.declared.slot.EntryPlace.{EntryPlace}
+use Rattle.quorum.proofs.PlaceLaws.{place-known, place-entry}
 use Rattle.account_witness.specs.Reading.{ProofReading}
 use Rattle.verifier_request.specs.Reading.{requestBytes}
 use Rattle.verifier_request.specs.Writer.{requestTotal, requestWriterFault, requestWritten, requestStored}
@@ -27,12 +31,11 @@ use Rattle.scene_table.specs.Lent.{sceneIn}
 use Rattle.cell_search.specs.declared.cells.Source.the-variants.{CellDep}
 use Rattle.cell_search.specs.declared.search.Search.{Search}
 use Rattle.cell_search.specs.Search.{cellsOf, matches, searchOf, cellSearch, isOne}
-use Rattle.decision.specs.Proofs.{contextFor, entryFor, verifierField, verifiers, requestLimitRows, authenticatorRows, proofRows, requestContent, requestOf}
+use Rattle.decision.specs.Proofs.{contextFor, verifierField, verifiers, requestLimitRows, authenticatorRows, proofRows, requestContent, requestOf}
 use Rattle.decision.specs.Walk.{answered}
 use Rattle.decision.proofs.RequestsRead.{request-limits}
 use Rattle.proof_walk.specs.Answer.{sceneDeps, walkContext}
-use Rattle.proof_walk.specs.Steps.{isKnown, entryIn, FoundIs, proofWith, foundRows}
-use Rattle.proof_walk.specs.declared.authenticator.Found.{Found}
+use Rattle.proof_walk.specs.Steps.{proofWith, foundRows}
 
 -- just one index
 one-found : (indices : List ℕ) → isOne (searchOf indices) ≡ eqb (length indices) 1
@@ -77,19 +80,19 @@ module _ (known : Bool) (operation : ℕ) (digest : List ℕ) (deps : List Cell)
   made-stored = rw request-passes
 
 -- rows, request and weight by the entry that was found
-module _ (table store state : List ℕ) (operation : ℕ) (digest : List ℕ) (room slot : ℕ) (bytes : List ℕ) (found : Found)
-    (f : FoundIs (stateEntries state) state slot found) where
-  pub found-rows : foundRows (isKnown found) operation (sceneDeps table store) (entryOf (entryIn state found)) (length bytes) room
+module _ (table store state : List ℕ) (operation : ℕ) (digest : List ℕ) (room slot : ℕ) (bytes : List ℕ) (place : EntryPlace)
+    (f : place ≡ entryPlace slot state) where
+  pub found-rows : foundRows (isKnown place) operation (sceneDeps table store) (entryOf (entryIn state place)) (length bytes) room
       ≡ proofRows (walkContext table store state operation digest room) 0 (proofWith slot bytes)
   unfolding proofRows walkContext contextFor foundRows
-  found-rows = rw (f .itsKnown, f .itsEntry, sub-zero)
+  found-rows = rw (f, place-known, place-entry, sub-zero)
 
-  pub found-request : requestBytes (requestContent operation digest (entryOf (entryIn state found)) (proofWith slot bytes))
+  pub found-request : requestBytes (requestContent operation digest (entryOf (entryIn state place)) (proofWith slot bytes))
       ≡ requestOf (walkContext table store state operation digest room) (proofWith slot bytes)
   unfolding requestOf walkContext contextFor
-  found-request = rw (f .itsEntry)
+  found-request = rw (f, place-entry)
 
-  pub found-weight : weightOf (entryIn state found)
+  pub found-weight : weightOf (entryIn state place)
       ≡ entryFor slot (walkContext table store state operation digest room .entries) .weight
   unfolding walkContext contextFor entryOf
-  found-weight = ap (λ (e : EntryReading). e .weight) (f .itsEntry)
+  found-weight = rw f (ap (λ (e : EntryReading). e .weight) (place-entry slot state))

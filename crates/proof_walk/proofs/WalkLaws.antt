@@ -23,7 +23,9 @@ use Rattle.account_witness.specs.Walk as witness
 use Rattle.account_witness.specs.declared.walk.ProofCursor.{ProofCursor}
 use Rattle.scene_table.specs.Lent.{sceneFrom, sceneIn, blankScene}
 use Rattle.scene_table.specs.Places.{verdictAt, verdictOf}
-use Rattle.decision.specs.Proofs.{Context, contextFor, thresholdOf, knownSlot, entryFor, authenticatorRows, proofRows, requestOf}
+use Rattle.quorum.specs.Slots.{knownSlot, entryFor}
+use Rattle.quorum.specs.Operation.{thresholdOf}
+use Rattle.decision.specs.Proofs.{Context, contextFor, authenticatorRows, proofRows, requestOf}
 use Rattle.decision.specs.Walk.{WalkOutcome, walkOutcome, verdict, approvedWeight, lastRows, unlessFailed, walkFrom, unlessFaulty, proofsUntilFault, walkList, walkLock, answered}
 use Rattle.proof_walk.specs.Answer.{sceneDeps, walkContext, walkProofs, proofWalkAnswer}
 use Rattle.proof_walk.specs.Steps.{ProofWalked, ProofOutcomeIs}

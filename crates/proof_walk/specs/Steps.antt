@@ -1,45 +1,28 @@
 -- Private: no public contract cites this file.
--- What each step of the walk gives: the search for an entry, the request of a proof, the outcome of one proof.
+-- What each step of the walk gives: the request of a proof, the outcome of one proof.
 use Prim.Native.Nat.{ℕ, _≤_}
 use mathlib.Core.Path.{_≡_}
 use mathlib.Core.Logic.{_≢_}
-use mathlib.Core.Bool.{Bool, true, false, cond}
-use mathlib.Core.List.{List, [], _∷_}
+use mathlib.Core.Bool.{Bool, cond}
+use mathlib.Core.List.{List, _∷_}
 use lib.Dec.{eqb}
-use lib.ListN.{length, drop}
+use lib.ListN.{length}
 use Rattle.protocol.specs.Rows.{Row, row, _then_, decide}
 use Rattle.protocol.specs.declared.error.ProtocolError.the-variants.{InvalidWitness}
 use Rattle.protocol.specs.declared.check.Check.{Check}
 use Rattle.protocol.specs.declared.check.Check.the-variants as check
-use Rattle.account_state.specs.Reading.{EntryReading, entryOf}
+use Rattle.account_state.specs.Reading.{EntryReading}
+use Rattle.quorum.specs.Slots.{entryFor}
 use Rattle.account_witness.specs.Reading.{ProofReading, proofOf}
 use Rattle.account_witness.specs.Walk as witness
 use Rattle.account_witness.specs.declared.walk.ProofCursor.{ProofCursor}
 use Rattle.scene_table.specs.Scene.{Cell}
-use Rattle.decision.specs.Proofs.{Context, knownSlot, entryFor, authenticatorRows, proofRows, requestOf}
+use Rattle.decision.specs.Proofs.{Context, authenticatorRows, proofRows, requestOf}
 use Rattle.decision.specs.Walk.{verdict, approvedWeight, answered}
-use Rattle.proof_walk.specs.declared.authenticator.Found.{Found}
-use Rattle.proof_walk.specs.declared.authenticator.Found.the-variants.{At, Missing}
 use Rattle.proof_walk.specs.declared.request.RequestStep.{RequestStep}
 use Rattle.proof_walk.specs.declared.request.RequestStep.the-variants as step
 use Rattle.proof_walk.specs.declared.walk.ProofOutcome.{ProofOutcome}
 use Rattle.proof_walk.specs.declared.walk.ProofOutcome.the-variants as outcome
-
--- ---- the entry of a slot
-
--- whether an entry was found, and the bytes from it on
-abbrev pub isKnown : Found → Bool
-isKnown (At at) = true
-isKnown Missing = false
-
-abbrev pub entryIn : List ℕ → Found → List ℕ
-entryIn state (At at) = drop at state
-entryIn state Missing = []
-
--- what the search for a slot's entry finds is what the entries say
-pub record FoundIs (entries : List EntryReading) (state : List ℕ) (slot : ℕ) (found : Found) : Type 0 where
-  pub itsKnown : isKnown found ≡ knownSlot slot entries
-  pub itsEntry : entryOf (entryIn state found) ≡ entryFor slot entries
 
 -- ---- the request of one proof
 

@@ -1,5 +1,4 @@
 // The walk over the proofs of a witness lock: each one's rows, its request in the answer buffer, its verdict and its weight.
-mod authenticator; // authenticator.rt
 mod request; // request.rt
 mod walk; // walk.rt
 

@@ -1,9 +1,5 @@
 // One proof: the rows that it passes before its request is made, and the request.
 use crate::Authorization;
-use crate::authenticator::entry_bytes;
-use crate::authenticator::find_authenticator;
-use crate::authenticator::is_capable;
-use crate::authenticator::is_known;
 use account_state::algorithm_of;
 use account_state::aux_of;
 use account_state::capabilities_of;
@@ -24,6 +20,10 @@ use protocol::VERIFIER_MAX_PROOF_LEN;
 use protocol::VERIFIER_MAX_REQUEST_LEN;
 use protocol::VERIFIER_REQUEST_HEADER_LEN;
 use protocol::WriteAnswer;
+use quorum::entry_in;
+use quorum::find_authenticator;
+use quorum::is_capable;
+use quorum::is_known;
 use verifier_request::encode_verifier_request;
 ghost use mathlib.Core.Path.{_≡_};
 ghost use lib.Dec.{eqb};
@@ -61,8 +61,8 @@ fn resolve_verifier(table: &[u32], store: &[u8], entry: &[u8]) -> bool
     search_cells(table, store, Source::CellDep, field, hash).is_one()
 }
 
-// The rows of a proof of `proof` bytes where `left` bytes of the answer buffer are left.
-fn check_request(
+// The rows of a proof of `proof` bytes by what was found of its entry, where `left` bytes of the answer buffer are left.
+fn check_found(
     table: &[u32],
     store: &[u8],
     known: bool,
@@ -141,10 +141,10 @@ pub(crate) fn make_request(
         (authorization .operation) (authorization .digest) (length (now (out .entry))))
         (proofWith slot (now (proof .entry))) (now (out .entry)) (now (out .exit)) r ⌝ }
 {
-    let found = find_authenticator(state, slot);
-    let entry = entry_bytes(state, found);
-    let known = is_known(found);
-    match check_request(
+    let place = find_authenticator(state, slot);
+    let entry = entry_in(state, place);
+    let known = is_known(place);
+    match check_found(
         table,
         store,
         known,

@@ -1,6 +1,5 @@
 // The walk over the proofs, one by one.
 use crate::Authorization;
-use crate::authenticator::threshold;
 use crate::request::RequestStep;
 use crate::request::make_request;
 use account_witness::ProofCursor;
@@ -12,12 +11,13 @@ use octets::part;
 use protocol::Check;
 use protocol::ProtocolError;
 use protocol::is_operation;
+use quorum::threshold_of;
 use scene_table::verdict;
 ghost use mathlib.Core.Path.{_≡_};
 ghost use lib.Dec.{eqb};
 ghost use lib.ListN.{length};
 ghost use Rattle.protocol.specs.Rows.{decide};
-ghost use Rattle.decision.specs.Proofs.{thresholdOf};
+ghost use Rattle.quorum.specs.Operation.{thresholdOf};
 ghost use Rattle.decision.specs.Walk.{walkLock, answered, lastRows};
 ghost use Rattle.proof_walk.specs.Answer.{walkContext, walkProofs, proofWalkAnswer};
 ghost use Rattle.proof_walk.specs.Steps.{verdictOutcome, ProofOutcomeIs};
@@ -83,10 +83,10 @@ fn walk_proof(
 }
 
 // The checks behind the last proof, where the walk stands at `offset`.
-fn check_end(state: &[u8], lock: &[u8], operation: u8, offset: usize, weight: u32) -> Check
+fn check_last(state: &[u8], lock: &[u8], operation: u8, offset: usize, weight: u32) -> Check
     ensures { λ r. ⌜ r ≡ decide Check.Passed (lastRows (eqb offset (length (now (lock .entry)))) weight (thresholdOf operation (now (state .entry)))) ⌝ }
 {
-    let threshold = threshold(state, operation) as u32;
+    let threshold = threshold_of(state, operation) as u32;
     Check::Passed
         .require(offset == lock.len(), ProtocolError::InvalidWitness)
         .require(0 < threshold, ProtocolError::ThresholdUnsatisfied)
@@ -143,7 +143,7 @@ fn walk_lock(
         }
         i += 1;
     }
-    let found = check_end(state, lock, authorization.operation, cursor.offset, weight);
+    let found = check_last(state, lock, authorization.operation, cursor.offset, weight);
     answer_of(found, i, total)
 }
 

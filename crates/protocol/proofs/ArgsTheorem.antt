@@ -7,12 +7,11 @@ use mathlib.Core.Logic.{_↔_}
 use Prim.Native.Nat.{ℕ, suc, _≤_}
 use native.Mathlib.Omega.{arith}
 use borrow.Author.Tests.{eqb-true}
-use lib.Dec.{eqb}
-use lib.ListN.{length, take, drop, getD}
+use lib.ListN.{length, drop}
 use lib.Seq.{take-all}
 use Rattle.octets.specs.Le.{numberAt}
 use Rattle.octets.proofs.LeLaws.{number-one}
-use Rattle.protocol.specs.Rows.{decide, AllPass, FirstFailed}
+use Rattle.protocol.specs.Rows.{AllPass, FirstFailed}
 use Rattle.protocol.specs.Args.{argsRows, argsAnswer, readArgs, argsBytes, accountOf}
 use Rattle.protocol.specs.Reading.{OneReading}
 use Rattle.protocol.specs.declared.error.ProtocolError.{ProtocolError}
@@ -32,11 +31,6 @@ args-back : (k : Check) → argsFound (argsAnswer k) ≡ k
 unfolding argsAnswer
 args-back Passed = refl
 args-back (Failed e) = refl
-
--- so the reader's answer tells what the rows find
-pub args-found : (s : List ℕ) → argsFound (readArgs s) ≡ decide Passed (argsRows s)
-unfolding readArgs
-args-found s = args-back (decide Passed (argsRows s))
 
 -- accepted exactly where every check passes
 pub args-accepts : (s : List ℕ) → (readArgs s ≡ Args (record { version = 1; «account_id» = 1 })) ↔ AllPass (argsRows s)

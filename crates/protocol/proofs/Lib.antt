@@ -6,3 +6,4 @@ pub mod ArgsTheorem
 pub mod ArgsGiven
 pub mod Outcome
 pub mod Each
+pub mod GivenNumber

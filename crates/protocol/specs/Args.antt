@@ -9,7 +9,6 @@ use Rattle.protocol.specs.Rows.{Row, row, decide}
 use Rattle.protocol.specs.declared.error.ProtocolError.the-variants.{InvalidArgs, UnsupportedVersion}
 use Rattle.protocol.specs.declared.check.Check.{Check}
 use Rattle.protocol.specs.declared.check.Check.the-variants.{Passed, Failed}
-use Rattle.protocol.specs.declared.args.AccountLockArgs.{AccountLockArgs}
 use Rattle.protocol.specs.declared.args.ArgsAnswer.{ArgsAnswer}
 use Rattle.protocol.specs.declared.args.ArgsAnswer.the-variants.{Args, Refused}
 

@@ -6,9 +6,9 @@ use lib.ListN.{length, getD}
 use lib.Dec.{ltb, leb, eqb}
 use Rattle.octets.specs.Lists.{every}
 use Rattle.octets.specs.Le.{u64Halves}
-use Rattle.scene_text.specs.declared.decimal.Decimal.{Decimal}
-use Rattle.scene_text.specs.declared.decimal.Decimal.the-variants.{Value, Invalid}
-use Rattle.scene_text.specs.Text.{inRange, hexOk, hexVal, hexBytes, decimalOf, numberIn}
+use Rattle.text.specs.declared.decimal.Decimal.{Decimal}
+use Rattle.text.specs.declared.decimal.Decimal.the-variants.{Value, Invalid}
+use Rattle.text.specs.Text.{inRange, hexOk, hexVal, hexBytes, decimalOf, numberIn}
 use Rattle.protocol.specs.Limits.{digitsMaxCount}
 use Rattle.scene_line.specs.declared.form.Form.{Form}
 use Rattle.scene_line.specs.declared.form.Form.the-variants.{Group, Since, TypeHash, Hash, TypeScript, Hex, Capacity, Digits}

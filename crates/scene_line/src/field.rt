@@ -2,14 +2,14 @@
 use crate::form::Form;
 use crate::form::hex_form;
 use protocol::DIGITS_MAX_COUNT;
-use scene_text::Decimal;
-use scene_text::all_between;
-use scene_text::hex_ok;
-use scene_text::read_decimal;
+use text::Decimal;
+use text::all_between;
+use text::hex_ok;
+use text::read_decimal;
 ghost use mathlib.Core.Path.{_≡_};
 ghost use Prim.Native.Nat.{_≤_};
 ghost use lib.ListN.{length};
-ghost use Rattle.scene_text.specs.Text.{decimalOf};
+ghost use Rattle.text.specs.Text.{decimalOf};
 ghost use Rattle.scene_line.specs.Line.{isNumber, hashTextOk, fieldOk, bareAfter, fieldBytes};
 
 fn number_ok(f: &[u8]) -> bool

@@ -4,14 +4,14 @@ use crate::field::field_ok;
 use crate::field::field_size;
 use crate::form::Form;
 use crate::form::next_form;
-use scene_text::COMMA;
-use scene_text::find;
-use scene_text::head;
-use scene_text::tail;
+use text::COMMA;
+use text::find;
+use text::head;
+use text::tail;
 ghost use mathlib.Core.Path.{_≡_};
 ghost use Prim.Native.Nat.{_≤_};
 ghost use lib.ListN.{length};
-ghost use Rattle.scene_text.specs.Text.{pieces, comma};
+ghost use Rattle.text.specs.Text.{pieces, comma};
 ghost use Rattle.scene_line.specs.Line.{fieldsFound};
 
 // Whether each field has its form, and how many bytes the fields have.

@@ -1,12 +1,12 @@
 // The kinds of lines.
 use crate::form::Form;
 use octets::same_bytes;
-use scene_text::COMMA;
-use scene_text::count;
+use text::COMMA;
+use text::count;
 ghost use mathlib.Core.Path.{_≡_};
 ghost use mathlib.Core.Bool.{cond};
 ghost use mathlib.Core.List.{_∷_};
-ghost use Rattle.scene_text.specs.Text.{pieces, comma};
+ghost use Rattle.text.specs.Text.{pieces, comma};
 ghost use Rattle.scene_line.specs.Kind.{rank, fieldCount, firstForm, kindOf, follows, lineKind};
 
 pub enum Kind {

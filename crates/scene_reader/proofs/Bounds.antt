@@ -14,7 +14,7 @@ use Rattle.scene_line.specs.declared.form.Form.{Form}
 use Rattle.scene_line.specs.declared.form.Form.the-variants.{Group, Since, TypeHash, Hash, TypeScript, Hex, Capacity, Digits}
 use Rattle.scene_line.specs.declared.kind.Kind.{Kind}
 use Rattle.scene_line.specs.declared.kind.Kind.the-variants.{Script, Tx, Input, Output, Dep, Witness, Verdicts, Unknown}
-use Rattle.scene_text.specs.Text.{hexVal, inRange}
+use Rattle.text.specs.Text.{hexVal, inRange}
 use Rattle.scene_line.specs.Line.{nextForm, fieldOk, bareAfter, fieldEntries, lineEntries, formsOk}
 use Rattle.scene_line.proofs.KindLaws.{rank-small}
 use Rattle.scene_line.specs.Kind.{rank, fieldCount, firstForm, follows}

@@ -5,8 +5,8 @@ use mathlib.Core.List.{List, [], _∷_, _++_}
 use native.Mathlib.Omega.{arith}
 use lib.ListN.{length, take, drop}
 use lib.Seq.{sets}
-use Rattle.scene_text.specs.Text.{pieces, Cut, comma}
-use Rattle.scene_text.proofs.Pieces.{cut-first}
+use Rattle.text.specs.Text.{pieces, Cut, comma}
+use Rattle.text.proofs.Pieces.{cut-first}
 use Rattle.scene_line.specs.declared.form.Form.{Form}
 use Rattle.scene_line.specs.Line.{nextForm, lineBytes, lineEntries}
 use Rattle.scene_line.proofs.FieldLaws.{fields-length, fields-put}

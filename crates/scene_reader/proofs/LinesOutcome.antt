@@ -14,12 +14,12 @@ use Rattle.protocol.specs.Limits.{sceneMaxLength, tableMinEntries}
 use Rattle.scene_reader.specs.declared.state.State.{State}
 use Rattle.scene_reader.specs.declared.state.LineStep.{LineStep}
 use Rattle.scene_reader.specs.declared.state.LineStep.the-variants.{Next, Refused}
-use Rattle.scene_text.specs.Text.{pieces, before, Cut, lineEnd, comma}
+use Rattle.text.specs.Text.{pieces, before, Cut, lineEnd, comma}
 use Rattle.scene_line.specs.declared.kind.Kind.{Kind}
 use Rattle.scene_line.specs.Kind.{lineKind, lineFields}
 use Rattle.scene_reader.specs.Reader.{ReaderState, ReaderOutcome, readerHolds, readerRefuses, outcomeAfter, rowsOfLine, linePut, linesRows, linesPut, linesOutcome, readerStart, sceneLimitRows, sceneRows, readOf}
 use Rattle.scene_reader.specs.Room.{lineOutcomeAs, lineOutcome, sceneEndOutcome, ReadyAfter}
-use Rattle.scene_text.proofs.Pieces.{before-none}
+use Rattle.text.proofs.Pieces.{before-none}
 
 pub kept-more : (s : State) (n m a b : ℕ) → n ≤ m → (r : LineStep) → ReadyAfter s n a b r → ReadyAfter s m a b r
 kept-more s n m a b h (Next t) k = (k .0, omega arith)

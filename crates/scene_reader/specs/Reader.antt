@@ -10,7 +10,7 @@ use Rattle.protocol.specs.declared.error.ProtocolError.{ProtocolError}
 use Rattle.protocol.specs.declared.error.ProtocolError.the-variants.{SceneTooLong, InvalidLine, InvalidField, TooManyLines, StoreTooShort}
 use Rattle.protocol.specs.declared.check.Check.{Check}
 use Rattle.protocol.specs.declared.check.Check.the-variants.{Passed, Failed}
-use Rattle.scene_text.specs.Text.{pieces, comma, lineEnd}
+use Rattle.text.specs.Text.{pieces, comma, lineEnd}
 use Rattle.scene_line.specs.declared.kind.Kind.{Kind}
 use Rattle.scene_line.specs.Line.{formsOk, lineBytes, lineEntries}
 use Rattle.scene_line.specs.Kind.{rank, firstForm, lineKind, lineFields}
@@ -37,8 +37,8 @@ abbrev pub seenWith : ℕ → ℕ → ℕ → ℕ
 seenWith last seen k = cond (eqb k last) (seen + 1) 1
 
 -- 01: "The reader puts the bytes of all hexadecimal fields end to end into a lent store, the rest into a lent u32 table": a line
--- put down. Its kind's count stands at the table's entry `rank k`; behind the table's entries the offset of its bytes in the
--- store and its numbers; behind the store's bytes its bytes
+-- put down. Its kind's count stands at the table's entry `rank k`; after the table's entries the offset of its bytes in the
+-- store and its numbers; after the store's bytes its bytes
 unfoldable pub linePutAs : ReaderState → Kind → List (List ℕ) → ReaderState
 linePutAs h k fs = record {
   last = rank k;
@@ -96,10 +96,13 @@ outcomeAfter Passed h = readerHolds h
 unfoldable pub linesOutcome : ReaderState → List (List ℕ) → ReaderOutcome
 linesOutcome h ls = outcomeAfter (decide Passed (linesRows h ls)) (linesPut h ls)
 
--- 01: "both are zeroed first": a store of n bytes and a table of m entries; the table's first eight entries are for the counts
--- of the kinds
+-- the table's entry where the first line's record begins: its first eight entries are for the counts of the kinds
+abbrev pub firstRecordAt : ℕ
+firstRecordAt = 8
+
+-- 01: "both are zeroed first": a store of n bytes and a table of m entries
 unfoldable pub readerStart : ℕ → ℕ → ReaderState
-readerStart n m = record { last = 0; seen = 0; used = 0; filled = 8; store = replicate n 0; table = replicate m 0 }
+readerStart n m = record { last = 0; seen = 0; used = 0; filled = firstRecordAt; store = replicate n 0; table = replicate m 0 }
 
 -- 01: "reader: above 1,048,576 bytes", 1; "reader: table below 2,048 entries", 6
 unfoldable pub sceneLimitRows : List ℕ → ℕ → List Row

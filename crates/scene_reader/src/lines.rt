@@ -1,7 +1,9 @@
 // Lines one by one.
 use crate::put::put_line;
+use crate::state::FIRST_RECORD_AT;
 use crate::state::LineStep;
 use crate::state::State;
+use crate::state::seen_with;
 use protocol::Check;
 use protocol::KIND_MAX_LINES;
 use protocol::ProtocolError;
@@ -12,33 +14,22 @@ use scene_line::check_fields;
 use scene_line::first_form;
 use scene_line::line_kind;
 use scene_line::rank_of;
-use scene_text::COMMA;
-use scene_text::LINE_END;
-use scene_text::find;
-use scene_text::head;
-use scene_text::tail;
+use text::COMMA;
+use text::LINE_END;
+use text::find;
+use text::head;
+use text::tail;
 ghost use mathlib.Core.Path.{_≡_};
 ghost use mathlib.Core.Bool.{true};
 ghost use mathlib.Core.List.{List};
 ghost use Prim.Native.Nat.{ℕ, _+_, _≤_};
-ghost use lib.ListN.{length, replicate};
-ghost use Rattle.protocol.specs.declared.check.Check.the-variants.{Passed};
-ghost use Rattle.scene_text.specs.Text.{pieces, comma, lineEnd};
+ghost use lib.ListN.{length};
+ghost use Rattle.octets.specs.Zeroed.{zeroed};
+ghost use Rattle.text.specs.Text.{pieces, comma, lineEnd};
 ghost use Rattle.scene_line.specs.Kind.{rank, fieldCount, follows};
 ghost use Rattle.protocol.specs.Limits.{sceneMaxLength, tableMinEntries, kindMaxLines};
-ghost use Rattle.scene_reader.specs.Reader.{seenWith, linesOutcome, readerStart};
+ghost use Rattle.scene_reader.specs.Reader.{linesOutcome, readerStart};
 ghost use Rattle.scene_reader.specs.Room.{lineOutcomeAs, lineOutcome, sceneEndOutcome, ReaderReady, ReadyAfter, stateHolding, stepOutcome, LineChecked};
-
-// How many lines of the kind of rank k were read, with this one.
-pub(crate) fn seen_with(last: usize, seen: usize, k: usize) -> usize
-    requires { ⌜ seen ≤ kindMaxLines ⌝ }
-    ensures { λ r. ⌜ r ≡ seenWith last seen k ⌝ }
-{
-    if k == last {
-        return seen + 1;
-    }
-    1
-}
 
 // What the rows of a line of kind k find, its fields and a store of room bytes being as found.
 fn check_line(k: Kind, s: State, found: FieldsFound, room: usize) -> Check
@@ -101,7 +92,7 @@ fn finish_at(s: State, rest: &[u8]) -> LineStep
 // All lines, into a store and a table that are all zero.
 pub(crate) fn read_lines(scene: &[u8], store: &mut [u8], table: &mut [u32]) -> LineStep
     requires { ⌜ (length (now scene) ≤ sceneMaxLength) × (tableMinEntries ≤ length (now table)) ⌝ }
-    requires { ⌜ (now store ≡ replicate (length (now store)) 0) × (now table ≡ replicate (length (now table)) 0) ⌝ }
+    requires { ⌜ (now store ≡ zeroed (now store)) × (now table ≡ zeroed (now table)) ⌝ }
     ensures { λ r. ⌜ stepOutcome r (now (store .exit)) (now (table .exit))
         ≡ linesOutcome (readerStart (length (now (store .entry))) (length (now (table .entry)))) (pieces lineEnd (now (scene .entry))) ⌝ }
 {
@@ -110,7 +101,7 @@ pub(crate) fn read_lines(scene: &[u8], store: &mut [u8], table: &mut [u32]) -> L
         last: 0,
         seen: 0,
         used: 0,
-        filled: 8,
+        filled: FIRST_RECORD_AT,
     };
     loop {
         let e = find(rest, LINE_END);

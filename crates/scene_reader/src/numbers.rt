@@ -1,14 +1,14 @@
 // The numbers of fields, put into the table.
 use scene_line::Form;
-use scene_text::Decimal;
-use scene_text::hex_value;
-use scene_text::read_decimal;
+use text::Decimal;
+use text::hex_value;
+use text::read_decimal;
 ghost use mathlib.Core.Path.{_≡_};
 ghost use Prim.Native.Nat.{_+_, _≤_};
 ghost use mathlib.Core.List.{_∷_, map};
 ghost use lib.ListN.{length, getD};
 ghost use lib.Seq.{sets};
-ghost use Rattle.scene_text.specs.Text.{hexVal, decimalOf, numberIn};
+ghost use Rattle.text.specs.Text.{hexVal, decimalOf, numberIn};
 ghost use Rattle.octets.specs.Le.{u64Halves};
 ghost use Rattle.scene_line.specs.Line.{fieldEntries};
 ghost use Rattle.protocol.specs.Limits.{sceneMaxLength};

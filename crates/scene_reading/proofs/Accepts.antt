@@ -8,7 +8,7 @@ use native.Mathlib.Nat.{zero-add}
 use native.Mathlib.Omega.{arith}
 use lib.ListN.{length, replicate, length-append, length-replicate}
 use Rattle.octets.specs.Lists.{joined, every}
-use Rattle.scene_text.specs.Text.{pieces, lineEnd}
+use Rattle.text.specs.Text.{pieces, lineEnd}
 use Rattle.scene_line.specs.Kind.{rank}
 use Rattle.scene_reader.specs.Reader.{ReaderState, readerHolds, seenWith, linesOutcome, readerStart}
 use Rattle.scene_reading.specs.Lines.{LinesAccepted, kindOfLine, countOk, formOk, bytesOfLine}

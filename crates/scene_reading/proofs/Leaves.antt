@@ -9,7 +9,7 @@ use lib.ListN.{length, drop, set, replicate, length-replicate}
 use lib.Seq.{sets}
 use Rattle.octets.specs.Lists.{joined}
 use Rattle.octets.proofs.Stores.{sets-append, sets-front}
-use Rattle.scene_text.specs.Text.{pieces, lineEnd}
+use Rattle.text.specs.Text.{pieces, lineEnd}
 use Rattle.scene_line.specs.declared.kind.Kind.{Kind}
 use Rattle.scene_line.specs.Kind.{rank, firstForm}
 use Rattle.scene_line.specs.Line.{lineEntries}

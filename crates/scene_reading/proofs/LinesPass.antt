@@ -13,7 +13,7 @@ use Rattle.protocol.specs.Rows.{decide, AllPass}
 use Rattle.protocol.specs.declared.check.Check.{Check}
 use Rattle.protocol.specs.declared.check.Check.the-variants.{Passed, Failed}
 use Rattle.protocol.proofs.AllPass.{passed-all-pass, all-pass-passed}
-use Rattle.scene_text.specs.Text.{pieces, comma, lineEnd}
+use Rattle.text.specs.Text.{pieces, comma, lineEnd}
 use Rattle.scene_line.specs.declared.kind.Kind.{Kind}
 use Rattle.scene_line.specs.declared.kind.Kind.the-variants.{Unknown}
 use Rattle.scene_line.specs.Kind.{rank, fieldCount, firstForm, kindOf, follows, lineKind, lineFields}

@@ -4,8 +4,8 @@ use Prim.Native.Nat.{ℕ}
 use mathlib.Core.Path.{_≡_}
 use mathlib.Core.List.{List, [], _∷_, map, append-assoc, append-nil}
 use lib.ListN.{length-map}
-use Rattle.scene_text.specs.Text.{hexVal, hexBytes}
-use Rattle.scene_text.proofs.HexLaws.{hex-length}
+use Rattle.text.specs.Text.{hexVal, hexBytes}
+use Rattle.text.proofs.HexLaws.{hex-length}
 use Rattle.scene_line.specs.declared.form.Form.{Form}
 use Rattle.scene_line.specs.declared.form.Form.the-variants.{Group, TypeHash, Hash, Hex, Digits}
 use Rattle.scene_line.specs.Kind.{firstForm}

@@ -14,7 +14,7 @@ use Rattle.scene_line.specs.Kind.{script, tx, witness, verdicts}
 use Rattle.scene_table.specs.Scene.{Input, Scene}
 use Rattle.scene_table.specs.Valid.{bytesOk, hashBytesOk, cellOk, inputOk, outputOk, fewOf, digitsOk, sceneOk}
 use Rattle.octets.proofs.Truth.{and-left, and-right}
-use Rattle.scene_text.specs.Print.{lineText, digitsText}
+use Rattle.text.specs.Print.{lineText, digitsText}
 use Rattle.scene_reading.specs.Lines.{LinesAccepted, kindsOf, kindOfLine, countOk, formOk}
 use Rattle.scene_reading.specs.Print.{inputText, outputText, depText, bytesText, textLines, textOf}
 use Rattle.scene_reading.specs.Reading.{sceneOf}

@@ -9,14 +9,14 @@ use borrow.Author.Tests.{ltb-true, eqb-true, eqb-false, not-true, lt-ltb, le-ltb
 use lib.ListN.{length}
 use lib.Dec.{ltb, eqb}
 use Rattle.octets.specs.Lists.{every}
-use Rattle.scene_text.specs.declared.decimal.Decimal.the-variants.{Value, Invalid}
-use Rattle.scene_text.specs.Text.{inRange, isHex, hexVal, hexOk, hexBytes, decimal, plain, numberOf, decimalOf, numberIn}
-use Rattle.scene_text.proofs.RangeLaws.{between-yes, between-low, between-high}
+use Rattle.text.specs.declared.decimal.Decimal.the-variants.{Value, Invalid}
+use Rattle.text.specs.Text.{inRange, isHex, hexVal, hexOk, hexBytes, decimal, plain, numberOf, decimalOf, numberIn}
+use Rattle.text.proofs.RangeLaws.{between-yes, between-low, between-high}
 use Rattle.scene_line.specs.Line.{isNumber}
 use Rattle.scene_table.specs.Valid.{bytesOk}
 use Rattle.octets.proofs.Every.{every-left, every-right}
 use Rattle.octets.proofs.Truth.{and-left, and-right}
-use Rattle.scene_text.specs.Print.{digitText, hexText, decimalText, digitsText}
+use Rattle.text.specs.Print.{digitText, hexText, decimalText, numberText, digitsText}
 use Rattle.scene_reading.proofs.PrintDigits.{Leads, decimal-append, tenth}
 
 -- a digit is the text of its value
@@ -153,10 +153,10 @@ plain-print n (x ∷ s) p h = go s (eqb (length (x ∷ s)) 1) refl d (and-right 
 -- a decimal field is the text of its number
 pub record DecimalPrint (f : List ℕ) : Type 0 where
   pub fits : numberIn (decimalOf f) < 2 ^ 64
-  pub text : decimalText 20 (numberIn (decimalOf f)) ≡ f
+  pub text : numberText (numberIn (decimalOf f)) ≡ f
 
 pub decimal-print : (f : List ℕ) → isNumber (decimalOf f) ≡ true → DecimalPrint f
-unfolding decimalOf numberOf numberIn
+unfolding decimalOf numberOf numberIn numberText
 decimal-print f h = go (plain f) refl (ltb (decimal 0 f) (2 ^ 64)) refl h
   where
     go : (a : Bool) → plain f ≡ a → (b : Bool) → ltb (decimal 0 f) (2 ^ 64) ≡ b → isNumber (cond a (cond b (Value (decimal 0 f)) Invalid) Invalid) ≡ true → DecimalPrint f

@@ -9,13 +9,13 @@ use borrow.Author.Tests.{ltb-true, eqb-true, eq-eqb, ne-eqb, lt-ltb}
 use lib.ListN.{length, getD}
 use lib.Dec.{ltb, eqb}
 use Rattle.octets.specs.Lists.{every}
-use Rattle.scene_text.specs.Text.{inRange, hexOk, hexVal, hexBytes, decimalOf, numberIn}
+use Rattle.text.specs.Text.{inRange, hexOk, hexVal, hexBytes, decimalOf, numberIn}
 use Rattle.scene_line.specs.declared.form.Form.the-variants.{Group, TypeHash, Capacity}
 use Rattle.scene_line.specs.Line.{formsOk, isNumber}
 use Rattle.scene_table.specs.Valid.{bytesOk, hashBytesOk, cellOk, inputOk, outputOk}
 use Rattle.octets.proofs.Truth.{and-left, and-right}
-use Rattle.scene_text.specs.Print.{hexText, digitsText}
-use Rattle.scene_text.proofs.HexLaws.{hex-text-length}
+use Rattle.text.specs.Print.{hexText, digitsText}
+use Rattle.text.proofs.HexLaws.{hex-text-length}
 use Rattle.scene_reading.specs.Print.{cellFields, inputFields, outputFields}
 use Rattle.scene_reading.specs.Reading.{cellOf, decimalField, inputOf, outputOf}
 use Rattle.scene_reading.proofs.PrintBackDigits.{HexPrint, hex-print, decimal-print, DigitsPrint, digits-print}

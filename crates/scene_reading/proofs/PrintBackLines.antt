@@ -10,8 +10,8 @@ use lib.ListN.{length, length-map, getD}
 use lib.Dec.{lit<, eqb, leb}
 use Rattle.octets.specs.Lists.{same, every}
 use Rattle.octets.proofs.Same.{same-eq}
-use Rattle.scene_text.specs.Text.{inRange, before, pieces, hexOk, hexVal, hexBytes, lineEnd, comma}
-use Rattle.scene_text.proofs.Pieces.{before-none}
+use Rattle.text.specs.Text.{inRange, before, pieces, hexOk, hexVal, hexBytes, lineEnd, comma}
+use Rattle.text.proofs.Pieces.{before-none}
 use Rattle.scene_line.specs.declared.kind.Kind.{Kind}
 use Rattle.scene_line.specs.declared.kind.Kind.the-variants as kind
 use Rattle.scene_line.specs.declared.form.Form.the-variants.{Hex}
@@ -19,7 +19,7 @@ use Rattle.scene_line.specs.Kind.{rank, kindOf, fieldCount, firstForm, lineFiel
 use Rattle.scene_line.specs.Line.{formsOk}
 use Rattle.scene_table.specs.Valid.{bytesOk, hashBytesOk, cellOk, inputOk, outputOk, digitsOk}
 use Rattle.octets.proofs.Truth.{and-left, and-right}
-use Rattle.scene_text.specs.Print.{partedBy, lineText, digitsText, endedLines}
+use Rattle.text.specs.Print.{partedBy, lineText, digitsText, endedLines}
 use Rattle.scene_reading.specs.Lines.{wordOf, kindOfLine, fieldsOfLine, countOk, formOk}
 use Rattle.scene_reading.specs.Print.{cellFields, inputFields, outputFields, inputText, outputText, depText, bytesText}
 use Rattle.scene_reading.specs.Reading.{cellOf, inputOf, outputOf}

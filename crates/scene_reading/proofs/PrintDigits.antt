@@ -10,14 +10,14 @@ use borrow.Author.Tests.{ltb-true, ltb-false, lt-ltb, le-leb, lt-leb, ne-eqb}
 use lib.ListN.{length, getD, length-append, length-map, List·getD-append}
 use lib.Dec.{ltb, leb, eqb}
 use Rattle.octets.specs.Lists.{every}
-use Rattle.scene_text.specs.declared.decimal.Decimal.the-variants.{Value}
-use Rattle.scene_text.specs.Text.{inRange, isHex, hexVal, hexOk, hexBytes, decimal, plain, numberOf, decimalOf}
-use Rattle.scene_text.proofs.RangeLaws.{between-yes}
+use Rattle.text.specs.declared.decimal.Decimal.the-variants.{Value}
+use Rattle.text.specs.Text.{inRange, isHex, hexVal, hexOk, hexBytes, decimal, plain, numberOf, decimalOf}
+use Rattle.text.proofs.RangeLaws.{between-yes}
 use Rattle.scene_table.specs.Valid.{bytesOk}
 use Rattle.octets.proofs.Every.{every-append, every-more}
 use Rattle.octets.proofs.Truth.{and-left, and-right}
-use Rattle.scene_text.specs.Print.{digitText, hexText, decimalText, digitsText}
-use Rattle.scene_text.proofs.HexLaws.{hex-text-length}
+use Rattle.text.specs.Print.{digitText, hexText, decimalText, numberText, digitsText}
+use Rattle.text.proofs.HexLaws.{hex-text-length}
 
 -- what a digit's text is: a digit's value, its form, and no byte below 48
 record Digit (d x : ℕ) : Type 0 where
@@ -146,8 +146,9 @@ decimal-plain n v h = go (ltb v 10) refl (decimal-digits (suc n) v)
         let l = ltb-false v 10 e in
         leads-plain _ (rw e at r) (leads-append (decimalText n (v / 10)) ((48 + v % 10) ∷ []) (decimal-leads n (v / 10) (omega arith) (tenth n v h)))
 
-pub decimal-back : (v : ℕ) → v < 2 ^ 64 → decimalOf (decimalText 20 v) ≡ Value v
-unfolding decimalOf numberOf
+-- a number of 64 bits is read back from its text
+pub decimal-back : (v : ℕ) → v < 2 ^ 64 → decimalOf (numberText v) ≡ Value v
+unfolding decimalOf numberOf numberText
 decimal-back v h =
     let k : v < 10 ^ 20 = omega arith in
     rw (decimal-plain 19 v k, decimal-value 20 v k, lt-ltb v (2 ^ 64) h)
@@ -155,8 +156,9 @@ decimal-back v h =
 between-high : (l h : ℕ) (s : List ℕ) → every (inRange l h) s ≡ true → every (leb l) s ≡ true
 between-high l h s e = every-more (inRange l h) (leb l) (λ x. and-left (leb l x) (leb x h)) s e
 
-pub decimal-high : (n v : ℕ) → every (leb 48) (decimalText n v) ≡ true
-decimal-high n v = between-high 48 57 (decimalText n v) (decimal-digits n v)
+pub decimal-high : (v : ℕ) → every (leb 48) (numberText v) ≡ true
+unfolding numberText
+decimal-high v = between-high 48 57 (decimalText 20 v) (decimal-digits 20 v)
 
 -- digits below m: DIGITS and GROUP
 module _ (m : ℕ) (small : m ≤ 10) where

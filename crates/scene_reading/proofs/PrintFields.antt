@@ -10,14 +10,14 @@ use borrow.Author.Tests.{ltb-true, eqb-true, eqb-false, lt-ltb}
 use lib.ListN.{length, getD}
 use lib.Dec.{ltb, leb, eqb}
 use Rattle.octets.specs.Lists.{every}
-use Rattle.scene_text.specs.Text.{hexOk, hexVal, numberIn}
+use Rattle.text.specs.Text.{hexOk, hexVal, numberIn}
 use Rattle.scene_line.specs.declared.form.Form.the-variants.{Group, TypeHash, Capacity}
 use Rattle.scene_line.specs.Line.{formsOk}
 use Rattle.scene_table.specs.Scene.{Cell, Input, Output}
 use Rattle.scene_table.specs.Valid.{bytesOk, hashBytesOk, cellOk, inputOk, outputOk}
 use Rattle.octets.proofs.Truth.{and-left, and-right}
-use Rattle.scene_text.specs.Print.{hexText, decimalText, digitsText}
-use Rattle.scene_text.proofs.HexLaws.{hex-text-length}
+use Rattle.text.specs.Print.{hexText, numberText, digitsText}
+use Rattle.text.proofs.HexLaws.{hex-text-length}
 use Rattle.scene_reading.specs.Print.{cellFields, inputFields, outputFields}
 use Rattle.scene_reading.specs.Reading.{cellOf, decimalField, inputOf, outputOf}
 use Rattle.scene_reading.proofs.PrintDigits.{hex-back, hex-ok, hex-high, decimal-back, decimal-high, digits-form, digits-high, digits-back}
@@ -139,11 +139,11 @@ output-holds o h =
 
 module _ (o : Output) (h : OutputHolds o) where
   last : List (List ℕ)
-  last = decimalText 20 (o .capacity) ∷ []
+  last = numberText (o .capacity) ∷ []
 
   pub output-high : every (every (leb 48)) (outputFields o) ≡ true
   unfolding outputFields last every
-  output-high = cell-high (o .cell) (h .cell) last (rw (decimal-high 20 (o .capacity)))
+  output-high = cell-high (o .cell) (h .cell) last (rw (decimal-high (o .capacity)))
 
   pub output-form : formsOk true TypeHash (outputFields o) ≡ true
   unfolding outputFields last formsOk
@@ -182,7 +182,7 @@ module _ (i : Input) (h : InputHolds i) where
   unfolding inputFields outputFields every digitsText
   input-high =
       let e : every (leb 48) ((48 + i .group) ∷ []) ≡ true = digits-high 2 (omega arith) (i .group ∷ []) (h .group) in
-      rw (e, decimal-high 20 (i .since)) (output-high (spentOf i) (h .spent))
+      rw (e, decimal-high (i .since)) (output-high (spentOf i) (h .spent))
 
   pub input-form : formsOk true Group (inputFields i) ≡ true
   unfolding inputFields outputFields formsOk digitsText

@@ -16,10 +16,10 @@ use Rattle.scene_line.specs.Kind.{kindOf, fieldCount, firstForm, lineFields, sc
 use Rattle.scene_line.specs.Line.{formsOk}
 use Rattle.scene_table.specs.Scene.{Cell, Input, Output, Line, bytesLine, hashLine, inputLine, outputLine, cellLine, digitsLine}
 use Rattle.scene_table.specs.Valid.{bytesOk}
-use Rattle.scene_text.specs.Text.{lineEnd, comma}
+use Rattle.text.specs.Text.{lineEnd, comma}
 use Rattle.octets.proofs.Every.{every-append, every-more}
 use Rattle.octets.proofs.Truth.{and-left, and-right}
-use Rattle.scene_text.specs.Print.{partedBy, lineText, hexText, digitsText}
+use Rattle.text.specs.Print.{partedBy, lineText, hexText, digitsText}
 use Rattle.scene_reading.specs.Lines.{wordOf, kindOfLine, fieldsOfLine, countOk, formOk}
 use Rattle.scene_reading.specs.Print.{cellFields, inputFields, outputFields, inputText, outputText, depText, bytesText}
 use Rattle.scene_reading.specs.Reading.{cellOf}

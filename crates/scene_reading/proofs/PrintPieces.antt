@@ -7,10 +7,10 @@ use mathlib.Core.List.{List, [], _∷_, _++_, append-nil}
 use borrow.Author.Tests.{not-true, eq-eqb}
 use lib.Dec.{eqb}
 use Rattle.octets.specs.Lists.{every}
-use Rattle.scene_text.specs.Text.{before, pieces, comma, lineEnd}
-use Rattle.scene_text.proofs.Pieces.{before-before, before-none}
+use Rattle.text.specs.Text.{before, pieces, comma, lineEnd}
+use Rattle.text.proofs.Pieces.{before-before, before-none}
 use Rattle.octets.proofs.Truth.{and-left, and-right}
-use Rattle.scene_text.specs.Print.{partedBy, lineText, endedLines}
+use Rattle.text.specs.Print.{partedBy, lineText, endedLines}
 
 -- c stands nowhere in s
 unfoldable pub without : ℕ → List ℕ → Bool

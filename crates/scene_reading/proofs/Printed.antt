@@ -8,14 +8,14 @@ use native.Mathlib.Omega.{arith}
 use lib.ListN.{length}
 use lib.Dec.{eqb}
 use Rattle.octets.specs.Lists.{every}
-use Rattle.scene_text.specs.Text.{pieces, hexBytes, hexVal, lineEnd}
+use Rattle.text.specs.Text.{pieces, hexBytes, hexVal, lineEnd}
 use Rattle.scene_line.specs.declared.kind.Kind.{Kind}
 use Rattle.scene_line.specs.declared.kind.Kind.the-variants as kind
 use Rattle.scene_line.specs.Kind.{rank, witness}
 use Rattle.scene_table.specs.Scene.{Scene, Line, bytesLine, inputLine, outputLine, cellLine, linesOf, sceneBytes}
 use Rattle.scene_table.specs.Valid.{bytesOk, cellOk, inputOk, outputOk, sceneOk}
 use Rattle.octets.proofs.Truth.{and-left, and-right}
-use Rattle.scene_text.specs.Print.{hexText, digitsText}
+use Rattle.text.specs.Print.{hexText, digitsText}
 use Rattle.scene_reading.specs.Lines.{kindsOf, bytesOfLine, LinesAccepted}
 use Rattle.scene_reading.specs.Print.{cellFields, inputFields, outputFields, inputText, outputText, depText, bytesText, textLines, textOf}
 use Rattle.scene_reading.specs.Reading.{cellOf, inputOf, outputOf, bytesField, fieldsOfKind, onlyField, sceneOf}

@@ -3,14 +3,14 @@
 -- Assumes nothing.
 use Prim.Native.Nat.{ℕ, _≤_}
 use mathlib.Core.Path.{_≡_, refl, sym, _∙_}
-use mathlib.Core.List.{List, [], _∷_, append-cancel-right}
+use mathlib.Core.List.{List}
 use mathlib.Core.Logic.{_↔_}
 use native.Mathlib.Omega.{arith}
 use lib.ListN.{length}
 use borrow.Author.Tests.{le-leb}
 use Rattle.protocol.specs.declared.check.Check.the-variants.{Passed}
 use Rattle.protocol.proofs.AllPass.{all-pass-passed, all-pass-split}
-use Rattle.scene_text.specs.Text.{pieces, lineEnd}
+use Rattle.text.specs.Text.{pieces, lineEnd}
 use Rattle.scene_reader.specs.Reader.{ReaderState, ReaderOutcome, readerRefuses, readerHolds, linesOutcome, readerStart, sceneLimitRows, sceneRows, readOf, readerCheck}
 use Rattle.scene_reader.proofs.LinesOutcome.{limits-within, limits-passed}
 use Rattle.scene_reader.proofs.SceneRefuses as rows
@@ -66,7 +66,3 @@ module _ (text : List ℕ) (n m : ℕ) where
         fits = scene-bytes-fit text n p;
         few = f;
       }
-
--- the lines are those of the text, whatever the store
-pub lines-one : (text : List ℕ) (n m : ℕ) (p : LinesAccepted text n) (q : LinesAccepted text m) → p .lines ≡ q .lines
-lines-one text n m p q = append-cancel-right (p .lines) (q .lines) ([] ∷ []) (sym (p .ended) ∙ q .ended)

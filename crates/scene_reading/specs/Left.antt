@@ -4,7 +4,7 @@ use mathlib.Core.Bool.{true}
 use mathlib.Core.Path.{_≡_}
 use mathlib.Core.List.{List}
 use lib.ListN.{length}
-use Rattle.scene_text.specs.Text.{pieces, lineEnd}
+use Rattle.text.specs.Text.{pieces, lineEnd}
 use Rattle.scene_reader.specs.Reader as reader
 use Rattle.scene_reader.specs.Reader.{ReaderState, readerHolds, linesOutcome, readerStart, readOf}
 use Rattle.scene_table.specs.Scene.{Scene, sceneBytes, sceneNumbers, sceneStore, sceneTable}

@@ -7,7 +7,7 @@ use mathlib.Core.List.{List, [], _∷_, _++_, map}
 use lib.ListN.{length, replicate}
 use lib.Dec.{eqb}
 use Rattle.octets.specs.Lists.{joined, every}
-use Rattle.scene_text.specs.Text.{pieces, comma, lineEnd}
+use Rattle.text.specs.Text.{pieces, comma, lineEnd}
 use Rattle.scene_line.specs.declared.kind.Kind.{Kind}
 use Rattle.scene_line.specs.declared.kind.Kind.the-variants.{Script, Tx, Input, Output, Dep, Witness, Verdicts}
 use Rattle.scene_line.specs.Kind.{kindOf, fieldCount, firstForm, lineFields}

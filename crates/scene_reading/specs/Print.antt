@@ -1,7 +1,7 @@
 -- The text of a scene, by 01, "The scene, added by the port".
 use Prim.Native.Nat.{ℕ, _+_}
 use mathlib.Core.List.{List, [], _∷_, _++_, map}
-use Rattle.scene_text.specs.Print.{lineText, endedLines, hexText, decimalText, digitsText}
+use Rattle.text.specs.Print.{lineText, endedLines, hexText, numberText, digitsText}
 use Rattle.scene_line.specs.Kind.{script, tx, input, output, dep, witness, verdicts}
 use Rattle.scene_table.specs.Scene.{Cell, Input, Output, Scene}
 
@@ -12,14 +12,14 @@ cellFields c = hexText (c .typeHash) ∷ hexText (c .dataHash) ∷ hexText (c .t
 -- "`input,GROUP,SINCE,TYPEHASH,DATAHASH,TYPESCRIPT,DATA`"; 02, change 9: and CAPACITY, "written as SINCE is"
 unfoldable pub inputFields : Input → List (List ℕ)
 inputFields i =
-    ((48 + i .group) ∷ []) ∷ decimalText 20 (i .since) ∷ cellFields (i .cell) ++ (decimalText 20 (i .capacity) ∷ [])
+    ((48 + i .group) ∷ []) ∷ numberText (i .since) ∷ cellFields (i .cell) ++ (numberText (i .capacity) ∷ [])
 
 unfoldable pub inputText : Input → List ℕ
 inputText i = lineText input (inputFields i)
 
 -- "`output,` and `dep,` each with the last four", and of an output CAPACITY
 unfoldable pub outputFields : Output → List (List ℕ)
-outputFields o = cellFields (o .cell) ++ (decimalText 20 (o .capacity) ∷ [])
+outputFields o = cellFields (o .cell) ++ (numberText (o .capacity) ∷ [])
 
 unfoldable pub outputText : Output → List ℕ
 outputText o = lineText output (outputFields o)

@@ -1,4 +1,5 @@
 // The lent table: whether a scene, its length aside, leaves it, and what it and the store hold.
+mod entries; // entries.rt
 mod places; // places.rt
 mod validity; // validity.rt
 

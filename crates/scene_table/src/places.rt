@@ -1,25 +1,31 @@
 // What the table says of the scene: numbers, and places of bytes in the store. An entry past the table's end counts as 0.
+use crate::entries::BYTES_LENGTH;
+use crate::entries::BYTES_WIDTH;
+use crate::entries::CELL_DATA_LENGTH;
+use crate::entries::CELL_SCRIPT_LENGTH;
+use crate::entries::CELL_WIDTH;
+use crate::entries::DEP_COUNT_AT;
+use crate::entries::DIGIT_COUNT;
+use crate::entries::DIGITS;
+use crate::entries::INPUT_CAPACITY;
+use crate::entries::INPUT_COUNT_AT;
+use crate::entries::INPUT_DATA_LENGTH;
+use crate::entries::INPUT_GROUP;
+use crate::entries::INPUT_SCRIPT_LENGTH;
+use crate::entries::INPUT_SINCE;
+use crate::entries::INPUT_WIDTH;
+use crate::entries::INPUTS_AT;
+use crate::entries::OUTPUT_CAPACITY;
+use crate::entries::OUTPUT_COUNT_AT;
+use crate::entries::OUTPUT_WIDTH;
+use crate::entries::SCRIPT_AT;
+use crate::entries::TRANSACTION_AT;
+use crate::entries::WITNESS_COUNT_AT;
 use octets::Place;
 ghost use mathlib.Core.Path.{_≡_};
 ghost use Prim.Native.Nat.{_≤_, _<_, _^_};
 ghost use Rattle.scene_table.specs.Lent.{tableEntry, tableU64, outputsAt, depsAt, witnessesAt, verdictsAt, hashLength, digitCount, inputCount, outputCount, depCount, witnessCount, cellFieldPlaces, bytesPlace, cellRecordPlaces, scriptPlace, transactionPlace};
 ghost use Rattle.scene_table.specs.Places.{inputGroup, inputSince, inputCapacity, inputPlaces, outputPlaces, outputCapacity, depPlaces, witnessPlace, verdictOf};
-
-// How many entries the record of an input has, that of an output, of a dep, and of a witness.
-pub(crate) const INPUT_WIDTH: usize = 8;
-
-pub(crate) const OUTPUT_WIDTH: usize = 5;
-
-pub(crate) const CELL_WIDTH: usize = 3;
-
-pub(crate) const BYTES_WIDTH: usize = 2;
-
-// Where the records of the script, of tx and of the inputs begin.
-pub(crate) const SCRIPT_AT: usize = 8;
-
-pub(crate) const TRANSACTION_AT: usize = 10;
-
-pub(crate) const INPUTS_AT: usize = 11;
 
 // The places of a cell's fields. A cell without a type script has nothing at the first and the third.
 pub struct CellPlaces {
@@ -114,7 +120,7 @@ fn bytes_place(table: &[u32], at: usize) -> Place
 {
     Place {
         start: table_entry(table, at) as usize,
-        len: table_entry(table, at + 1) as usize,
+        len: table_entry(table, at + BYTES_LENGTH) as usize,
     }
 }
 
@@ -125,8 +131,8 @@ fn record_places(table: &[u32], at: usize) -> CellPlaces
 {
     cell_places(
         table_entry(table, at),
-        table_entry(table, at + 1),
-        table_entry(table, at + 2),
+        table_entry(table, at + CELL_SCRIPT_LENGTH),
+        table_entry(table, at + CELL_DATA_LENGTH),
     )
 }
 
@@ -148,50 +154,50 @@ pub fn transaction_hash(table: &[u32]) -> Place
 pub fn input_count(table: &[u32]) -> u32
     ensures { λ r. ⌜ r ≡ inputCount (now (table .entry)) ⌝ }
 {
-    table_entry(table, 3)
+    table_entry(table, INPUT_COUNT_AT)
 }
 
 pub fn output_count(table: &[u32]) -> u32
     ensures { λ r. ⌜ r ≡ outputCount (now (table .entry)) ⌝ }
 {
-    table_entry(table, 4)
+    table_entry(table, OUTPUT_COUNT_AT)
 }
 
 pub fn dep_count(table: &[u32]) -> u32
     ensures { λ r. ⌜ r ≡ depCount (now (table .entry)) ⌝ }
 {
-    table_entry(table, 5)
+    table_entry(table, DEP_COUNT_AT)
 }
 
 pub fn witness_count(table: &[u32]) -> u32
     ensures { λ r. ⌜ r ≡ witnessCount (now (table .entry)) ⌝ }
 {
-    table_entry(table, 6)
+    table_entry(table, WITNESS_COUNT_AT)
 }
 
 pub fn digit_count(table: &[u32]) -> u32
     ensures { λ r. ⌜ r ≡ digitCount (now (table .entry)) ⌝ }
 {
-    table_entry(table, verdicts_at(table) + 1)
+    table_entry(table, verdicts_at(table) + DIGIT_COUNT)
 }
 
 // Whether input `i` runs this lock.
 pub fn input_group(table: &[u32], i: u32) -> bool
     ensures { λ r. ⌜ r ≡ inputGroup (now (table .entry)) i ⌝ }
 {
-    table_entry(table, INPUTS_AT + INPUT_WIDTH * i as usize + 1) == 1
+    table_entry(table, INPUTS_AT + INPUT_WIDTH * i as usize + INPUT_GROUP) == 1
 }
 
 pub fn input_since(table: &[u32], i: u32) -> u64
     ensures { λ r. ⌜ r ≡ inputSince (now (table .entry)) i ⌝ }
 {
-    table_u64(table, INPUTS_AT + INPUT_WIDTH * i as usize + 2)
+    table_u64(table, INPUTS_AT + INPUT_WIDTH * i as usize + INPUT_SINCE)
 }
 
 pub fn input_capacity(table: &[u32], i: u32) -> u64
     ensures { λ r. ⌜ r ≡ inputCapacity (now (table .entry)) i ⌝ }
 {
-    table_u64(table, INPUTS_AT + INPUT_WIDTH * i as usize + 6)
+    table_u64(table, INPUTS_AT + INPUT_WIDTH * i as usize + INPUT_CAPACITY)
 }
 
 pub fn input_cell(table: &[u32], i: u32) -> CellPlaces
@@ -200,8 +206,8 @@ pub fn input_cell(table: &[u32], i: u32) -> CellPlaces
     let at = INPUTS_AT + INPUT_WIDTH * i as usize;
     cell_places(
         table_entry(table, at),
-        table_entry(table, at + 4),
-        table_entry(table, at + 5),
+        table_entry(table, at + INPUT_SCRIPT_LENGTH),
+        table_entry(table, at + INPUT_DATA_LENGTH),
     )
 }
 
@@ -214,7 +220,10 @@ pub fn output_cell(table: &[u32], i: u32) -> CellPlaces
 pub fn output_capacity(table: &[u32], i: u32) -> u64
     ensures { λ r. ⌜ r ≡ outputCapacity (now (table .entry)) i ⌝ }
 {
-    table_u64(table, outputs_at(table) + OUTPUT_WIDTH * i as usize + 3)
+    table_u64(
+        table,
+        outputs_at(table) + OUTPUT_WIDTH * i as usize + OUTPUT_CAPACITY,
+    )
 }
 
 pub fn dep_cell(table: &[u32], i: u32) -> CellPlaces
@@ -234,7 +243,7 @@ pub fn verdict(table: &[u32], i: u32) -> u32
     ensures { λ r. ⌜ r ≡ verdictOf (now (table .entry)) i ⌝ }
 {
     if i < digit_count(table) {
-        table_entry(table, verdicts_at(table) + 2 + i as usize)
+        table_entry(table, verdicts_at(table) + DIGITS + i as usize)
     } else {
         2
     }

@@ -1,11 +1,22 @@
 // Whether a scene, its length aside, leaves a table: a walk over its records.
-use crate::places::BYTES_WIDTH;
-use crate::places::CELL_WIDTH;
-use crate::places::INPUT_WIDTH;
-use crate::places::INPUTS_AT;
-use crate::places::OUTPUT_WIDTH;
-use crate::places::SCRIPT_AT;
-use crate::places::TRANSACTION_AT;
+use crate::entries::BYTES_LENGTH;
+use crate::entries::BYTES_WIDTH;
+use crate::entries::CELL_DATA_LENGTH;
+use crate::entries::CELL_SCRIPT_LENGTH;
+use crate::entries::CELL_WIDTH;
+use crate::entries::DIGITS;
+use crate::entries::INPUT_DATA_LENGTH;
+use crate::entries::INPUT_GROUP;
+use crate::entries::INPUT_SCRIPT_LENGTH;
+use crate::entries::INPUT_WIDTH;
+use crate::entries::INPUTS_AT;
+use crate::entries::NO_KIND_AT;
+use crate::entries::OUTPUT_WIDTH;
+use crate::entries::SCRIPT_AT;
+use crate::entries::SCRIPT_COUNT_AT;
+use crate::entries::TRANSACTION_AT;
+use crate::entries::TRANSACTION_COUNT_AT;
+use crate::entries::VERDICTS_COUNT_AT;
 use crate::places::dep_count;
 use crate::places::deps_at;
 use crate::places::digit_count;
@@ -83,7 +94,10 @@ fn bytes_record(table: &[u32], at: usize, walk: RecordsWalk) -> RecordsWalk
     requires { ⌜ at < 2 ^ 40 ⌝ }
     ensures { λ r. ⌜ r ≡ recordStep (now (table .entry)) anyRecord (bytesSize (now (table .entry))) walk at ⌝ }
 {
-    walk.next_record(table_entry(table, at), table_entry(table, at + 1) as u64)
+    walk.next_record(
+        table_entry(table, at),
+        table_entry(table, at + BYTES_LENGTH) as u64,
+    )
 }
 
 fn cell_record(table: &[u32], at: usize, walk: RecordsWalk) -> RecordsWalk
@@ -92,7 +106,10 @@ fn cell_record(table: &[u32], at: usize, walk: RecordsWalk) -> RecordsWalk
 {
     walk.next_record(
         table_entry(table, at),
-        cell_size(table_entry(table, at + 1), table_entry(table, at + 2)),
+        cell_size(
+            table_entry(table, at + CELL_SCRIPT_LENGTH),
+            table_entry(table, at + CELL_DATA_LENGTH),
+        ),
     )
 }
 
@@ -100,10 +117,14 @@ fn input_record(table: &[u32], at: usize, walk: RecordsWalk) -> RecordsWalk
     requires { ⌜ at < 2 ^ 40 ⌝ }
     ensures { λ r. ⌜ r ≡ recordStep (now (table .entry)) (groupOk (now (table .entry))) (inputSize (now (table .entry))) walk at ⌝ }
 {
-    walk.require(table_entry(table, at + 1) < 2).next_record(
-        table_entry(table, at),
-        cell_size(table_entry(table, at + 4), table_entry(table, at + 5)),
-    )
+    walk.require(table_entry(table, at + INPUT_GROUP) < 2)
+        .next_record(
+            table_entry(table, at),
+            cell_size(
+                table_entry(table, at + INPUT_SCRIPT_LENGTH),
+                table_entry(table, at + INPUT_DATA_LENGTH),
+            ),
+        )
 }
 
 // How many entries a record of a form has.
@@ -206,14 +227,14 @@ fn counts_valid(table: &[u32]) -> bool
         used: 0,
     };
     let counted = start
-        .require(table_entry(table, 0) == 0)
-        .require(table_entry(table, 1) == 1)
-        .require(table_entry(table, 2) == 1)
+        .require(table_entry(table, NO_KIND_AT) == 0)
+        .require(table_entry(table, SCRIPT_COUNT_AT) == 1)
+        .require(table_entry(table, TRANSACTION_COUNT_AT) == 1)
         .require(input_count(table) as usize <= KIND_MAX_LINES)
         .require(output_count(table) as usize <= KIND_MAX_LINES)
         .require(dep_count(table) as usize <= KIND_MAX_LINES)
         .require(witness_count(table) as usize <= KIND_MAX_LINES)
-        .require(table_entry(table, 7) == 1)
+        .require(table_entry(table, VERDICTS_COUNT_AT) == 1)
         .require(digit_count(table) as usize <= DIGITS_MAX_COUNT);
     counted.good
 }
@@ -252,7 +273,7 @@ fn zeros_from(table: &[u32], first: usize) -> bool
 fn rest_valid(table: &[u32], room: usize) -> bool
     ensures { λ r. ⌜ r ≡ restOk (now (table .entry)) room ⌝ }
 {
-    let first = verdicts_at(table) + 2;
+    let first = verdicts_at(table) + DIGITS;
     let count = digit_count(table);
     let walked = walk_lines(table);
     let rest = walked

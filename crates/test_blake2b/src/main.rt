@@ -5,6 +5,7 @@ use self::splits::print_splits;
 use self::splits::steps_hash;
 use self::splits::two_hash;
 use blake2b::Blake2b;
+use test_support::wide;
 ghost use mathlib.Core.Path.{_≡_};
 ghost use Prim.Native.Nat.{_<_, min};
 
@@ -31,10 +32,6 @@ const CUTS: [usize; 4] = [1, 63, 128, 129];
 
 // How many bytes are fed at a time.
 const STEPS: [usize; 6] = [127, 128, 129, 255, 256, 257];
-
-fn wide(x: u8) -> u64 {
-    x as u64
-}
 
 pub(crate) fn print_digest(digest: &[u8]) {
     let mut i: usize = 0;

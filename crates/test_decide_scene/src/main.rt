@@ -2,10 +2,10 @@
 use decide_scene::program_line;
 use octets::part;
 use octets::same_bytes;
-use scene_text::LINE_END;
-use scene_text::find;
-use scene_text::head;
-use scene_text::tail;
+use text::LINE_END;
+use text::find;
+use text::head;
+use text::tail;
 
 fn print_line(scene: &[u8]) {
     let line = program_line(scene);

@@ -6,11 +6,8 @@ use octets::part;
 use octets::same_bytes;
 use protocol::WriteAnswer;
 use protocol::error_number;
+use test_support::wide;
 use verifier_request::encode_verifier_request;
-
-fn wide(x: u8) -> u64 {
-    x as u64
-}
 
 fn print_number(number: u8) {
     io::print_decimal(1, wide(number));

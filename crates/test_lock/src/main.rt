@@ -9,32 +9,21 @@ mod record; // record.rt
 
 use crate::record::behind_record;
 use crate::record::run;
-use crate::record::value;
+use octets::part;
 use protocol::ANSWER_BUFFER_LEN;
 use protocol::TABLE_MIN_ENTRIES;
-use scene_text::LINE_END;
-use scene_text::find;
-use scene_text::head;
-use scene_text::tail;
+use test_support::COUNT_LINE_MAX_LEN;
+use test_support::Counts;
+use test_support::count_line;
+use test_support::counted;
+use test_support::value;
+use text::LINE_END;
+use text::find;
+use text::head;
+use text::tail;
 ghost use mathlib.Core.Path.{_≡_};
 ghost use lib.ListN.{length};
 ghost use Rattle.protocol.specs.Limits.{answerBufferLength, tableMinEntries};
-
-struct Counts {
-    passed: u64,
-    failed: u64,
-}
-
-fn counted(counts: Counts, passes: bool) -> Counts {
-    let mut passed = counts.passed;
-    let mut failed = counts.failed;
-    if passes {
-        passed = std::num::wrapping_add_u64(passed, 1);
-    } else {
-        failed = std::num::wrapping_add_u64(failed, 1);
-    }
-    Counts { passed, failed }
-}
 
 fn run_all(records: &[u8], store: &mut [u8], table: &mut [u32], answer: &mut [u8]) -> Counts {
     let mut rest = records;
@@ -83,8 +72,7 @@ fn main() {
     let mut table = words();
     let mut answer = bytes();
     let counts = run_all(&text[..n], &mut store, &mut table, &mut answer);
-    io::print_decimal(1, counts.passed);
-    io::write_all(1, b" passed, ");
-    io::print_decimal(1, counts.failed);
-    io::write_all(1, b" failed\n");
+    let mut line = [0u8; COUNT_LINE_MAX_LEN];
+    let len = count_line(counts, &mut line);
+    io::write_all(1, part(&line, 0, len));
 }

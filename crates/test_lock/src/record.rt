@@ -7,34 +7,18 @@ use octets::same_bytes;
 use protocol::Check;
 use protocol::check_number;
 use scene_reader::read_scene;
-use scene_text::COMMA;
-use scene_text::Decimal;
-use scene_text::LINE_END;
-use scene_text::decode;
-use scene_text::find;
-use scene_text::head;
-use scene_text::read_decimal;
-use scene_text::tail;
+use test_support::field;
+use test_support::fields_after;
+use test_support::value;
+use text::Decimal;
+use text::LINE_END;
+use text::decode;
+use text::find;
+use text::head;
+use text::read_decimal;
+use text::tail;
 ghost use Prim.Native.Nat.{_≤_};
 ghost use lib.ListN.{length};
-
-// The number that a field is the decimal form of; one that no answer has where it is none.
-pub(crate) fn value(f: &[u8]) -> u64 {
-    match read_decimal(f) {
-        Decimal::Value(v) => v,
-        Decimal::Invalid => 18446744073709551615,
-    }
-}
-
-// The first field.
-fn field(fields: &[u8]) -> &[u8] {
-    head(fields, find(fields, COMMA))
-}
-
-// The fields behind the first.
-fn behind(fields: &[u8]) -> &[u8] {
-    tail(fields, find(fields, COMMA))
-}
 
 // What follows the record of a scene of that length.
 pub(crate) fn behind_record(text: &[u8], len: usize) -> &[u8]
@@ -66,17 +50,17 @@ fn same_fee(text: &[u8], found: Check, fee: u64) -> bool {
 
 // Whether the line has this answer.
 fn same_answer(line: &[u8], answer: LockAnswer) -> bool {
-    let number = behind(line);
-    let count = behind(number);
-    let len = behind(count);
-    let digits = behind(len);
+    let number = fields_after(line);
+    let count = fields_after(number);
+    let len = fields_after(count);
+    let digits = fields_after(len);
     let found = answer.found;
     let digest = answer.digest;
     (value(field(number)) == check_number(found) as u64)
         & (value(field(count)) == answer.count as u64)
         & (value(field(len)) == answer.length as u64)
         & same_digest(field(digits), answer.reached, &digest)
-        & same_fee(behind(digits), found, answer.fee)
+        & same_fee(fields_after(digits), found, answer.fee)
 }
 
 // Whether the scene is read, and the line has the lock's answer.

@@ -1,5 +1,6 @@
 // Runs the rows that document 01 marks "Run" and that concern readers: slots 5, 5, and aux of 4,096, 4,097 and 5,000 bytes in a
-// state, which document 02 makes 44; and the limit itself.
+// state, which document 02 makes 44; and the limit itself. Then the smallest state with what document 02 withdraws and still takes:
+// flag 2, and capability 0x0008.
 use account_state::StateAnswer;
 use account_state::validate_state;
 use account_state_writer::encode_state;
@@ -10,10 +11,7 @@ use octets::part;
 use octets::store_number;
 use protocol::WriteAnswer;
 use protocol::error_number;
-
-fn wide(x: u8) -> u64 {
-    x as u64
-}
+use test_support::wide;
 
 fn print_number(number: u8) {
     io::print_decimal(1, wide(number));
@@ -106,6 +104,21 @@ fn print_aux(aux_len: u16) {
     print_number(state_number(part(&state, 0, 112 + aux_len as usize)));
 }
 
+// The smallest state with these flags and capabilities: what the writer says of it, and what the reader says of what was written.
+fn print_session(name: &[u8], flags: u8, capabilities: u16) {
+    let fields = [1u16, 0x0101, capabilities, 1, 1];
+    let mut bytes = [0u8; 67];
+    bytes[1] = 1;
+    let mut state = [0u8; 113];
+    let written = encode_state(flags, 7, 1, 1, 0, 0, &fields, &bytes, &mut state);
+    io::write_all(1, name);
+    io::write_all(1, b": written ");
+    print_number(write_number(written));
+    io::write_all(1, name);
+    io::write_all(1, b": ");
+    print_number(state_number(&state));
+}
+
 fn main() {
     print_state_slots();
     print_witness_slots();
@@ -114,4 +127,6 @@ fn main() {
     print_aux(4096);
     print_aux(4097);
     print_aux(5000);
+    print_session(b"state, flags 2", 2, 3);
+    print_session(b"state, capabilities 0x000b", 0, 0x000b);
 }

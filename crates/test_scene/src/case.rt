@@ -3,13 +3,15 @@ use octets::store_bytes;
 use protocol::Check;
 use protocol::error_number;
 use scene_reader::read_scene;
-use scene_text::COMMA;
-use scene_text::Decimal;
-use scene_text::all_between;
-use scene_text::find;
-use scene_text::head;
-use scene_text::read_decimal;
-use scene_text::tail;
+use test_support::Counts;
+use test_support::counted;
+use test_support::field;
+use test_support::fields_after;
+use test_support::value;
+use test_support::wide;
+use text::all_between;
+use text::head;
+use text::tail;
 ghost use Prim.Native.Nat.{_≤_};
 ghost use lib.ListN.{length};
 
@@ -19,15 +21,7 @@ pub(crate) struct Case {
     pub store: usize,
     pub table: usize,
     pub at: usize,
-    pub passed: u64,
-    pub failed: u64,
-}
-
-fn value(f: &[u8]) -> u64 {
-    match read_decimal(f) {
-        Decimal::Value(v) => v,
-        Decimal::Invalid => 0,
-    }
+    pub counts: Counts,
 }
 
 fn at_most(n: usize, most: usize) -> usize
@@ -36,32 +30,22 @@ fn at_most(n: usize, most: usize) -> usize
     if n <= most { n } else { most }
 }
 
-// The first field.
-fn field(fields: &[u8]) -> &[u8] {
-    head(fields, find(fields, COMMA))
-}
-
-// The fields behind the first.
-fn behind(fields: &[u8]) -> &[u8] {
-    tail(fields, find(fields, COMMA))
-}
-
 // A case of these fields; its name is written.
 pub(crate) fn begin(case: Case, fields: &[u8]) -> Case
     ensures { λ r. ⌜ r .at ≤ 0 ⌝ }
 {
+    let counts = case.counts;
     io::write_all(1, field(fields));
     io::write_all(1, b": ");
-    let expected = behind(fields);
-    let store = behind(expected);
-    let table = behind(store);
+    let expected = fields_after(fields);
+    let store = fields_after(expected);
+    let table = fields_after(store);
     Case {
         expected: value(field(expected)),
         store: value(field(store)) as usize,
         table: value(field(table)) as usize,
         at: 0,
-        passed: case.passed,
-        failed: case.failed,
+        counts,
     }
 }
 
@@ -77,12 +61,12 @@ fn append(scene: &mut [u8], at: usize, text: &[u8]) -> usize
     at + text.len()
 }
 
-fn append_times(scene: &mut [u8], start: usize, count: u64, text: &[u8], ending: &[u8]) -> usize
+fn append_times(scene: &mut [u8], start: usize, count: usize, text: &[u8], ending: &[u8]) -> usize
     requires { ⌜ start ≤ length (now scene) ⌝ }
     ensures { λ r. ⌜ r ≤ length (now (scene .entry)) ⌝ }
 {
     let mut at = start;
-    let mut i: u64 = 0;
+    let mut i: usize = 0;
     while i < count {
         at = append(scene, at, text);
         at = append(scene, at, ending);
@@ -91,19 +75,20 @@ fn append_times(scene: &mut [u8], start: usize, count: u64, text: &[u8], ending:
     at
 }
 
-// A count and a text, each time with the ending.
+// A count, at most the scene's room, and a text, each time with the ending.
 pub(crate) fn add(case: Case, fields: &[u8], ending: &[u8], scene: &mut [u8]) -> Case
     requires { ⌜ case .at ≤ length (now scene) ⌝ }
     ensures { λ r. ⌜ r .at ≤ length (now (scene .entry)) ⌝ }
 {
-    let end = append_times(scene, case.at, value(field(fields)), behind(fields), ending);
+    let counts = case.counts;
+    let count = at_most(value(field(fields)) as usize, scene.len());
+    let end = append_times(scene, case.at, count, fields_after(fields), ending);
     Case {
         expected: case.expected,
         store: case.store,
         table: case.table,
         at: end,
-        passed: case.passed,
-        failed: case.failed,
+        counts,
     }
 }
 
@@ -133,10 +118,6 @@ fn fill_words(words: &mut [u32]) {
         words[i] = 4294967295;
         i += 1;
     }
-}
-
-fn wide(x: u8) -> u64 {
-    x as u64
 }
 
 // The number of a scene, read into a store and a table without a zero. 99 where a refusal left something in them, 98 where an
@@ -176,19 +157,13 @@ pub(crate) fn run(case: Case, scene: &[u8], store: &mut [u8], table: &mut [u32])
     );
     io::print_decimal(1, found);
     io::write_all(1, b"\n");
-    let mut passed = case.passed;
-    let mut failed = case.failed;
-    if found == case.expected {
-        passed = std::num::wrapping_add_u64(passed, 1);
-    } else {
-        failed = std::num::wrapping_add_u64(failed, 1);
-    }
+    let before = case.counts;
+    let counts = counted(before, found == case.expected);
     Case {
         expected: case.expected,
         store: case.store,
         table: case.table,
         at: case.at,
-        passed,
-        failed,
+        counts,
     }
 }

@@ -11,14 +11,18 @@ use crate::case::Case;
 use crate::case::add;
 use crate::case::begin;
 use crate::case::run;
+use octets::part;
 use octets::u8_at;
 use protocol::SCENE_MAX_LEN;
 use protocol::TABLE_MIN_ENTRIES;
-use scene_text::COMMA;
-use scene_text::LINE_END;
-use scene_text::find;
-use scene_text::head;
-use scene_text::tail;
+use test_support::COUNT_LINE_MAX_LEN;
+use test_support::Counts;
+use test_support::count_line;
+use text::COMMA;
+use text::LINE_END;
+use text::find;
+use text::head;
+use text::tail;
 ghost use mathlib.Core.Path.{_≡_};
 ghost use Prim.Native.Nat.{_+_, _≤_};
 ghost use lib.ListN.{length};
@@ -46,8 +50,10 @@ fn run_all(list: &[u8], scene: &mut [u8], store: &mut [u8], table: &mut [u32]) -
         store: 0,
         table: 0,
         at: 0,
-        passed: 0,
-        failed: 0,
+        counts: Counts {
+            passed: 0,
+            failed: 0,
+        },
     };
     loop {
         let e = find(rest, LINE_END);
@@ -81,8 +87,8 @@ fn main() {
     let mut store = long_buffer();
     let mut table = words();
     let case = run_all(&text[..n], &mut scene, &mut store, &mut table);
-    io::print_decimal(1, case.passed);
-    io::write_all(1, b" passed, ");
-    io::print_decimal(1, case.failed);
-    io::write_all(1, b" failed\n");
+    let mut line = [0u8; COUNT_LINE_MAX_LEN];
+    let counts = case.counts;
+    let len = count_line(counts, &mut line);
+    io::write_all(1, part(&line, 0, len));
 }

@@ -1,13 +1,9 @@
 -- `account_lock::lock` meets its contract. Assumes nothing.
-use mathlib.Core.Path.{_≡_, refl, sym, ap, _∙_}
+use mathlib.Core.Path.{sym, ap, _∙_}
 use denote.Ref.{now}
-use Rattle.scene_table.specs.Lent.{sceneIn}
-use mathlib.Core.Logic.{_↔_}
 use lib.ListN.{length}
-use Rattle.protocol.specs.declared.check.Check.the-variants.{Passed}
 use Rattle.decision.specs.Walk.{answered}
-use Rattle.account_lock.specs.Lock.{Result, refused, answerOf, lockScene, lockOf}
-use Rattle.account_lock.specs.declared.answer.LockAnswer.{LockAnswer}
+use Rattle.account_lock.specs.Lock.{Result, refused, answerOf}
 use Rattle.account_lock.proofs.LockTheorem.{lock-promised, lock-valid, lock-invalid}
 use borrow.Author.Needs.{needs}
 use Rattle.account_lock.proofs.lock.Statement.{statement}

@@ -1,7 +1,8 @@
 -- `account_state::check_state` meets its contract. Assumes nothing.
-use mathlib.Core.Path.{_≡_, refl, sym, ap, _∙_}
+use mathlib.Core.Path.{sym, _∙_}
 use denote.Ref.{now}
-use Rattle.account_state.specs.State.{stateFault, stateRows}
+use Rattle.account_state.specs.State.{stateFault}
+use Rattle.account_state.proofs.AuxLimit.{check-promised}
 use Rattle.account_state.proofs.Accepted.{valid-fault, refused-fault}
 use borrow.Author.Needs.{needs}
 use Rattle.account_state.proofs.check_state.Statement.{statement}
@@ -9,11 +10,15 @@ use Rattle.account_state.proofs.check_state.Tie as tie
 
 returns : tie.Need-returns
 unfolding stateFault
-returns c = sym (valid-fault (now (c .before .before .before .before .args .state)) _ _ (sym (c .before .before .validate-state .ensures) ∙ c .enum-told .given .1))
+returns c =
+    let s = now (c .before .before .before .before .args .state) in
+    check-promised s (sym (valid-fault s _ _ (sym (c .before .before .validate-state .ensures .0) ∙ c .enum-told .given .1)))
 
 returns-2 : tie.Need-returns-2
 unfolding stateFault
-returns-2 c = sym (refused-fault (now (c .before .before .before .before .before .args .state)) _ (sym (c .before .before .before .validate-state .ensures) ∙ c .before .error .given .1))
+returns-2 c =
+    let s = now (c .before .before .before .before .before .args .state) in
+    check-promised s (sym (refused-fault s _ (sym (c .before .before .before .validate-state .ensures .0) ∙ c .before .error .given .1)))
 
 pub check-state-spec : {M : Type 1} → statement M
 check-state-spec =

@@ -3,6 +3,7 @@ use mathlib.Core.Path.{_≡_, sym, _∙_}
 use Rattle.protocol.specs.Rows.{decide}
 use Rattle.protocol.specs.declared.check.Check.the-variants.{Passed}
 use Rattle.account_state.specs.State.{stateHeaderRows, stateAnswer, readState}
+use Rattle.account_state.proofs.AuxLimit.{state-promised}
 use Rattle.account_state.proofs.StateLaws.{head-room, fault-head, fault-entries, fault-end}
 use borrow.Author.Needs.{needs}
 use Rattle.account_state.proofs.validate_state.Statement.{statement}
@@ -22,14 +23,16 @@ state-end-requires c κs = head-room _ (head (c .before .before .before .before 
 
 returns : tie.Need-returns
 unfolding readState stateAnswer
-returns c = rw (fault-head _ _ (sym (c .before .before .before .check-head .ensures) ∙ c .before .error .given .1))
+returns c =
+    let s = c .before .before .before .before .before .args .state .now in
+    state-promised s (rw (fault-head _ _ (sym (c .before .before .before .check-head .ensures) ∙ c .before .error .given .1)))
 
 returns-2 : tie.Need-returns-2
 unfolding readState stateAnswer
 returns-2 c =
     let c5 = c .before .before .before .before .before in
     let h = rw (c .before .before .before .before .entry-count-of .ensures) at (sym (c .before .before .before .walk-entries .ensures) ∙ c .before .error2 .given .1) in
-    rw (fault-entries _ (head c5) _ h)
+    state-promised (c5 .before .before .before .before .args .state .now) (rw (fault-entries _ (head c5) _ h))
 
 returns-3 : tie.Need-returns-3
 unfolding readState
@@ -37,7 +40,7 @@ returns-3 c =
     let c4 = c .before .before .before .before in
     let h = rw (c4 .before .entry-count-of .ensures) at (sym (c4 .walk-entries .ensures) ∙ c .before .before .walk .given .1) in
     let z = fault-end _ (head (c4 .before .before)) _ h in
-    rw (c .state-end .ensures, z .0, z .1)
+    state-promised (c4 .before .before .before .before .before .before .args .state .now) (rw (c .state-end .ensures, z .0, z .1))
 
 pub validate-state-spec : {M : Type 1} → statement M
 validate-state-spec =

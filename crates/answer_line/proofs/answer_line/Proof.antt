@@ -5,9 +5,9 @@ use Prim.Native.Nat.{ℕ, _+_, _≤_}
 use mathlib.Core.Path.{_≡_, refl, sym, _∙_}
 use mathlib.Core.List.{List, [], _∷_, _++_, append-nil, append-assoc}
 use native.Mathlib.Omega.{arith}
-use Rattle.scene_text.specs.Print.{partedBy, lineText}
-use Rattle.scene_text.specs.Text.{comma, lineEnd}
-use Rattle.answer_line.specs.Line.{answerWord, numberText, digestText, feeText, lineOf}
+use Rattle.text.specs.Print.{partedBy, lineText, numberText}
+use Rattle.text.specs.Text.{comma, lineEnd}
+use Rattle.answer_line.specs.Line.{answerWord, digestText, feeText, lineOf}
 use Rattle.answer_line.proofs.Stored.{Stored, stored-more}
 use Rattle.answer_line.proofs.answer_line.Statement.{statement}
 use Rattle.answer_line.proofs.answer_line.Tie as tie

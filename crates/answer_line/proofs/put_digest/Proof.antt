@@ -6,11 +6,16 @@ use mathlib.Core.List.{_∷_}
 use native.Mathlib.Omega.{arith}
 use lib.ListN.{length}
 use Rattle.octets.proofs.Stores.{sets-cons}
-use Rattle.scene_text.specs.Print.{hexText}
-use Rattle.scene_text.proofs.HexLaws.{hex-text-length}
+use Rattle.text.specs.Print.{hexText}
+use Rattle.text.proofs.HexLaws.{hex-text-length}
 use Rattle.answer_line.specs.Line.{digestText}
 use Rattle.answer_line.proofs.put_digest.Statement.{statement}
 use Rattle.answer_line.proofs.put_digest.Tie as tie
+
+add-result : tie.Need-add-result
+add-result c =
+    let digest = c .before .before .before .before .before .before .before .before .before .before .before .args .digest .now in
+    omega (arith, c .before .before .put-hex .ensures .0, hex-text-length digest)
 
 returns : tie.Need-returns
 unfolding digestText
@@ -35,10 +40,10 @@ pub put-digest-spec : {M : Type 1} → statement M
 put-digest-spec =
     tie.close
     (tie.spec
-    (λ c κs. search needs)
     (λ c. search needs)
     (λ c κs. search needs)
-    (λ c. search needs)
+    (λ c κs. search needs)
+    add-result
     (λ c. search needs)
     returns
     (λ c. search needs)

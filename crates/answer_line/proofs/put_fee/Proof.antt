@@ -6,7 +6,8 @@ use mathlib.Core.Path.{_≡_}
 use mathlib.Core.Logic.{_≢_}
 use mathlib.Core.List.{[]}
 use native.Mathlib.Omega.{arith}
-use Rattle.answer_line.specs.Line.{numberText, feeText}
+use Rattle.text.specs.Print.{numberText}
+use Rattle.answer_line.specs.Line.{feeText}
 use Rattle.answer_line.proofs.put_fee.Statement.{statement}
 use Rattle.answer_line.proofs.put_fee.Tie as tie
 

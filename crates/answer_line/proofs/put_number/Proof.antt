@@ -5,13 +5,11 @@ use mathlib.Core.Path.{refl, _∙_}
 use mathlib.Core.List.{_∷_}
 use native.Mathlib.Omega.{arith}
 use Rattle.octets.proofs.Stores.{sets-cons}
-use Rattle.scene_text.specs.Print.{decimalText}
-use Rattle.answer_line.specs.Line.{numberText}
+use Rattle.text.specs.Print.{numberText}
 use Rattle.answer_line.proofs.put_number.Statement.{statement}
 use Rattle.answer_line.proofs.put_number.Tie as tie
 
 returns : tie.Need-returns
-unfolding numberText
 returns c =
     let comma = c .before .before .before .before .before .before in
     let a = comma .before .before .before .args in
@@ -19,10 +17,17 @@ returns c =
       omega (arith, done .0),
       (
         omega (arith, done .1 .0),
-        done .1 .1 ∙ rw (comma .put-byte .ensures) (sets-cons (a .out .now) (a .at) 44 (decimalText 20 (a .value)) (a .at + 1) (44 ∷ decimalText 20 (a .value)) (omega arith) refl),
+        done .1 .1 ∙ rw (comma .put-byte .ensures) (sets-cons (a .out .now) (a .at) 44 (numberText (a .value)) (a .at + 1) (44 ∷ numberText (a .value)) (omega arith) refl),
       ),
     )
 
 pub put-number-spec : {M : Type 1} → statement M
 put-number-spec =
-    tie.close (tie.spec (λ c κs. search needs) (λ c. search needs) (λ c κs. search needs) (λ c. search needs) returns)
+    tie.close
+    (tie.spec
+    (λ c. search needs)
+    (λ c κs. search needs)
+    (λ c κs. search needs)
+    (λ c. search needs)
+    (λ c. search needs)
+    returns)

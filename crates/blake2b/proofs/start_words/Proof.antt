@@ -9,7 +9,8 @@ use lib.Bits.{bitXor}
 use lib.ListN.{length, getD}
 use Rattle.octets.specs.Le.{numberAt}
 use Rattle.octets.proofs.Filled.{Filled, filled-none, filled-more, filled-all}
-use Rattle.blake2b.specs.Rfc7693.{IV, startWords}
+use Rattle.blake2b_compression.specs.Compression.{IV}
+use Rattle.blake2b.specs.Rfc7693.{startWords}
 use Rattle.blake2b.proofs.start_words.Statement.{statement}
 use Rattle.blake2b.proofs.start_words.Tie as tie
 

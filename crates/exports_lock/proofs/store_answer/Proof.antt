@@ -1,5 +1,4 @@
 -- `exports_lock::store_answer` meets its contract, as its three calls do. Assumes nothing.
-use Prim.Native.Nat.{ℕ}
 use mathlib.Core.Path.{_≡_, refl, _∙_}
 use mathlib.Core.Bool.{Bool, true, false, cond}
 use mir.Val.{boolByte}

@@ -1,5 +1,5 @@
 -- `exports_test::fowlcredenza_ckb_hash_parts` meets its contract, by whether there is a first part. Assumes nothing.
-use mathlib.Core.Path.{_≡_, _∙_}
+use mathlib.Core.Path.{_≡_}
 use mathlib.Core.List.{List}
 use Prim.Native.Nat.{ℕ, _≤_, _<_}
 use native.Mathlib.Omega.{arith}

@@ -11,15 +11,15 @@ use Rattle.scene_reader.proofs.read_scene.Tie as tie
 
 read-checked-requires : tie.Need-read-checked-requires
 read-checked-requires c κs = (
-  c .before .before .before .before .before .before .before .before .clear-bytes .ensures ∙ ap (λ (n : ℕ). replicate n 0) (sym (c .before .before .before .before .before .before .before .before .clear-bytes .kept .0)),
-  c .before .before .before .before .clear-words .ensures ∙ ap (λ (n : ℕ). replicate n 0) (sym (c .before .before .before .before .clear-words .kept .0)),
+  c .before .before .before .before .before .before .before .before .zero-bytes .ensures ∙ ap (λ (n : ℕ). replicate n 0) (sym (c .before .before .before .before .before .before .before .before .zero-bytes .kept .0)),
+  c .before .before .before .before .zero-words .ensures ∙ ap (λ (n : ℕ). replicate n 0) (sym (c .before .before .before .before .zero-words .kept .0)),
 )
 
 returns : tie.Need-returns
 returns c =
     let a = c .before .before .before .before .before .before .before .before .before .before .before .before .before .before .before .before .before .before .before .before .args in
-    let n : length (c .before .before .before .before .before .before .before .before .before .before .before .before .before .before .before .clear-bytes .last .0) ≡ length (a .store .now) = c .before .before .before .before .before .before .before .before .before .before .before .before .before .before .before .clear-bytes .kept .0 in
-    let m : length (c .before .before .before .before .before .before .before .before .before .before .before .clear-words .last .0) ≡ length (a .table .now) = c .before .before .before .before .before .before .before .before .before .before .before .clear-words .kept .0 in
+    let n : length (c .before .before .before .before .before .before .before .before .before .before .before .before .before .before .before .zero-bytes .last .0) ≡ length (a .store .now) = c .before .before .before .before .before .before .before .before .before .before .before .before .before .before .before .zero-bytes .kept .0 in
+    let m : length (c .before .before .before .before .before .before .before .before .before .before .before .zero-words .last .0) ≡ length (a .table .now) = c .before .before .before .before .before .before .before .before .before .before .before .zero-words .kept .0 in
     let st = c .before .before .before .before .before .before .read-checked .last .1 .0 in
     let tb = c .before .before .before .before .before .before .read-checked .last .1 .1 .0 in
     let done : stepOutcome (c .before .before .before .before .before .before .read-checked .result) st tb ≡ readOf (a .scene .now) (length (a .store .now)) (length (a .table .now)) = rw (n, m) at (c .before .before .before .before .before .before .read-checked .ensures) in
@@ -29,8 +29,8 @@ returns c =
 returns-2 : tie.Need-returns-2
 returns-2 c =
     let a = c .before .before .before .before .before .before .before .before .before .before .before .before .before .before .before .before .before .before .before .before .before .before .before .before .before .before .before .before .before .args in
-    let n : length (c .before .before .before .before .before .before .before .before .before .before .before .before .before .before .before .before .before .before .before .before .before .before .before .before .clear-bytes .last .0) ≡ length (a .store .now) = c .before .before .before .before .before .before .before .before .before .before .before .before .before .before .before .before .before .before .before .before .before .before .before .before .clear-bytes .kept .0 in
-    let m : length (c .before .before .before .before .before .before .before .before .before .before .before .before .before .before .before .before .before .before .before .before .clear-words .last .0) ≡ length (a .table .now) = c .before .before .before .before .before .before .before .before .before .before .before .before .before .before .before .before .before .before .before .before .clear-words .kept .0 in
+    let n : length (c .before .before .before .before .before .before .before .before .before .before .before .before .before .before .before .before .before .before .before .before .before .before .before .before .zero-bytes .last .0) ≡ length (a .store .now) = c .before .before .before .before .before .before .before .before .before .before .before .before .before .before .before .before .before .before .before .before .before .before .before .before .zero-bytes .kept .0 in
+    let m : length (c .before .before .before .before .before .before .before .before .before .before .before .before .before .before .before .before .before .before .before .before .zero-words .last .0) ≡ length (a .table .now) = c .before .before .before .before .before .before .before .before .before .before .before .before .before .before .before .before .before .before .before .before .zero-words .kept .0 in
     let st = c .before .before .before .before .before .before .before .before .before .before .before .before .before .before .before .read-checked .last .1 .0 in
     let tb = c .before .before .before .before .before .before .before .before .before .before .before .before .before .before .before .read-checked .last .1 .1 .0 in
     let done : stepOutcome (c .before .before .before .before .before .before .before .before .before .before .before .before .before .before .before .read-checked .result) st tb ≡ readOf (a .scene .now) (length (a .store .now)) (length (a .table .now)) = rw (n, m) at (c .before .before .before .before .before .before .before .before .before .before .before .before .before .before .before .read-checked .ensures) in
@@ -38,8 +38,8 @@ returns-2 c =
     let k = c .before .before .before .before .before .before .before .before .before .before .before .before .before .before .before .read-checked .kept in (
       rw is,
       (
-        rw is (c .before .before .before .before .before .before .clear-bytes2 .ensures ∙ ap (λ (n : ℕ). replicate n 0) (k .1 .0 ∙ n)),
-        rw is (c .before .before .clear-words2 .ensures ∙ ap (λ (n : ℕ). replicate n 0) (k .1 .1 .0 ∙ m)),
+        rw is (c .before .before .before .before .before .before .zero-bytes2 .ensures ∙ ap (λ (n : ℕ). replicate n 0) (k .1 .0 ∙ n)),
+        rw is (c .before .before .zero-words2 .ensures ∙ ap (λ (n : ℕ). replicate n 0) (k .1 .1 .0 ∙ m)),
       ),
     )
 

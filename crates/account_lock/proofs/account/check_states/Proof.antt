@@ -1,7 +1,6 @@
 -- `account_lock::account::check_states` meets its contract. Assumes nothing.
 use mathlib.Core.Path.{sym, _∙_}
 use denote.Ref.{now}
-use Rattle.protocol.specs.Rows.{_then_}
 use Rattle.protocol.proofs.AllPass.{decide-append, decide-then}
 use Rattle.protocol.specs.declared.check.Check.the-variants.{Passed}
 use Rattle.scene_table.specs.Lent.{sceneIn}
@@ -13,9 +12,9 @@ use Rattle.account_lock.proofs.account.check_states.Statement.{statemen
 use Rattle.account_lock.proofs.account.check_states.Tie as tie
 
 returns : tie.Need-returns
-unfolding statesRows operation witnessSequence successor
+unfolding statesRows witnessSequence successor
 returns c =
-    let p = c .before .before .before .before .before .before .before .before .before .before .before in
+    let p = c .before .before .before .before .before .before .before .before .before .before in
     let s = sceneIn (now (p .args .table)) (now (p .args .store)) in
     rw (
       c .and .ensures,
@@ -24,7 +23,7 @@ returns c =
       c .before .before .before .check-data .ensures,
       c .before .before .before .before .state-since .ensures,
       c .before .before .before .before .before .successor-state .ensures,
-      c .before .before .before .before .before .before .operation-of .ensures,
+      p .pre .operation,
       p .pre .resolved,
       p .pre .current,
       p .pre .witness,
@@ -37,7 +36,6 @@ pub check-states-spec : {M : Type 1} → statement M
 check-states-spec =
     tie.close
     (tie.spec
-    (λ c κs. search needs)
     (λ c κs. search needs)
     (λ c κs. search needs)
     (λ c κs. search needs)

@@ -19,7 +19,7 @@ use Rattle.account_lock.proofs.account.lock_account.Tie as tie
 -- what stands where the states are found
 found : (c : tie.After-current-state) →
     let p = c .before .before .before .before .before .before .before .before .before in
-    StatesFound (now (c .before .before .before .lock-of .result)) (now (c .current-state .result)) (c .before .resolve-state .result)
+    StatesFound (now (c .before .before .before .lock-of .result)) (c .before .before .operation-of .result) (now (c .current-state .result)) (c .before .resolve-state .result)
     (sceneIn (now (p .args .table)) (now (p .args .store)))
 unfolding operation current
 found c =
@@ -31,6 +31,7 @@ found c =
     c .before .resolve-state .ensures ∙ rw (o, lock, p .pre .account) in
     record {
       witness = lock;
+      operation = o ∙ rw lock;
       current = c .current-state .ensures ∙ rw (o, lock, placed) (state-current (operation s) (account s) s);
       resolved = placed;
     }
@@ -50,8 +51,21 @@ late c =
 check-states-requires : tie.Need-check-states-requires
 check-states-requires c κs = found c
 
+lock-digest-requires : tie.Need-lock-digest-requires
+lock-digest-requires c κs =
+    let f = found (c .before .before .before .before .before .before) in
+    record { pass = c .before .before .before .before .before .before .before .before .before .before .before .before .before .before .before .pre; operation = f .operation; current = f .current }
+
 walk-account-requires : tie.Need-walk-account-requires
-walk-account-requires c κs = record { pass = c .before .before .before .before .before .before .before .before .before .before .before .before .before .before .before .before .pre; current = found (c .before .before .before .before .before .before .before) .current }
+walk-account-requires c κs =
+    let f = found (c .before .before .before .before .before .before .before .before) in
+    record {
+      group = c .before .before .before .before .before .before .before .before .before .before .before .before .before .before .before .before .before .pre .group;
+      witness = f .witness;
+      current = f .current;
+      operation = f .operation;
+      digest = c .before .lock-digest .ensures;
+    }
 
 returns : tie.Need-returns
 unfolding answered refused
@@ -63,10 +77,10 @@ returns c =
 
 returns-2 : tie.Need-returns-2
 returns-2 c =
-    let p = c .before .before .before .before .before .before .before .before .before .before .before .before .before .before .before .before .before .before .before in
+    let p = c .before .before .before .before .before .before .before .before .before .before .before .before .before .before .before .before .before .before .before .before in
     let w = c .before .before in
     let s = sceneIn (now (p .args .table)) (now (p .args .store)) in
-    let went = late-walked s (length (now (p .args .answer))) (late (c .before .before .before .before .before .before)) (c .before .before .before .before .enum-told .given .1) in
+    let went = late-walked s (length (now (p .args .answer))) (late (c .before .before .before .before .before .before .before)) (c .before .before .before .before .before .enum-told .given .1) in
     (w .walk-account .ensures .0 ∙ ap answerOf (sym went), w .walk-account .ensures .1 ∙ ap (λ (x : Result). answered (now (p .args .answer)) (x .made)) (sym went))
 
 pub lock-account-spec : {M : Type 1} → statement M
@@ -84,6 +98,7 @@ lock-account-spec =
     (λ c. search needs)
     (λ c κs. search needs)
     (λ c. search needs)
+    lock-digest-requires
     walk-account-requires
     returns
     (λ c. search needs)

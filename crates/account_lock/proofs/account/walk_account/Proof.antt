@@ -13,7 +13,7 @@ use Rattle.account_lock.specs.Lock.{operation, witnessLock, digest, cont
 use Rattle.decision.specs.Walk.{WalkOutcome, walkLock}
 use Rattle.proof_walk.specs.Answer.{sceneDeps, walkContext, proofWalkAnswer}
 use Rattle.proof_walk.proofs.WalkLaws.{walk-known}
-use Rattle.account_lock.proofs.LockLaws.{group-operation, pass-lock}
+use Rattle.account_lock.proofs.LockLaws.{group-operation}
 use borrow.Author.Needs.{needs}
 use Rattle.account_lock.proofs.account.walk_account.Statement.{statement}
 use Rattle.account_lock.proofs.account.walk_account.Tie as tie
@@ -31,40 +31,32 @@ unfolding answerOf walked
 walked-answer o s = rw (totals-found s (o .found), totals-fee s (o .found))
 
 returns : tie.Need-returns
-unfolding answerOf walkResult walked proofWalkAnswer walkContext sceneDeps contextOf operation
+unfolding answerOf walkResult walked proofWalkAnswer walkContext sceneDeps contextOf
 returns c =
     let w = c .before .before .before .before .before in
-    let p = w .before .before .before .before .before .before .before .before .before .before .before in
+    let p = w .before .before .before .before .before .before .before .before in
     let s = sceneIn (now (p .args .table)) (now (p .args .store)) in
-    let n = p .pre .pass in
-    let o = w .before .before .operation-of .ensures in
-    let l = w .before .before .before .lock-of .ensures in
-    let d = w .before .before .before .before .lock-digest .ensures in
     let totals = c .before .before .check-totals .ensures in
-    let known : isOperation (operation s) ≡ true = group-operation s (n .group) in (
+    let known : isOperation (operation s) ≡ true = group-operation s (p .pre .group) in (
       rw (
         c .fee-where .ensures,
         c .before .and .ensures,
         totals,
         w .walk-proofs .ensures .0,
-        d,
-        o,
-        l,
-        pass-lock _ _ s n,
+        p .pre .operation,
+        p .pre .digest,
+        p .pre .witness,
         walk-known,
         p .pre .current,
       )
           (walked-answer (walkLock (contextOf s (length (now (p .args .answer)))) (witnessLock s)) s),
-      w .walk-proofs .ensures .1 ∙ rw (d, o, l, pass-lock _ _ s n, walk-known, p .pre .current),
+      w .walk-proofs .ensures .1 ∙ rw (p .pre .operation, p .pre .digest, p .pre .witness, walk-known, p .pre .current),
     )
 
 pub walk-account-spec : {M : Type 1} → statement M
 walk-account-spec =
     tie.close
     (tie.spec
-    (λ c κs. search needs)
-    (λ c κs. search needs)
-    (λ c κs. search needs)
     (λ c κs. search needs)
     (λ c κs. search needs)
     (λ c κs. search needs)

@@ -1,5 +1,5 @@
 -- `account_lock::answer::refused` meets its contract. Assumes nothing.
-use mathlib.Core.Path.{_≡_, refl, sym, ap, _∙_}
+use mathlib.Core.Path.{refl}
 use Rattle.account_lock.specs.Lock as lock
 use Rattle.account_lock.proofs.answer.refused.Statement.{statement}
 use Rattle.account_lock.proofs.answer.refused.Tie as tie

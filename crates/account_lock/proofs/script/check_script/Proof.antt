@@ -5,7 +5,7 @@ use Prim.Native.Nat.{ℕ}
 use denote.Ref.{now}
 use Rattle.octets.specs.Places.{bytesAt}
 use Rattle.protocol.specs.Args.{argsRows}
-use Rattle.protocol.specs.Rows.{decide, _then_}
+use Rattle.protocol.specs.Rows.{decide}
 use Rattle.protocol.proofs.AllPass.{decide-then, decide-where}
 use Rattle.protocol.specs.declared.check.Check.{Check}
 use Rattle.molecule.specs.Bytes as molecule

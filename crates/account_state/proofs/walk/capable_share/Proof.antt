@@ -1,5 +1,5 @@
 -- `account_state::walk::capable_share` meets its contract: by the capability bit. Assumes nothing.
-use mathlib.Core.Path.{_≡_, refl}
+use mathlib.Core.Path.{_≡_}
 use mathlib.Core.Bool.{cond}
 use Prim.Native.Nat.{ℕ, zero, suc, _*_, _/_, _%_, _≤_, _<_}
 use native.Mathlib.Nat.{div-zero, one-mul, zero-mul}

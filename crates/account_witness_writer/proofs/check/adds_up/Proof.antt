@@ -3,8 +3,9 @@ use mathlib.Core.Path.{_≡_, refl, sym}
 use Prim.Native.Nat.{_+_, _-_, _≤_}
 use borrow.Author.Tests.{ne-eqb}
 use lib.ListN.{length, drop}
-use Rattle.account_witness_writer.specs.Writer.{sum}
-use Rattle.account_witness_writer.proofs.WriterLaws.{eqb-same, sum-turn, sum-end}
+use Rattle.octets.specs.Lists.{sum}
+use Rattle.octets.proofs.Sums.{sum-turn, sum-end}
+use Rattle.account_witness_writer.proofs.WriterLaws.{eqb-same}
 use borrow.Author.Needs.{needs}
 use native.Mathlib.Omega.{arith}
 use Rattle.account_witness_writer.proofs.check.adds_up.Statement.{statement}

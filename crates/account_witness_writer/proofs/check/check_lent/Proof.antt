@@ -8,7 +8,7 @@ use Rattle.account_witness_writer.proofs.check.check_lent.Tie as tie
 returns : tie.Need-returns
 unfolding lentProofRows decide
 returns c =
-    rw (c .require3 .ensures, c .before .all-rising .ensures, c .before .before .require2 .ensures, c .before .before .before .total-within .ensures, c .before .before .before .before .require .ensures, c .before .before .before .before .before .all-filled .ensures)
+    rw (c .require3 .ensures, c .before .is-rising .ensures, c .before .before .require2 .ensures, c .before .before .before .total-within .ensures, c .before .before .before .before .require .ensures, c .before .before .before .before .before .all-filled .ensures)
 
 pub check-lent-spec : {M : Type 1} → statement M
 check-lent-spec =

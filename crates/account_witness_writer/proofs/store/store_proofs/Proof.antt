@@ -4,8 +4,10 @@ use Prim.Native.Nat.{_+_, _*_, _-_, _≤_, _<_}
 use lib.ListN.{length, drop, getD}
 use lib.Seq.{sets, length-sets}
 use Rattle.account_witness.specs.Reading.{proofsBytes}
-use Rattle.account_witness_writer.specs.Writer.{sum, lentProofs}
-use Rattle.account_witness_writer.proofs.WriterLaws.{sum-turn, store-turn, store-end}
+use Rattle.octets.specs.Lists.{sum}
+use Rattle.octets.proofs.Sums.{sum-turn}
+use Rattle.account_witness_writer.specs.Writer.{lentProofs}
+use Rattle.account_witness_writer.proofs.WriterLaws.{store-turn, store-end}
 use borrow.Author.Needs.{needs}
 use native.Mathlib.Omega.{arith}
 use Rattle.account_witness_writer.proofs.store.store_proofs.Statement.{statement}

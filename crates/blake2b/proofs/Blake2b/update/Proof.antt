@@ -1,4 +1,4 @@
--- `blake2b::Blake2b::update` meets its contract: the waiting part is filled up, and then the locals stand at a block's border.
+-- `blake2b::Blake2b::update` meets its contract: the waiting part is filled up, and then the locals stand where a block ends.
 -- Assumes nothing.
 use mathlib.Core.Path.{_≡_, refl, _∙_}
 use mathlib.Core.Logic.{⊎-elim}
@@ -10,13 +10,13 @@ use lib.Seq.{take-all}
 use Rattle.blake2b.specs.declared.Blake2b.{Blake2b}
 use Rattle.blake2b.specs.State.{fedAll}
 use Rattle.blake2b.proofs.Feed.{feed-fill}
-use Rattle.blake2b.proofs.Border.{Border, border-first, border-next, border-rest}
+use Rattle.blake2b.proofs.WholeBlocks.{WholeBlocks, blocks-first, blocks-next, blocks-rest}
 use borrow.Author.Needs.{needs}
 use Rattle.blake2b.proofs.Blake2b.update.Statement.{statement}
 use Rattle.blake2b.proofs.Blake2b.update.Tie as tie
 
 abbrev Inv-loop : tie.InvT-loop
-Inv-loop self xs h₀ fed₀ at₀ h fed at = (at < length xs) × Border self xs at h fed
+Inv-loop self xs h₀ fed₀ at₀ h fed at = (at < length xs) × WholeBlocks self xs at h fed
 
 abbrev μ-loop : tie.MeasureT-loop
 μ-loop self xs h₀ fed₀ at₀ h fed at = length xs - at
@@ -34,7 +34,7 @@ loop-holds c =
     rw (u .ensures, w .ensures, p .next-place .ensures, sub-zero)
     (feed-fill (a .self) xs (n .result) (search needs) (omega arith) (omega arith)) in (
       omega arith,
-      rw (c .flush .ensures) (border-first (a .self) s xs (n .result) (omega arith) (omega arith) f),
+      rw (c .flush .ensures) (blocks-first (a .self) s xs (n .result) (omega arith) (omega arith) f),
     )
 
 loop-again : tie.Need-loop-again Inv-loop μ-loop
@@ -43,7 +43,7 @@ loop-again c =
     let a = c .before .before .before .before .before .before .before .before .before .before .before .before .before .before .before .before .before .before .args in (
       omega arith,
       rw (c .flush2 .ensures)
-          (border-next (a .self) (a .«data» .now) (l .at) (l .h) (l .fed) (l .inv .1) (l .at + 128) (c .before .before .wrapping-add-u642 .result) refl (omega arith) (c .before .before .wrapping-add-u642 .ensures)),
+          (blocks-next (a .self) (a .«data» .now) (l .at) (l .h) (l .fed) (l .inv .1) (l .at + 128) (c .before .before .wrapping-add-u642 .result) refl (omega arith) (c .before .before .wrapping-add-u642 .ensures)),
     )
 
 returns : tie.Need-returns Inv-loop μ-loop
@@ -58,7 +58,7 @@ returns c =
     (λ w.
     let l = w .3 in
     rw (w .10, w .11, w .12, w .9 .ensures, w .7 .ensures)
-    (border-rest (a .self) xs (l .at) (l .h) (l .fed) (l .inv .1) (l .inv .0) (omega (arith, w .4 .left))))
+    (blocks-rest (a .self) xs (l .at) (l .h) (l .fed) (l .inv .1) (l .inv .0) (omega (arith, w .4 .left))))
     (λ w.
     let e : length xs ≤ n .result = omega (arith, w .0 .left) in
     rw (w .1, w .2, w .3, u .ensures, q .ensures, p .next-place .ensures, sub-zero)

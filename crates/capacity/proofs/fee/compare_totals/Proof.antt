@@ -1,5 +1,5 @@
 -- `capacity::fee::compare_totals` meets its contract, by its cases. Assumes nothing.
-use mathlib.Core.Path.{_≡_, sym, _∙_}
+use mathlib.Core.Path.{_∙_}
 use native.Mathlib.Omega.{arith}
 use borrow.Author.Needs.{needs}
 use Rattle.capacity.proofs.FeeLaws.{total-above, total-sum, fee-inputs-above, fee-outputs-above, fee-exceeded, fee-covered}

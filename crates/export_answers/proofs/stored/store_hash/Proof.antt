@@ -1,5 +1,4 @@
 -- `export_answers::stored::store_hash` meets its contract, by what was found. Assumes nothing.
-use mathlib.Core.Path.{_∙_}
 use Rattle.export_answers.proofs.Fits.{bytes-refused}
 use borrow.Author.Needs.{needs}
 use Rattle.export_answers.proofs.stored.store_hash.Statement.{statement}

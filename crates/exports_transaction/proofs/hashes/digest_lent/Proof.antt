@@ -1,5 +1,5 @@
 -- `exports_transaction::hashes::digest_lent` meets its contract, by what the check of the sizes finds. Assumes nothing.
-use mathlib.Core.Path.{_≡_, sym, _∙_}
+use mathlib.Core.Path.{sym, _∙_}
 use Rattle.protocol.specs.Rows.{_▷_, decide}
 use Rattle.export_answers.proofs.Sizes.{first-whole, second-whole}
 use Rattle.protocol.specs.Policy.{operationRows}

@@ -1,5 +1,4 @@
 -- `exports_transaction::tables::place_stored` meets its contract, by cases of the answer. Assumes nothing.
-use mathlib.Core.Path.{_∙_}
 use Rattle.export_answers.proofs.Fits.{bytes-refused}
 use Rattle.exports_transaction.specs.Answers.{placeWords}
 use borrow.Author.Needs.{needs}

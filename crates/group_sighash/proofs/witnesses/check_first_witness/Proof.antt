@@ -4,7 +4,7 @@ use mathlib.Core.List.{List, _++_}
 use Prim.Native.Nat.{ℕ}
 use denote.Ref.{now}
 use Rattle.octets.specs.Places.{bytesAt}
-use Rattle.protocol.specs.Rows.{decide, _then_}
+use Rattle.protocol.specs.Rows.{decide}
 use Rattle.protocol.specs.declared.check.Check.{Check}
 use Rattle.protocol.proofs.AllPass.{decide-append, decide-then, decide-where}
 use Rattle.group_sighash.specs.Witnesses.{firstWitnessRows, countRows, lockIn}

@@ -1,7 +1,7 @@
 -- `group_sighash::witnesses::check_hashed` meets its contract. Assumes nothing.
-use mathlib.Core.Path.{_≡_, sym, _∙_}
+use mathlib.Core.Path.{sym, _∙_}
 use denote.Ref.{now}
-use Rattle.protocol.specs.Rows.{decide, _then_}
+use Rattle.protocol.specs.Rows.{decide}
 use Rattle.protocol.proofs.AllPass.{decide-append, decide-then}
 use Rattle.protocol.specs.declared.error.ProtocolError.the-variants.{InvalidWitness}
 use Rattle.molecule.specs.Table3.{tableRows}

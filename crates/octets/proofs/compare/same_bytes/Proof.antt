@@ -4,7 +4,7 @@ use mathlib.Core.Path.{_≡_, refl, sym, _∙_}
 use Prim.Native.Nat.{_-_, _≤_}
 use native.Mathlib.Omega.{arith}
 use borrow.Author.Tests.{eq-eqb, ne-eqb}
-use lib.ListN.{length, drop, getD}
+use lib.ListN.{length, drop}
 use Rattle.octets.specs.Lists.{same}
 use Rattle.octets.proofs.Same.{same-lengths, same-turn, same-end}
 use Rattle.octets.proofs.compare.same_bytes.Statement.{statement}

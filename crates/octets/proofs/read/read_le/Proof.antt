@@ -4,7 +4,7 @@ use borrow.Author.Needs.{needs}
 use mathlib.Core.Path.{_≡_, ap₂, _∙_}
 use Prim.Native.Nat.{ℕ, _+_, _-_, _≤_, _<_, _^_}
 use native.Mathlib.Omega.{arith}
-use lib.ListN.{length, getD}
+use lib.ListN.{getD}
 use Rattle.octets.specs.Le.{numberAt, Bytes}
 use Rattle.octets.proofs.LeLaws.{number-turn, number-under, number-none}
 use Rattle.octets.proofs.read.read_le.Statement.{statement}

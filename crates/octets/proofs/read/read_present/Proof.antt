@@ -1,5 +1,5 @@
 -- `octets::read::read_present` meets its contract: bytes past the end add nothing. Assumes nothing.
-use mathlib.Core.Path.{sym, _∙_}
+use mathlib.Core.Path.{_∙_}
 use native.Mathlib.Omega.{arith}
 use Rattle.octets.proofs.LeLaws.{number-out, number-clip}
 use borrow.Author.Needs.{needs}

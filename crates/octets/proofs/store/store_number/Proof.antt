@@ -1,5 +1,5 @@
 -- `octets::store::store_number` meets its contract: what has no room is not stored. Assumes nothing.
-use mathlib.Core.Path.{sym, ap, _∙_}
+use mathlib.Core.Path.{sym, _∙_}
 use native.Mathlib.Omega.{arith}
 use Rattle.octets.specs.Le.{toLe}
 use Rattle.octets.proofs.LeLaws.{sets-to-clip}

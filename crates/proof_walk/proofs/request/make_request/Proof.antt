@@ -30,36 +30,36 @@ digest-long : (s : tie.Start) → length (s .args .authorization .digest) ≡ 32
 digest-long s = search needs
 
 -- what the checks find is what the proof's rows say
-checked : (c : tie.After-check-request) →
+checked : (c : tie.After-check-found) →
     let a = c .before .before .before .before .before .before .before .before .before .args in
-    c .check-request .result
+    c .check-found .result
     ≡ decide Passed (proofRows (walkContext (a .table .now) (a .store .now) (a .state .now) (a .authorization .operation) (a .authorization .digest) (length (a .out .now))) 0 (proofWith (a .slot) (a .proof .now)))
 checked c =
     let a = c .before .before .before .before .before .before .before .before .before .args in
     let f = c .before .before .before .find-authenticator in
-    (rw (c .before .is-known .ensures, c .before .before .entry-bytes .ensures) at (c .check-request .ensures))
+    (rw (c .before .is-known .ensures, c .before .before .entry-in .ensures) at (c .check-found .ensures))
     ∙ ap (decide Passed) (found-rows (a .table .now) (a .store .now) (a .state .now) (a .authorization .operation) (a .authorization .digest) (length (a .out .now)) (a .slot) (a .proof .now) (f .result) (f .ensures))
 
 -- where they find nothing every row passes, by the entry that was found
 rows : (t : tie.After-enum-told) →
     let k = t .before .before in
     let a = k .before .before .before .before .before .before .before .before .before .args in
-    decide Passed (foundRows (k .before .is-known .result) (a .authorization .operation) (sceneDeps (a .table .now) (a .store .now)) (entryOf (k .before .before .entry-bytes .result .now)) (length (a .proof .now)) (length (a .out .now)))
+    decide Passed (foundRows (k .before .is-known .result) (a .authorization .operation) (sceneDeps (a .table .now) (a .store .now)) (entryOf (k .before .before .entry-in .result .now)) (length (a .proof .now)) (length (a .out .now)))
     ≡ Passed
-rows t = sym (t .before .before .check-request .ensures) ∙ t .enum-told .given .1
+rows t = sym (t .before .before .check-found .ensures) ∙ t .enum-told .given .1
 
 -- and the writer answers the request's length
 wrote : (d : tie.After-encode-request) →
     let k = d .before .before .before .before in
     let a = k .before .before .before .before .before .before .before .before .before .args in
     d .encode-request .result
-    ≡ Written (length (requestBytes (requestContent (a .authorization .operation) (a .authorization .digest) (entryOf (k .before .before .entry-bytes .result .now)) (proofWith (a .slot) (a .proof .now)))))
+    ≡ Written (length (requestBytes (requestContent (a .authorization .operation) (a .authorization .digest) (entryOf (k .before .before .entry-in .result .now)) (proofWith (a .slot) (a .proof .now)))))
 wrote d =
     let k = d .before .before .before .before in
     let s = k .before .before .before .before .before .before .before .before .before in
     let a = s .args in
     d .encode-request .ensures .0
-    ∙ made-written _ (a .authorization .operation) (a .authorization .digest) _ (entryOf (k .before .before .entry-bytes .result .now)) (proofWith (a .slot) (a .proof .now)) (a .out .now) (digest-long s) (rows (d .before .before))
+    ∙ made-written _ (a .authorization .operation) (a .authorization .digest) _ (entryOf (k .before .before .entry-in .result .now)) (proofWith (a .slot) (a .proof .now)) (a .out .now) (digest-long s) (rows (d .before .before))
 
 returns : tie.Need-returns
 returns c = (sym (checked (c .before .before .before)) ∙ c .before .error .given .1, refl)
@@ -75,7 +75,7 @@ returns-3 c =
     let s = k .before .before .before .before .before .before .before .before .before in
     let a = s .args in
     let f = k .before .before .before .find-authenticator in
-    let e = k .before .before .entry-bytes in
+    let e = k .before .before .entry-in in
     let p = proofWith (a .slot) (a .proof .now) in
     let n = digest-long s in
     let q = found-request (a .table .now) (a .store .now) (a .state .now) (a .authorization .operation) (a .authorization .digest) (length (a .out .now)) (a .slot) (a .proof .now) (f .result) (f .ensures) in

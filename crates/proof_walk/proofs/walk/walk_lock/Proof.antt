@@ -140,7 +140,7 @@ returns-3 c =
     (walk-ends (a .table .now) (a .store .now) (a .state .now) (a .authorization .operation) (a .authorization .digest) h (omega (arith, c .before .before .loop-test .left)))
     (h .long)
     (h .wrote)
-    (rw (c .before .check-end .ensures) at (c .answer-of3 .ensures))
+    (rw (c .before .check-last .ensures) at (c .answer-of3 .ensures))
 
 pub walk-lock-spec : {M : Type 1} → statement M
 walk-lock-spec =

@@ -2,7 +2,7 @@
 use native.Mathlib.Omega.{arith}
 use mathlib.Core.Path.{sym, _∙_}
 use borrow.Author.Needs.{needs}
-use Rattle.scene_text.proofs.HexLaws.{hex-length}
+use Rattle.text.proofs.HexLaws.{hex-length}
 use Rattle.scene_line.specs.Line.{fieldBytes}
 use Rattle.scene_line.proofs.field.field_size.Statement.{statement}
 use Rattle.scene_line.proofs.field.field_size.Tie as tie

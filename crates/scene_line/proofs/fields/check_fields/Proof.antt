@@ -7,7 +7,7 @@ use mathlib.Core.List.{[]}
 use native.Mathlib.Omega.{arith}
 use borrow.Author.Needs.{needs}
 use lib.ListN.{length, take}
-use Rattle.scene_text.specs.Text.{pieces, comma}
+use Rattle.text.specs.Text.{pieces, comma}
 use Rattle.scene_line.specs.Line.{fieldOk, bareAfter, formsOk, fieldBytes, lineBytes, fieldsFound}
 use Rattle.scene_line.proofs.FieldLaws.{forms-next, fields-length, bytes-on}
 use Rattle.scene_line.proofs.fields.check_fields.Statement.{statement}

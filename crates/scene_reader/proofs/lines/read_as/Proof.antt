@@ -3,7 +3,7 @@ use mathlib.Core.Path.{refl, sym, _∙_}
 use native.Mathlib.Omega.{arith}
 use borrow.Author.Needs.{needs}
 use lib.ListN.{length}
-use Rattle.scene_text.specs.Text.{pieces, comma}
+use Rattle.text.specs.Text.{pieces, comma}
 use Rattle.scene_reader.specs.Room.{stateHolding}
 use Rattle.scene_reader.proofs.LinePasses.{line-passes}
 use Rattle.scene_reader.proofs.PutDown.{found-as, counted, room, stepped, kept}

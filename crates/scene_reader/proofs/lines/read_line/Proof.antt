@@ -5,7 +5,7 @@ use borrow.Author.Needs.{needs}
 use mathlib.Core.Bool.{and-false}
 use Rattle.scene_reader.proofs.LinesOutcome.{kept-more, step-cut}
 use Rattle.protocol.specs.Rows.{_▷_, decide}
-use Rattle.scene_text.specs.Text.{pieces, comma}
+use Rattle.text.specs.Text.{pieces, comma}
 use Rattle.scene_line.proofs.KindLaws.{shape, field-counted}
 use Rattle.scene_line.specs.Kind.{lineKind, kindOf, lineFields}
 use Rattle.scene_reader.specs.Reader.{lineRows, rowsOfLine}

@@ -9,7 +9,7 @@ use Rattle.scene_reader.specs.Reader.{ReaderState, readerStart, linesOut
 use Rattle.scene_reader.specs.declared.state.LineStep.the-variants.{Next}
 use Rattle.scene_reader.specs.declared.state.LineStep.{LineStep}
 use Rattle.scene_reader.specs.Room.{entriesBefore, entriesEach, entriesLimit, lineOutcome, ReaderReady, ReadyAfter, stateHolding, stepOutcome}
-use Rattle.scene_text.specs.Text.{pieces, lineEnd}
+use Rattle.text.specs.Text.{pieces, lineEnd}
 use Rattle.scene_reader.proofs.LinesOutcome.{starts, run-last, run-on, run-off}
 use Rattle.scene_reader.proofs.lines.read_lines.Statement.{statement}
 use Rattle.scene_reader.proofs.lines.read_lines.Tie as tie

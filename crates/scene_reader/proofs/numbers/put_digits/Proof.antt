@@ -9,7 +9,7 @@ use lib.Seq.{sets}
 use native.Mathlib.Numerals.{add-one}
 use native.Mathlib.Nat.{add-zero}
 use Rattle.scene_reader.proofs.NumberLaws.{map-on, map-end}
-use Rattle.scene_text.specs.Text.{hexVal}
+use Rattle.text.specs.Text.{hexVal}
 use Rattle.scene_reader.proofs.numbers.put_digits.Statement.{statement}
 use Rattle.scene_reader.proofs.numbers.put_digits.Tie as tie
 

@@ -4,7 +4,7 @@ use mathlib.Core.Path.{sym, _∙_}
 use lib.ListN.{length-set}
 use borrow.Author.Needs.{needs}
 use native.Mathlib.Numerals.{add-one}
-use Rattle.scene_text.specs.Text.{numberIn}
+use Rattle.text.specs.Text.{numberIn}
 use Rattle.scene_reader.proofs.numbers.put_halves.Statement.{statement}
 use Rattle.scene_reader.proofs.numbers.put_halves.Tie as tie
 

@@ -3,7 +3,7 @@ use native.Mathlib.Omega.{arith}
 use mathlib.Core.Path.{refl}
 use lib.ListN.{length-map}
 use borrow.Author.Needs.{needs}
-use Rattle.scene_text.specs.Text.{hexVal}
+use Rattle.text.specs.Text.{hexVal}
 use Rattle.scene_reader.proofs.numbers.put_number.Statement.{statement}
 use Rattle.scene_reader.proofs.numbers.put_number.Tie as tie
 

@@ -3,7 +3,7 @@ use mathlib.Core.Path.{_≡_, sym, _∙_}
 use mathlib.Core.Bool.{true, false}
 use native.Mathlib.Omega.{arith}
 use borrow.Author.Needs.{needs}
-use Rattle.scene_text.proofs.HexLaws.{hex-length}
+use Rattle.text.proofs.HexLaws.{hex-length}
 use Rattle.scene_line.specs.Line.{hexForm, fieldBytes}
 use Rattle.scene_reader.proofs.put.put_bytes.Statement.{statement}
 use Rattle.scene_reader.proofs.put.put_bytes.Tie as tie

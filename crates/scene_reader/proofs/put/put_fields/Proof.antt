@@ -5,7 +5,7 @@ use native.Mathlib.Omega.{arith}
 use borrow.Author.Needs.{needs}
 use lib.ListN.{length}
 use lib.Seq.{sets}
-use Rattle.scene_text.specs.Text.{pieces, comma}
+use Rattle.text.specs.Text.{pieces, comma}
 use Rattle.scene_line.specs.Line.{fieldBytes, lineBytes, fieldEntries, lineEntries}
 use Rattle.scene_line.proofs.FieldLaws.{bytes-on, numbers-on}
 use Rattle.scene_reader.proofs.FieldsPut.{bytes-none, numbers-none, put-within, put-on, put-end}

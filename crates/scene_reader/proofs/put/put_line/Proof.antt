@@ -3,7 +3,7 @@ use mathlib.Core.Path.{_∙_}
 use native.Mathlib.Omega.{arith}
 use borrow.Author.Needs.{needs}
 use lib.ListN.{length-set}
-use Rattle.scene_text.specs.Text.{pieces, comma}
+use Rattle.text.specs.Text.{pieces, comma}
 use Rattle.scene_reader.proofs.Bounds.{seen-few}
 use Rattle.scene_reader.proofs.PutDown.{is-put}
 use Rattle.scene_reader.proofs.put.put_line.Statement.{statement}

@@ -1,5 +1,5 @@
 -- `state_transition::resolve::check_types` meets its contract. Assumes nothing.
-use Rattle.protocol.specs.Rows.{decide, _▷_, _then_}
+use Rattle.protocol.specs.Rows.{decide}
 use Rattle.state_transition.specs.Resolve.{typeRows}
 use borrow.Author.Needs.{needs}
 use Rattle.state_transition.proofs.resolve.check_types.Statement.{statement}

@@ -1,5 +1,4 @@
 -- `state_transition::resolve::current_state` meets its contract. Assumes nothing.
-use mathlib.Core.Path.{_≡_, refl, sym, ap, _∙_}
 use borrow.Author.Tests.{eq-eqb, ne-eqb}
 use Rattle.state_transition.specs.Resolve.{stateSource, currentAt}
 use borrow.Author.Needs.{needs}

@@ -2,15 +2,14 @@
 use Prim.Native.Nat.{ℕ}
 use Rattle.protocol.specs.declared.check.Check.{Check}
 use Rattle.state_transition.specs.declared.resolve.ResolvedState.{ResolvedState}
-use mathlib.Core.Path.{_≡_, refl, sym, ap, _∙_}
+use mathlib.Core.Path.{sym, ap}
 use denote.Ref.{now}
-use Rattle.protocol.specs.Rows.{decide, _▷_, _then_}
-use Rattle.protocol.proofs.AllPass.{decide-append, decide-then}
-use Rattle.protocol.specs.declared.check.Check.the-variants.{Passed}
+use Rattle.protocol.specs.Rows.{decide}
+use Rattle.protocol.proofs.AllPass.{decide-then}
 use Rattle.state_transition.specs.Resolve.{changeRows, typeRows, stateIndices, stateIndex, stateCell}
 use Rattle.state_transition.specs.Branches.{changeOf}
 use Rattle.scene_table.specs.Lent.{sceneIn}
-use Rattle.cell_search.specs.Search.{cellSearch, matches, cellsOf}
+use Rattle.cell_search.specs.Search.{cellSearch}
 use Rattle.cell_search.specs.declared.cells.Source.the-variants as source
 use Rattle.cell_search.proofs.CellLaws.{one-count, found-count, several-count}
 use borrow.Author.Needs.{needs}

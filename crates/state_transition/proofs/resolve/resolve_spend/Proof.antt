@@ -1,11 +1,10 @@
 -- `state_transition::resolve::resolve_spend` meets its contract. Assumes nothing.
-use mathlib.Core.Path.{_≡_, refl, sym, ap, _∙_}
 use denote.Ref.{now}
-use Rattle.protocol.specs.Rows.{decide, _▷_, _then_}
+use Rattle.protocol.specs.Rows.{decide}
 use Rattle.state_transition.specs.Resolve.{spendRows, stateIndices, stateIndex}
 use Rattle.state_transition.specs.Branches.{spendOf}
 use Rattle.scene_table.specs.Lent.{sceneIn}
-use Rattle.cell_search.specs.Search.{cellSearch, matches, cellsOf}
+use Rattle.cell_search.specs.Search.{cellSearch}
 use Rattle.cell_search.specs.declared.cells.Source.the-variants as source
 use Rattle.cell_search.proofs.CellLaws.{missing-count, found-count, several-count}
 use borrow.Author.Needs.{needs}

@@ -1,5 +1,5 @@
 -- `state_transition::resolve::state_since` meets its contract. Assumes nothing.
-use mathlib.Core.Path.{_≡_, refl, sym, ap, _∙_}
+use mathlib.Core.Path.{sym, ap, _∙_}
 use denote.Ref.{now}
 use lib.ListN.{List·getD-eq-default}
 use Rattle.scene_table.specs.Scene.{Input}

@@ -1,5 +1,4 @@
 -- `state_transition::resolve::successor_state` meets its contract. Assumes nothing.
-use mathlib.Core.Path.{_≡_, refl, sym, ap, _∙_}
 use borrow.Author.Tests.{eq-eqb, ne-eqb}
 use borrow.Author.Needs.{needs}
 use Rattle.state_transition.proofs.resolve.successor_state.Statement.{statement}

@@ -1,9 +1,9 @@
 -- `state_transition::transition::check_current` meets its contract. Assumes nothing.
-use mathlib.Core.Path.{_≡_, refl, sym, ap, _∙_}
-use Rattle.protocol.specs.Rows.{decide, _▷_, _then_}
-use Rattle.protocol.proofs.AllPass.{decide-append, decide-then}
+use mathlib.Core.Path.{sym}
+use Rattle.protocol.specs.Rows.{decide}
+use Rattle.protocol.proofs.AllPass.{decide-append}
 use Rattle.protocol.specs.declared.check.Check.the-variants.{Passed}
-use Rattle.account_state.specs.State.{stateFault, stateRows}
+use Rattle.account_state.specs.State.{stateRows}
 use Rattle.state_transition.specs.Transition.{currentRows}
 use borrow.Author.Needs.{needs}
 use Rattle.state_transition.proofs.transition.check_current.Statement.{statement}
@@ -11,7 +11,7 @@ use Rattle.state_transition.proofs.transition.check_current.Tie as tie
 
 returns : tie.Need-returns
 unfolding currentRows decide
-returns c = rw (c .require .ensures, c .before .sequence-of .ensures, c .before .before .check-state .ensures) (sym (decide-append Passed (stateRows _) _))
+returns c = rw (c .require .ensures, c .before .sequence-of .ensures, c .before .before .check-state .ensures .0) (sym (decide-append Passed (stateRows _) _))
 
 pub check-current-spec : {M : Type 1} → statement M
 check-current-spec =

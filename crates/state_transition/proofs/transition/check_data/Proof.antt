@@ -1,5 +1,5 @@
 -- `state_transition::transition::check_data` meets its contract. Assumes nothing.
-use Rattle.protocol.specs.Rows.{decide, _▷_, _then_}
+use Rattle.protocol.specs.Rows.{decide}
 use Rattle.state_transition.specs.Transition.{dataRows}
 use borrow.Author.Needs.{needs}
 use Rattle.state_transition.proofs.transition.check_data.Statement.{statement}

@@ -14,7 +14,7 @@ unfolding successorRows decide
 returns c =
     let found = c .before .before in
     let next = found .before in
-    rw (c .require2 .ensures, c .before .require .ensures, found .check-state .ensures, next .is-next .ensures, next .before .sequence-of2 .ensures, next .before .before .sequence-of .ensures, next .before .before .before .session-free .ensures) (sym (decide-append Passed (stateRows _) _))
+    rw (c .require2 .ensures, c .before .require .ensures, found .check-state .ensures .0, next .is-next .ensures, next .before .sequence-of2 .ensures, next .before .before .sequence-of .ensures, next .before .before .before .session-free .ensures) (sym (decide-append Passed (stateRows _) _))
 
 pub check-successor-spec : {M : Type 1} → statement M
 check-successor-spec =

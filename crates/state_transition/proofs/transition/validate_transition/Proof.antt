@@ -1,6 +1,5 @@
 -- `state_transition::transition::validate_transition` meets its contract. Assumes nothing.
-use mathlib.Core.Path.{_≡_, refl, sym, ap, _∙_}
-use Rattle.protocol.specs.Rows.{decide, _▷_, _then_}
+use mathlib.Core.Path.{sym, _∙_}
 use Rattle.protocol.proofs.AllPass.{decide-append, decide-then}
 use Rattle.protocol.specs.declared.check.Check.the-variants.{Passed}
 use borrow.Author.Tests.{eq-eqb, ne-eqb}

@@ -1,0 +1,3 @@
+pub mod Compression
+pub mod Schedule
+pub mod Example

@@ -1,0 +1,9 @@
+pub mod Numbers
+pub mod Before
+pub mod Answers
+pub mod Fee
+pub mod Real
+pub mod Session
+pub mod Waiting
+pub mod AuxLimit
+pub mod Statements

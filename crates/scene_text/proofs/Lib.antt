@@ -1,4 +1,0 @@
-pub mod Pieces
-pub mod RangeLaws
-pub mod HexLaws
-pub mod DecimalLaws
