@@ -168,13 +168,13 @@ impl Samples<'_> {
     fn reader(&mut self, accepted: &[u8]) -> io::Result<()> {
         let lines: Vec<&[u8]> = accepted.split_inclusive(|byte| *byte == 10).collect();
         let (first, rest) = lines.split_first().expect("a scene has lines");
-        self.refused("02_line", &rest.concat(), 2)?;
+        self.refused("02_invalid_line", &rest.concat(), 2)?;
         let field = [b"script,0\n", &rest.concat()[..]].concat();
-        self.refused("03_field", &field, 3)?;
+        self.refused("03_invalid_field", &field, 3)?;
         let tx_hash = rest.first().expect("a scene has a transaction hash");
         let witnesses = b"witness,\n".repeat(65);
         let many = [first, tx_hash, &witnesses[..], b"verdicts,\n"].concat();
-        self.refused("04_too_many", &many, 4)
+        self.refused("04_too_many_lines", &many, 4)
     }
 }
 
