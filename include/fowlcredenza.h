@@ -1,15 +1,16 @@
-/* The functions of libfowlcredenza.a, which tools/library makes. `include/fowlcredenza.rs` declares the same for Rust.
+/* The functions of libfowlcredenza.a, which tools/library makes. `include/fowlcredenza.rs` declares the same for Rust;
+ * target/lib/libfowlcredenza.so has them for languages that load a library.
  *
  * A caller must see to this; no function can test it:
- * - A slice is a pointer and the number of its elements (of bytes for `uint8_t`, of entries for the wider ones). There are so
- *   many elements behind the pointer, which is aligned for them and not NULL, not even where the number is 0.
+ * - A slice is a pointer and the number of its elements (of bytes for `uint8_t`, of entries for the wider ones). So many
+ *   elements are there, and the pointer is aligned for them and not NULL, not even where the number is 0.
  * - A slice that is not `const` is written. It shares no memory with another slice of the same call; `const` slices may
  *   share memory with each other.
  * - `len` is aligned and not NULL. It shares no memory with a slice of the same call.
  *
  * A function returns the number of docs/NUMBERS.md, 0 accepted, unless its comment says otherwise. docs/LAYOUTS.md has the
  * layouts of slices. A function with an `out` and no `len` stores its numbers as 64-bit little-endian words, or a hash as 32
- * bytes, at the front of `out`; the bytes behind stay. Places are offsets into the input. An `out` that is too short for all
+ * bytes, at the front of `out`; the bytes after them stay. Places are offsets into the input. An `out` that is too short for all
  * of it is 5, after every other refusal. A refusal leaves `out` and `len` as they were. Where the two functions of the lock
  * differ, their comment says it. */
 #ifndef FOWLCREDENZA_H
@@ -122,7 +123,7 @@ uint32_t fowlcredenza_parse_state_header(const uint8_t *state, size_t state_len,
                                          size_t out_len);
 
 /* The same, then the weights of the holders of spend, rotate and recovery. An aux above 2,593 bytes is 44, after
- * the other faults of its entry and before those behind it. */
+ * the other faults of its entry and before those of later ones. */
 uint32_t fowlcredenza_validate_state(const uint8_t *state, size_t state_len, uint8_t *out,
                                      size_t out_len);
 
@@ -221,9 +222,13 @@ uint32_t fowlcredenza_table_valid(const uint32_t *table, size_t table_len, size_
 /* Decides what table and store hold; the requests go to the front of `answer`. Whatever the number, `out` takes count and
  * length of the requests and 1 where there is a digest, as words, then the digest's 32 bytes, zeros where there is none, then
  * the fee as a word, which is what all inputs have less what all outputs have, and 0 where the number is not 0. An `out` below
- * 64 bytes is 7 before all else, and then nothing is written anywhere. A rotation or a recovery to a state with flag 2, or with
- * an entry that has capability 0x0008, is 49, after that state's own refusals and before its sequence's. After all others come
- * the capacities': 39 where the inputs' total or the outputs' passes 2^64-1, then 48 where the outputs' exceeds the inputs'. */
+ * 64 bytes is 7 before all else, and then nothing is written anywhere. Where document 02's numbers stand among the others:
+ * - 40 after 7, before the script's: a type hash is not that of its type script, or a data hash not that of its data.
+ * - 44 in a state, the current one and the successor, after the other faults of its entry: an aux above 2,593 bytes.
+ * - 49 after the successor's own refusals, before its sequence's: it has flag 2, or an entry with capability 0x0008.
+ * - 42, then 34, after 29, in a recovery whose recovery_since is not 0: 42 where it or the input's since is malformed, 34 where
+ *   relative flag or metric differ or the input's value is lower.
+ * - 39, then 48, after all others: the inputs' total or the outputs' passes 2^64-1; the outputs' exceeds the inputs'. */
 uint32_t fowlcredenza_lock(const uint32_t *table, size_t table_len, const uint8_t *store,
                            size_t store_len, uint8_t *answer, size_t answer_len, uint8_t *out,
                            size_t out_len);

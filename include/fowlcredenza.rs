@@ -75,6 +75,7 @@ pub mod size {
     pub const LOCK_OUT_LEN: usize = 64;
 }
 
+#[allow(dead_code)]
 #[link(name = "fowlcredenza", kind = "static")]
 unsafe extern "C" {
     pub fn fowlcredenza_ckb_hash(
