@@ -18,8 +18,7 @@ unfoldable pub entryFor : ℕ → List EntryReading → EntryReading
 entryFor slot [] = noEntry
 entryFor slot (e ∷ es) = cond (eqb (e .slot) slot) e (entryFor slot es)
 
--- 02, change 3: "A party forces what its own capable weights reach." The weights of the slots together; a slot without an entry weighs
--- nothing
+-- the weights of a set of slots together, whatever their capabilities; a slot without an entry weighs nothing
 abbrev pub slotsWeight : List EntryReading → List ℕ → ℕ
 slotsWeight es [] = 0
 slotsWeight es (s ∷ ss) = entryFor s es .weight + slotsWeight es ss
