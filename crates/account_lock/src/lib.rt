@@ -1,4 +1,6 @@
 // The account lock: what it decides of a transaction, lent as a table and a store, and the requests that it makes.
+#![tactic(auto)]
+
 mod answer; // answer.rt
 mod script; // script.rt
 mod account; // account.rt

@@ -1,5 +1,7 @@
 // The program: decides the scene of standard input, and prints one line `answer,NUMBER,COUNT,LENGTH,DIGEST,FEE`. Where standard
 // input cannot be read it prints none, and says so on standard error.
+#![tactic(auto)]
+
 ghost use Rattle.std.specs.Prelude.{◌≡◌, ◌+◌, length};
 ghost use Rattle.decide_scene.specs.Decided.{program_scene_max_length};
 ghost use Rattle.account_lock_cli.specs.Within.{Within};

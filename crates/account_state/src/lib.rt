@@ -1,4 +1,6 @@
 // The account state: header, authenticator entries one by one, and the whole state validated.
+#![tactic(auto)]
+
 mod fields; // fields.rt
 mod header; // header.rt
 mod entry; // entry.rt

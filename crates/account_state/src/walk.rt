@@ -10,7 +10,7 @@ use protocol::{
     ACCOUNT_STATE_HEADER_LEN, CAP_RECOVERY, CAP_ROTATE, CAP_SPEND, Check, ProtocolError,
 };
 
-#[derive(Drop)]
+#[derive(Clone, Copy)]
 pub struct StateSummary {
     pub spend_weight: u32,
     pub rotate_weight: u32,
@@ -18,7 +18,7 @@ pub struct StateSummary {
 }
 
 // The bytes behind the last entry, and the weights of all.
-#[derive(Drop)]
+#[derive(Clone, Copy)]
 pub(crate) struct EntriesWalk {
     pub tail: usize,
     pub summary: StateSummary,

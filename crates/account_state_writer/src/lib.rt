@@ -1,4 +1,6 @@
 // The writer of account states, from lent slices of numbers and bytes. The state is written only where no check refuses it.
+#![tactic(auto)]
+
 mod slices; // slices.rt
 mod check; // check.rt
 mod layout; // layout.rt

@@ -1,4 +1,6 @@
 // The reader of witness locks: the header, the walk over the proofs, the whole.
+#![tactic(auto)]
+
 mod fields; // fields.rt
 mod header; // header.rt
 mod offsets; // offsets.rt

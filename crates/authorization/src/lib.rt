@@ -1,4 +1,6 @@
 // What the lock hashes: the digest that an authorization is over, and the witnesses of the sighash.
+#![tactic(auto)]
+
 mod number; // number.rt
 mod digest; // digest.rt
 mod witness; // witness.rt

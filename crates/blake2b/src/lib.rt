@@ -1,4 +1,6 @@
 // BLAKE2b of RFC 7693, without a key: a hash state that is begun from a parameter block, fed and finished.
+#![tactic(auto)]
+
 mod block; // block.rt
 
 ghost use Rattle.std.specs.Prelude.{◌≡◌, take};

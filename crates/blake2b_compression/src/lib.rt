@@ -1,4 +1,6 @@
 // The compression function F of RFC 7693, over a work vector of sixteen words.
+#![tactic(auto)]
+
 ghost use Rattle.std.specs.Prelude.{◌≡◌, ◌+◌, ◌%◌, ◌<◌, ◌≤◌, T, slice_index};
 ghost use Rattle.std.proofs.lemmas.List.Edits.{sets};
 ghost use Rattle.blake2b_compression.specs.Compression.{rotr, words_of, add, turn, G, mixed, round, rounds, work_vector, halves, F};

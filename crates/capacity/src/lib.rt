@@ -1,4 +1,6 @@
 // The capacity of a transaction's inputs and outputs, and the fee.
+#![tactic(auto)]
+
 mod total; // total.rt
 mod fee; // fee.rt
 

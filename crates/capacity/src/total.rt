@@ -7,7 +7,7 @@ ghost use Rattle.capacity.specs.Totals.{total_of, total_with, side_count, side_c
 use scene_table::{input_capacity, input_count, output_capacity, output_count};
 
 // Which list of the transaction.
-#[derive(Drop)]
+#[derive(Clone, Copy)]
 pub(crate) enum Side {
     Inputs,
     Outputs,

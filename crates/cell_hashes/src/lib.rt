@@ -1,4 +1,6 @@
 // Whether the hashes of a transaction's cells are those of what the cells hold.
+#![tactic(auto)]
+
 ghost use Rattle.std.specs.Prelude.{◌≡◌};
 ghost use Rattle.protocol.specs.Rows.{decide};
 ghost use Rattle.scene_table.specs.Lent.{scene_in};

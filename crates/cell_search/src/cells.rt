@@ -11,7 +11,7 @@ use scene_table::{
 };
 
 // Which list of the transaction.
-#[derive(Drop)]
+#[derive(Clone, Copy)]
 pub enum Source {
     Input,
     Output,
@@ -19,7 +19,7 @@ pub enum Source {
 }
 
 // Which hash of a cell.
-#[derive(Drop)]
+#[derive(Clone, Copy)]
 pub enum CellField {
     TypeHash,
     DataHash,

@@ -1,4 +1,6 @@
 // The search for a cell by one of its hashes, and what a cell holds.
+#![tactic(auto)]
+
 mod cells; // cells.rt
 mod search; // search.rt
 

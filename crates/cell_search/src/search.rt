@@ -7,7 +7,7 @@ use crate::cells::{CellField, Source, cell_count, cell_hash};
 use octets::same_bytes;
 
 // None, the index of the one, or several.
-#[derive(Drop)]
+#[derive(Clone, Copy)]
 pub enum Search {
     Missing,
     One(u32),

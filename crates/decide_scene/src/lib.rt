@@ -1,4 +1,6 @@
 // A scene's text decided: it is read, then the lock runs over what it says; and the line that the program prints of it.
+#![tactic(auto)]
+
 ghost use Rattle.std.specs.Prelude.{◌≡◌, ◌≤◌, length};
 ghost use Rattle.std.proofs.lemmas.List.Edits.{sets};
 ghost use Rattle.octets.specs.Lists.{array_of};

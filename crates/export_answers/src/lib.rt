@@ -1,4 +1,6 @@
 // What the exported functions do with slices of 32 bytes that they are lent, and with their answers.
+#![tactic(auto)]
+
 mod lent; // lent.rt
 mod stored; // stored.rt
 mod words; // words.rt

@@ -1,4 +1,6 @@
 // The lock, and a scene read and decided, for programs in other languages.
+#![tactic(auto)]
+
 ghost use Rattle.std.specs.Prelude.{◌≡◌, ◌≤◌, length};
 ghost use Rattle.account_lock.specs.Lock.{lock_of};
 ghost use Rattle.decide_scene.specs.Decided.{decided};

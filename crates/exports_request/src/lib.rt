@@ -1,5 +1,7 @@
 // The fields of a `VerifierRequest` for programs in other languages. Each function returns the number of the request's reader,
 // then 5 where `out` is too short for what it hands out; a refusal leaves `out` and `len` as they were.
+#![tactic(auto)]
+
 ghost use Rattle.std.specs.Prelude.{◌≡◌};
 ghost use Rattle.verifier_request.specs.Reader.{read_request};
 ghost use Rattle.verifier_request.specs.Reading.{RequestReading};

@@ -1,4 +1,6 @@
 // The scene reader and the table's test for programs in other languages.
+#![tactic(auto)]
+
 ghost use Rattle.std.specs.Prelude.{◌≡◌, cond, length};
 ghost use Rattle.protocol.specs.Rows.{check_number};
 ghost use Rattle.scene_reader.specs.Reader.{read_of, reader_check, reader_store, reader_table};

@@ -1,4 +1,6 @@
 // A function for the tests alone: CKB's hash fed in parts, beside the reference and for its speed.
+#![tactic(auto)]
+
 ghost use Rattle.std.specs.Prelude.{◌≡◌, ◌≤◌, ◌<◌, length};
 ghost use Rattle.blake2b.specs.State.{ckb_hash};
 ghost use Rattle.protocol.specs.Rows.{check_number};

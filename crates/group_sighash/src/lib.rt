@@ -1,4 +1,6 @@
 // The witnesses of the input group, and the hash over the transaction and its witnesses.
+#![tactic(auto)]
+
 mod hashed; // hashed.rt
 mod witnesses; // witnesses.rt
 mod transaction; // transaction.rt

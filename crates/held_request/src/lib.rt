@@ -1,5 +1,7 @@
 // The verifier request that holds its bytes: a struct of the request's slice and of what the reader found in it, with thin
 // functions over it. Functions with plain parameters stand above them, for every other caller.
+#![tactic(auto)]
+
 mod places; // places.rt
 
 ghost use Rattle.std.specs.Prelude.{◌≡◌};

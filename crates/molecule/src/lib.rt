@@ -1,5 +1,7 @@
 // Molecule tables of three fields, read loosely as the lock reads them: the lock of a witness, the args of a script, and
 // the canonical witness.
+#![tactic(auto)]
+
 mod fields; // fields.rt
 mod table; // table.rt
 mod bytes; // bytes.rt

@@ -1,5 +1,7 @@
 // Bytes in slices: little-endian numbers, runs of stores, parts and places, arrays, equal slices, zeros; and numbers that rise. Every
 // function is total: past the end of a slice a read finds nothing and a store stores nothing.
+#![tactic(auto)]
+
 mod read; // read.rt
 mod store; // store.rt
 mod place; // place.rt

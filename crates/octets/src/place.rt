@@ -5,7 +5,7 @@ ghost use Rattle.octets.specs.Places.{bytes_at};
 use crate::read::part;
 
 // Where bytes begin, and how many they are.
-#[derive(Drop)]
+#[derive(Clone, Copy)]
 pub struct Place {
     pub start: usize,
     pub len: usize,

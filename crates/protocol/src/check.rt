@@ -5,7 +5,7 @@ ghost use Rattle.protocol.specs.Rows.{◌▷◌, row, ◌then◌, check_number};
 use crate::error::{ProtocolError, error_number};
 
 // What the checks find.
-#[derive(Drop)]
+#[derive(Clone, Copy)]
 pub enum Check {
     Passed,
     Failed(ProtocolError),

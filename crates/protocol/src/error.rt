@@ -2,7 +2,7 @@
 ghost use Rattle.std.specs.Prelude.{◌≡◌};
 ghost use Rattle.protocol.specs.Errors.{error_number};
 
-#[derive(Drop)]
+#[derive(Clone, Copy)]
 pub enum ProtocolError {
     SceneTooLong,
     InvalidLine,

@@ -1,5 +1,7 @@
 // What every format of the account shares: constants, limits, refusals and their numbers, rows of checks, algorithms and
 // operations, and the lock's args.
+#![tactic(auto)]
+
 mod constants; // constants.rt
 mod limits; // limits.rt
 mod error; // error.rt

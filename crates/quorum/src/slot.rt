@@ -7,7 +7,7 @@ use octets::rest;
 use protocol::ACCOUNT_STATE_HEADER_LEN;
 
 // Where an entry begins in its state, or that there is none.
-#[derive(Drop)]
+#[derive(Clone, Copy)]
 pub enum EntryPlace {
     At(usize),
     Missing,

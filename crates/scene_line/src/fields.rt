@@ -8,7 +8,7 @@ use crate::form::{Form, next_form};
 use text::{COMMA, find, head, tail};
 
 // Whether each field has its form, and how many bytes the fields have.
-#[derive(Drop)]
+#[derive(Clone, Copy)]
 pub struct FieldsFound {
     pub ok: bool,
     pub bytes: usize,

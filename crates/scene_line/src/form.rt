@@ -2,7 +2,7 @@
 ghost use Rattle.std.specs.Prelude.{◌≡◌};
 ghost use Rattle.scene_line.specs.Line.{next_form, hex_form};
 
-#[derive(Drop)]
+#[derive(Clone, Copy)]
 pub enum Form {
     Group,
     Since,

@@ -7,7 +7,7 @@ use crate::form::Form;
 use octets::same_bytes;
 use text::{COMMA, count};
 
-#[derive(Drop)]
+#[derive(Clone, Copy)]
 pub enum Kind {
     Script,
     Tx,

@@ -1,4 +1,6 @@
 // One line of a scene: its kind, the forms of its fields, and how many bytes they have. Every function is total.
+#![tactic(auto)]
+
 mod form; // form.rt
 mod field; // field.rt
 mod fields; // fields.rt

@@ -1,4 +1,6 @@
 // The scene reader: lines of text into a lent store of bytes and a lent table of numbers.
+#![tactic(auto)]
+
 mod state; // state.rt
 mod numbers; // numbers.rt
 mod put; // put.rt

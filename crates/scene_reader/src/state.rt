@@ -10,7 +10,7 @@ pub(crate) const FIRST_RECORD_AT: usize = 8;
 
 // The rank of the last kind, how many lines of it were read, how many bytes of the store and how many entries of the table
 // are used.
-#[derive(Drop)]
+#[derive(Clone, Copy)]
 pub(crate) struct State {
     pub last: usize,
     pub seen: usize,

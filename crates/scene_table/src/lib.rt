@@ -1,4 +1,6 @@
 // The lent table: whether a scene, its length aside, leaves it, and what it and the store hold.
+#![tactic(auto)]
+
 mod entries; // entries.rt
 mod places; // places.rt
 mod validity; // validity.rt

@@ -18,7 +18,7 @@ use crate::places::{
 use protocol::{DIGITS_MAX_COUNT, KIND_MAX_LINES, TABLE_MIN_ENTRIES};
 
 // Whether the records so far are good, and where their bytes end.
-#[derive(Drop)]
+#[derive(Clone, Copy)]
 pub(crate) struct RecordsWalk {
     good: bool,
     used: u64,
@@ -53,7 +53,7 @@ impl RecordsWalk {
 }
 
 // What a record is of: bytes, a dep, an output, an input.
-#[derive(Drop)]
+#[derive(Clone, Copy)]
 pub(crate) enum RecordForm {
     Bytes,
     Cell,

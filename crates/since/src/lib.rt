@@ -1,4 +1,6 @@
 // A since, read by CKB's RFC 0017.
+#![tactic(auto)]
+
 mod epoch; // epoch.rt
 mod since; // since.rt
 

@@ -1,4 +1,6 @@
 // The account's state in a transaction, and the one that follows it.
+#![tactic(auto)]
+
 mod resolve; // resolve.rt
 mod session; // session.rt
 mod transition; // transition.rt

@@ -1,4 +1,6 @@
 // Writes digests: RFC 7693's Appendix A, and CKB's hash of inputs about a block's length, whole and fed in parts.
+#![tactic(auto)]
+
 mod splits; // splits.rt
 
 ghost use Rattle.std.specs.Prelude.{◌≡◌, ◌<◌, min};

@@ -1,4 +1,6 @@
 // Decides the scenes of standard input, each ended by a line `end`, and writes the program's line of each.
+#![tactic(auto)]
+
 use decide_scene::program_line;
 use octets::{part, same_bytes};
 use text::{LINE_END, find, head, tail};

@@ -1,4 +1,6 @@
 // Runs the request that holds its bytes, through the functions with plain parameters above it.
+#![tactic(auto)]
+
 use held_request::{is_for, request_authorization_digest_of, request_refusal_of};
 use octets::{part, same_bytes};
 use protocol::{WriteAnswer, error_number};

@@ -5,6 +5,8 @@
 //   LENGTH                                  its length
 //   the scene
 //   answer,NUMBER,COUNT,LENGTH,DIGEST,FEE   its answer
+#![tactic(auto)]
+
 mod record; // record.rt
 
 ghost use Rattle.std.specs.Prelude.{◌≡◌, length};

@@ -1,6 +1,8 @@
 // Runs the rows that document 01 marks "Run" and that concern readers: slots 5, 5, and aux of 4,096, 4,097 and 5,000 bytes in a
 // state, which document 02 makes 44; and the limit itself. Then the smallest state with what document 02 withdraws and still takes:
 // flag 2, and capability 0x0008.
+#![tactic(auto)]
+
 use account_state::{StateAnswer, validate_state};
 use account_state_writer::encode_state;
 use account_witness::{WitnessAnswer, validate_witness};

@@ -5,6 +5,8 @@
 //   add,COUNT,TEXT                 the text, COUNT times
 //   line,COUNT,TEXT                the same, each with its ending
 //   run                            the scene is read
+#![tactic(auto)]
+
 mod case; // case.rt
 
 ghost use Rattle.std.specs.Prelude.{◌≡◌, ◌+◌, ◌≤◌, length};

@@ -1,4 +1,6 @@
 // What the test programs share: the fields of a line, their numbers, and the line that counts the cases.
+#![tactic(auto)]
+
 mod fields; // fields.rt
 mod counts; // counts.rt
 

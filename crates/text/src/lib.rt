@@ -1,4 +1,6 @@
 // Text: pieces between separators, and hexadecimal and decimal digits, read and put. Every function is total, for any length.
+#![tactic(auto)]
+
 mod cut; // cut.rt
 mod hex; // hex.rt
 mod decimal; // decimal.rt

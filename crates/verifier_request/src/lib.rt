@@ -1,4 +1,6 @@
 // The verifier request: its reader, which hands out places in the bytes, and its writer.
+#![tactic(auto)]
+
 mod fields; // fields.rt
 mod offsets; // offsets.rt
 mod reader; // reader.rt
