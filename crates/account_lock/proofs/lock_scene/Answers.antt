@@ -20,13 +20,13 @@ use Rattle.account_lock.proofs.lock_scene.Goals as goal
 abbrev begun : tie.After-and2 → tie.Start
 begun c = c.before.before.before.before.before.before.before.before.before.before.before
 
-abbrev scene : tie.After-and2 → Scene
+scene : (c : goal.After-and-2) → Scene
 scene c = scene_in (begun c).args.table.now (begun c).args.store.now
 
 -- the script is the scene's
 own : (c : goal.After-and-2) → c.part_at-script.result.now ≡ (scene c).script
 own c =
-        rw c.script.ensures at c.part_at-script.ensures ∙ sym (lent-given (begun c).args.table.now (begun c).args.store.now).script
+    rw c.script.ensures at c.part_at-script.ensures ∙ sym (lent-given (begun c).args.table.now (begun c).args.store.now).script
 
 -- what the rows of the hashes, the script and the group find
 hashes-found : (c : goal.After-and-2) → c.check_hashes.result ≡ decide Passed (hash_rows (scene c))
@@ -40,16 +40,16 @@ group-found c =
     rw c.first_witness-witness.ensures at c.check_first_witness.ensures ∙ group-first _
 
 -- and together
-all_found : (c : tie.After-and2)
-    → c.and2.result
-    ≡ (c.before.before.before.before.check-hashes.result then c.before.before.before.check-script.result)
-    then c.before.check-first-witness.result
-all_found c = rw c.before.before.and.ensures at c.and2.ensures
+all_found : (c : goal.After-and-2)
+    → c.and-2.result
+    ≡ (c.check_hashes.result then c.check_script.result)
+    then c.check_first_witness.result
+all_found c = rw c.and.ensures at c.and-2.ensures
 
 pub lock_account-requires : goal.lock_account-requires
 unfolding account
 lock_account-requires c =
-        let s = scene c in
+    let s = scene c in
     let passed = then-passed _ _ (sym (all_found c) ∙ c.in-Passed.is) in
     let before = then-passed _ _ passed.0 in
     let script : AllPass (script_rows s.script) = passed-all-pass (script_rows s.script) (sym (script-found c) ∙ before.1) in
@@ -63,7 +63,7 @@ lock_account-requires c =
 pub returns-in-Failed : goal.returns-in-Failed
 unfolding answered refused
 returns-in-Failed c =
-        let before = (begun c).args.answer.now in
+    let before = (begun c).args.answer.now in
     let went =
     scene-refused (scene c) (length before) _ (hashes-found c) (script-found c) (group-found c) (sym (all_found c) ∙ c.in-Failed.is)
     in
@@ -71,7 +71,7 @@ returns-in-Failed c =
 
 pub returns-in-Passed : goal.returns-in-Passed
 returns-in-Passed c =
-        let before = (begun c).args.answer.now in
+    let before = (begun c).args.answer.now in
     let passed = c.in-Passed.is in
     let went = scene-late (scene c) (length before) (hashes-found c) (script-found c) (group-found c) (sym (all_found c) ∙ passed) in
     record { returns_result = c.lock_account.ensures.returns_result ∙ ap answer_of (sym went); stores_requests = c.lock_account.ensures.stores_requests ∙ ap (λ (x : Result). answered before x.made) (sym went) }

@@ -11,7 +11,7 @@ use Rattle.account_state.proofs.check_end.Goals as goal
 pub returns : goal.returns
 unfolding end_fault state_end_rows decide
 returns c =
-        let a = c.args in
+    let a = c.args in
     let s = c.args.state.now in
     let t = c.args.walk.summary in
     rw (c.and.ensures, c.check_thresholds.ensures, c.recovery_since_of.ensures, c.recovery_threshold_of.ensures, c.rotate_threshold_of.ensures, c.spend_threshold_of.ensures, c.flags_of.ensures, c.require-check.ensures)

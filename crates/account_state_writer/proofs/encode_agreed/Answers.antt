@@ -20,26 +20,25 @@ pub check_state-requires : goal.check_state-requires
 check_state-requires c = (agreed _ _ c.requires).needed
 
 -- what the checks find is what the state's rows and the room find
-found : (c : tie.After-require)
-    → let a = c.before.before.before.before.before.args in
-    let f = a.fields.now in
-    let b = a.bytes.now in
+found : (c : goal.After-require-check)
+    → let a = c.args in
+    let f = c.args.fields.now in
+    let b = c.args.bytes.now in
     let r = state_from a.flags a.sequence a.spend a.rotate a.recovery a.since f b in
-    (length (state_bytes r) ≡ state_total f b) × (c.require.result ≡ write_fault (written_rows r) (state_total f b) (length a.out.now))
+    (length (state_bytes r) ≡ state_total f b) × (c.require-check.result ≡ write_fault (written_rows r) (state_total f b) (length a.out.now))
 unfolding lent_count state_total
 found c =
-    let k = c.before.before.before.before in
-    let a = k.before.args in
-    let x = k.before.ranges in
-    let g = agreed a.fields.now a.bytes.now k.before.requires in
-    let b : Bytes a.bytes.now = λ i. (c.before.before.before.shared-slice-known2.given i).fits in
-    let z = checks-found a.flags a.sequence a.spend a.rotate a.recovery a.since a.fields.now a.bytes.now x.flags.fits x.sequence.fits x.spend.fits x.rotate.fits x.recovery.fits x.since.fits (λ i. (k.shared-slice-known.given i).fits) b g (length a.out.now) in
-    (length-state a.flags a.sequence a.spend a.rotate a.recovery a.since a.fields.now a.bytes.now b g.needed, c.require.ensures ∙ rw c.before.check-state.ensures z)
+    let a = c.args in
+    let x = c.ranges in
+    let g = agreed a.fields.now a.bytes.now c.requires in
+    let b : Bytes a.bytes.now = λ i. (c.type_inv.bytes i).fits in
+    let z = checks-found a.flags a.sequence a.spend a.rotate a.recovery a.since a.fields.now a.bytes.now x.flags.fits x.sequence.fits x.spend.fits x.rotate.fits x.recovery.fits x.since.fits (λ i. (c.type_inv.fields i).fits) b g (length a.out.now) in
+    (length-state a.flags a.sequence a.spend a.rotate a.recovery a.since a.fields.now a.bytes.now b g.needed, c.require-check.ensures ∙ rw c.check_state.ensures z)
 
 pub store_state-requires : goal.store_state-requires
 unfolding lent_count state_total
 store_state-requires c =
-        let h = agreed _ _ c.requires in
+    let h = agreed _ _ c.requires in
     (h.count, (h.needed, write-fits _ _ c.args.out.now _ (found c).1 c.in-Passed.is))
 
 pub returns-in-Failed : goal.returns-in-Failed

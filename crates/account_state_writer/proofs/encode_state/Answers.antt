@@ -15,7 +15,7 @@ returns-in-Failed c = let w = refused-written _ _ _ _ _ (sym c.check_slices.ensu
 
 pub returns-in-Passed : goal.returns-in-Passed
 returns-in-Passed c =
-        let a = c.args in
+    let a = c.args in
     let f = c.args.fields.now in
     let b = c.args.bytes.now in
     let r = state_from a.flags a.sequence a.spend a.rotate a.recovery a.since f b in

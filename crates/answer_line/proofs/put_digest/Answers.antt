@@ -19,7 +19,7 @@ overflow_add-result c =
 pub returns-then-reached : goal.returns-then-reached
 unfolding digest_text
 returns-then-reached c =
-        let a = c.args in
+    let a = c.args in
     let done = c.put_hex.ensures in
     let n : length (hex_text a.digest.now) ≡ 2 * length a.digest.now = hex-text-length a.digest.now in
     let t = c.if-reached.true in record { value = rw t (omega (arith, done.value)); upper_bound = omega (arith, done.value); out_after = rw t (done.out_after ∙ rw c.put_byte.ensures (sets-cons a.out.now a.at 44 (hex_text a.digest.now) (a.at + 1) (44 ∷ hex_text a.digest.now) (omega arith) refl)) }

@@ -8,6 +8,6 @@ use Rattle.blake2b.proofs.ckb_hash.Goals as goal
 pub returns : goal.returns
 unfolding ckb_hash
 returns c =
-        fed-hash 32
+    fed-hash 32
     (fed-more _ (fed-none c.new.ensures) c.update.ensures)
     c.well-formed.0.0 c.finish.ensures c.digest.ensures

@@ -6,10 +6,8 @@ use Rattle.octets.specs.Le.{number_at}
 use Rattle.octets.proofs.Filled.{Filled, filled_none, filled_more, filled-all}
 use Rattle.blake2b_compression.specs.Compression.{IV}
 use Rattle.blake2b.specs.Rfc7693.{start_words}
+use Rattle.blake2b.proofs.start_words.Invariants.{word}
 use Rattle.blake2b.proofs.start_words.Goals as goal
-
-word : List ℕ → ℕ → ℕ
-word p i = bit_xor (get_or IV i 0) (number_at p (8 * i) 8)
 
 pub loop-i-init : goal.loop-i-init
 loop-i-init c = (filled_none _ 8 _ refl, search rules)

@@ -7,4 +7,4 @@ use Rattle.blake2b_compression.proofs.compress.Goals as goal
 pub returns : goal.returns
 unfolding F
 returns c =
-    rw (c.xor_halves.ensures, c.type_inv.v.ensures, c.work_vector-v.ensures)
+    rw (c.xor_halves.ensures, c.mix_rounds.ensures, c.work_vector-v.ensures)

@@ -4,10 +4,8 @@ use Rattle.std.proofs.Common.{ℕ, ◌-◌, ◌*◌, List, refl, arith, rules}
 use Rattle.octets.specs.Le.{number_at}
 use Rattle.octets.proofs.Filled.{Filled, filled_none, filled_more, filled-all}
 use Rattle.blake2b_compression.specs.Compression.{words_of}
+use Rattle.blake2b_compression.proofs.message_words.Invariants.{word}
 use Rattle.blake2b_compression.proofs.message_words.Goals as goal
-
-word : List ℕ → ℕ → ℕ
-word block i = number_at block (8 * i) 8
 
 pub loop-i-init : goal.loop-i-init
 loop-i-init c = filled_none _ 16 _ refl

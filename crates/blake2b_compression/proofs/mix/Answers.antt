@@ -7,5 +7,5 @@ use Rattle.blake2b_compression.proofs.mix.Goals as goal
 pub returns : goal.returns
 unfolding G
 returns c =
-        rw
+    rw
     (c.xor_rotate-4.ensures, c.add_to-4.ensures, c.xor_rotate-3.ensures, c.add_to-3.ensures, c.xor_rotate-2.ensures, c.add_to-2.ensures, c.xor_rotate.ensures, c.add_to.ensures)

@@ -7,5 +7,5 @@ use Rattle.blake2b_compression.proofs.mix_round.Goals as goal
 pub returns : goal.returns
 unfolding round
 returns c =
-        rw
+    rw
     (c.mix_at-8.ensures, c.mix_at-7.ensures, c.mix_at-6.ensures, c.mix_at-5.ensures, c.mix_at-4.ensures, c.mix_at-3.ensures, c.mix_at-2.ensures, c.mix_at.ensures)

@@ -26,14 +26,14 @@ before-flag v h t e small w =
 
 both_stored : (c : goal.After-copy_words-2) → c.copy_words-2.new.0 ≡ sets (sets (replicate 16 0) 0 c.args.h) 8 IV
 unfolding IV
-both_stored c = c.copy_words-2.ensures ∙ ap (λ (l : List ℕ). sets l 8 IV) c.type_inv.v.ensures
+both_stored c = c.copy_words-2.ensures ∙ ap (λ (l : List ℕ). sets l 8 IV) c.copy_words.ensures
 
 pub returns-then-last : goal.returns-then-last
 unfolding work_vector flagged xor_at
 returns-then-last c =
-        rw c.if-last.true (ap (flagged true) (before-flag _ c.args.h c.args.t (search rules) c.ranges.t.fits (both_stored c)))
+    rw c.if-last.true (ap (flagged true) (before-flag _ c.args.h c.args.t (search rules) c.ranges.t.fits (both_stored c)))
 
 pub returns-else-last : goal.returns-else-last
 unfolding work_vector flagged
 returns-else-last c =
-        rw c.if-last.false (before-flag _ c.args.h c.args.t (search rules) c.ranges.t.fits (both_stored c))
+    rw c.if-last.false (before-flag _ c.args.h c.args.t (search rules) c.ranges.t.fits (both_stored c))

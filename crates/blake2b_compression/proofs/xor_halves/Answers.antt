@@ -4,10 +4,8 @@ use Rattle.std.proofs.Common.{ℕ, ◌+◌, ◌-◌, List, get_or, refl, arith}
 use lib.Bits.{bit_xor}
 use Rattle.octets.proofs.Filled.{Filled, filled_none, filled_more, filled-all}
 use Rattle.blake2b_compression.specs.Compression.{halves}
+use Rattle.blake2b_compression.proofs.xor_halves.Invariants.{word}
 use Rattle.blake2b_compression.proofs.xor_halves.Goals as goal
-
-word : List ℕ → List ℕ → ℕ → ℕ
-word h v i = bit_xor (bit_xor (get_or h i 0) (get_or v i 0)) (get_or v (i + 8) 0)
 
 pub loop-i-init : goal.loop-i-init
 loop-i-init c = filled_none _ 8 _ refl

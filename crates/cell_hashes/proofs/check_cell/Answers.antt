@@ -8,7 +8,7 @@ use Rattle.cell_hashes.proofs.check_cell.Goals as goal
 pub returns : goal.returns
 unfolding cell_hash_rows cell_from decide
 returns c =
-        rw (
+    rw (
       c.require-2.ensures,
       c.require.ensures,
       c.hash_agrees-data_agrees.ensures,

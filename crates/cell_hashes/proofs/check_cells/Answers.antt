@@ -19,7 +19,7 @@ loop-i-init c = (c.cell_count-count.ensures, refl)
 
 pub returns-in-Failed : goal.returns-in-Failed
 returns-in-Failed c =
-        let a = c.args in
+    let a = c.args in
     let cells = cells-listed a.source a.table.now a.store.now in
     let more = rw c.loop-i.invariant.0 at c.loop-i-test.true in
     let here = sym (rw c.cell_places.ensures at c.check_cell-found.ensures) ∙ c.in-Failed.is in
@@ -27,7 +27,7 @@ returns-in-Failed c =
 
 pub loop-i-preserved : goal.loop-i-preserved
 loop-i-preserved c =
-        let a = c.args in
+    let a = c.args in
     let cells = cells-listed a.source a.table.now a.store.now in
     let more = rw c.loop-i.invariant.0 at c.loop-i-test.true in
     let here = sym (rw c.cell_places.ensures at c.check_cell-found.ensures) ∙ c.in-Passed.is in
@@ -35,6 +35,6 @@ loop-i-preserved c =
 
 pub returns : goal.returns
 returns c =
-        let a = c.args in
+    let a = c.args in
     let cells = cells-listed a.source a.table.now a.store.now in
     sym (c.loop-i.invariant.1 ∙ found-end cells c.loop-i.i (rw c.loop-i.invariant.0 at c.loop-i-test.false))

@@ -6,7 +6,7 @@ use Rattle.cell_hashes.proofs.check_hashes.Goals as goal
 
 pub returns : goal.returns
 returns c =
-        let a = c.args in
+    let a = c.args in
     rw (c.and-2.ensures, c.and.ensures)
     (hashes-found
     (scene_in a.table.now a.store.now)

@@ -11,4 +11,4 @@ returns-then-scene-gt-PROGRAM_SCENE_MAX_LEN c =
 
 pub returns : goal.returns
 returns c =
-        short-answers _ _ _ _ c.decide_scene.ensures.value c.if-scene-gt-PROGRAM_SCENE_MAX_LEN.false refl refl refl
+    short-answers _ _ _ _ c.decide_scene.ensures.value c.if-scene-gt-PROGRAM_SCENE_MAX_LEN.false refl refl refl

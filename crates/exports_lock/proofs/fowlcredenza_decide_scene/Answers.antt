@@ -14,5 +14,5 @@ returns-then-out-lt-ANSWER_LEN c =
 pub returns : goal.returns
 unfolding answer_of room_number room_after
 returns c =
-        let e = room-yes c.args.out.now c.if-out-lt-ANSWER_LEN.false in
+    let e = room-yes c.args.out.now c.if-out-lt-ANSWER_LEN.false in
     let read = c.decide_scene-read.ensures in record { stores_decision = (rw e (rw read.value at c.check_number.ensures), rw e read.answer_after, rw e (rw read.value at c.store_answer.ensures)); stores_scene = (rw e read.store_after, rw e read.table_after) }

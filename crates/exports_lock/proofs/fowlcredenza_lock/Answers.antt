@@ -14,6 +14,6 @@ returns-then-out-lt-ANSWER_LEN c =
 pub returns : goal.returns
 unfolding answer_of room_number room_after
 returns c =
-        let e = room-yes c.args.out.now c.if-out-lt-ANSWER_LEN.false in
+    let e = room-yes c.args.out.now c.if-out-lt-ANSWER_LEN.false in
     let answer = c.lock-locked.ensures in
     (rw e (rw answer.outcome at c.check_number.ensures), rw e answer.requests, rw e (rw answer.outcome at c.store_answer.ensures))

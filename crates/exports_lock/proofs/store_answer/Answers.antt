@@ -15,6 +15,6 @@ number_of false = refl
 pub returns : goal.returns
 unfolding answer_words
 returns c =
-        let a = c.args in
-    let stored = rw (words.store_words_lem.ensures.1, number_of a.answer.reached) at c.store_bytes.ensures in
+    let a = c.args in
+    let stored = rw (c.store_words.ensures.1, number_of a.answer.reached) at c.store_bytes.ensures in
     rw stored at c.store_number.ensures ∙ stored-behind a.answer a.out.now c.requires

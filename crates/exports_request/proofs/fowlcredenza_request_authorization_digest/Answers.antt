@@ -9,6 +9,6 @@ use Rattle.exports_request.proofs.fowlcredenza_request_authorization_digest.Goal
 pub returns : goal.returns
 unfolding held_reading
 returns c =
-        let a = c.args in
+    let a = c.args in
     handed a.request.now a.out.now a.len.now (λ (q : RequestReading). q.digest) _ _ _
     (rw (c.request_authorization_digest_of.ensures, c.request_refusal_of.ensures) at c.store_part.ensures)

@@ -6,6 +6,6 @@ use Rattle.exports_request.proofs.fowlcredenza_request_numbers.Goals as goal
 
 pub returns : goal.returns
 returns c =
-        let a = c.args in
+    let a = c.args in
     (handed a.request.now a.out.now 0 number_words _ _ _
     (rw (c.number_words.ensures, c.request_refusal_of.ensures) at c.store_part.ensures)).0

@@ -8,6 +8,6 @@ use Rattle.exports_request.proofs.fowlcredenza_request_proof.Goals as goal
 pub returns : goal.returns
 unfolding held_reading
 returns c =
-        let a = c.args in
+    let a = c.args in
     handed a.request.now a.out.now a.len.now (λ (q : RequestReading). q.proof) _ _ _
     (rw (c.request_proof_of.ensures, c.request_refusal_of.ensures) at c.store_part.ensures)

@@ -23,7 +23,7 @@ parts-disagree bytes first h = rw (lt-leb first (length bytes) h)
 
 pub returns-then-first-data : goal.returns-then-first-data
 returns-then-first-data c =
-        let a = c.args in
+    let a = c.args in
     let there : a.first ≤ length a.«data».now = omega (arith, c.if-first-data.true) in
     rw (parts-agree a.«data».now a.first there) (rw c.parts_hash.ensures at c.store_hash.ensures)
 

@@ -11,7 +11,7 @@ use Rattle.exports_test.proofs.parts_hash.Goals as goal
 
 pub loop-at-init : goal.loop-at-init
 loop-at-init c =
-        (c.requires, fed-part _ 0 c.args.first zero-le (fed-none c.new.ensures) c.update-state.ensures)
+    (c.requires, fed-part _ 0 c.args.first zero-le (fed-none c.new.ensures) c.update-state.ensures)
 
 pub loop-at-preserved : goal.loop-at-preserved
 loop-at-preserved c =

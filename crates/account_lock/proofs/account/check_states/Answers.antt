@@ -12,7 +12,7 @@ use Rattle.account_lock.proofs.account.check_states.Goals as goal
 pub returns : goal.returns
 unfolding states_rows witness_sequence successor
 returns c =
-        let s = scene_in c.args.table.now c.args.store.now in
+    let s = scene_in c.args.table.now c.args.store.now in
     rw (
       c.and.ensures,
       c.validate_transition.ensures,

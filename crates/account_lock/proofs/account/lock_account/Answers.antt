@@ -15,36 +15,31 @@ use borrow.Author.Rules.{rules}
 use Rattle.account_lock.proofs.account.lock_account.Goals as goal
 
 -- what stands where the states are found
-found : (c : tie.After-current-state) →
-    let p = c.before.before.before.before.before.before.before.before.before in
-    StatesFound c.before.before.before.lock-of.result.now c.before.before.operation-of.result c.current-state.result.now c.before.resolve-state.result
-    (scene_in p.args.table.now p.args.store.now)
+found : (c : goal.After-current_state-current) →
+    StatesFound c.lock_of-lock.result.now c.operation_of-operation.result c.current_state-current.result.now c.resolve_state-state.result
+    (scene_in c.args.table.now c.args.store.now)
 unfolding operation current
 found c =
-    let p = c.before.before.before.before.before.before.before.before.before in
-    let s = scene_in p.args.table.now p.args.store.now in
-    let o = c.before.before.operation-of.ensures in
-    let lock : c.before.before.before.lock-of.result.now ≡ witness_lock s = c.before.before.before.lock-of.ensures ∙ pass-lock _ _ s p.requires in
-    let placed : c.before.resolve-state.result ≡ resolved_of (operation s) (account s) s =
-    c.before.resolve-state.ensures ∙ rw (o, lock, p.requires.account) in
+    let s = scene_in c.args.table.now c.args.store.now in
+    let o = c.operation_of-operation.ensures in
+    let lock : c.lock_of-lock.result.now ≡ witness_lock s = c.lock_of-lock.ensures ∙ pass-lock _ _ s c.requires in
+    let placed : c.resolve_state-state.result ≡ resolved_of (operation s) (account s) s =
+    c.resolve_state-state.ensures ∙ rw (o, lock, c.requires.account) in
     record {
       witness = lock;
       operation = o ∙ rw lock;
-      current = c.current-state.ensures ∙ rw (o, lock, placed) (state-current (operation s) (account s) s);
+      current = c.current_state-current.ensures ∙ rw (o, lock, placed) (state-current (operation s) (account s) s);
       resolved = placed;
     }
 
 -- and what the rows find
-late : (c : tie.After-and2) →
-    let p = c.before.before.before.before.before.before.before.before.before.before.before.before.before in
-    c.and2.result ≡ decide Passed (late_rows (scene_in p.args.table.now p.args.store.now))
+late : (c : goal.After-and-2) →
+    c.and-2.result ≡ decide Passed (late_rows (scene_in c.args.table.now c.args.store.now))
 late c =
-    let f = c.before.before.before.before in
-    let p = f.before.before.before.before.before.before.before.before.before in
-    let s = scene_in p.args.table.now p.args.store.now in
-    let resolve = ap (λ (x : ResolvedState). x.found) (found f).resolved ∙ resolved-found (operation s) (account s) s (group-operation s p.requires.group) in
-    c.and2.ensures
-    ∙ rw c.before.before.and.ensures (late-found s resolve c.before.before.before.check-states.ensures c.before.check-others.ensures)
+    let s = scene_in c.args.table.now c.args.store.now in
+    let resolve = ap (λ (x : ResolvedState). x.found) (found c).resolved ∙ resolved-found (operation s) (account s) s (group-operation s c.requires.group) in
+    c.and-2.ensures
+    ∙ rw c.and.ensures (late-found s resolve c.check_states.ensures c.check_others.ensures)
 
 pub check_states-requires : goal.check_states-requires
 check_states-requires c = found c
@@ -68,12 +63,12 @@ walk_account-requires c =
 pub returns-in-Failed : goal.returns-in-Failed
 unfolding answered refused
 returns-in-Failed c =
-        let s = scene_in c.args.table.now c.args.store.now in
+    let s = scene_in c.args.table.now c.args.store.now in
     let went = late-refused s (length c.args.answer.now) _ (late c) c.in-Failed.is in
     record { returns_result = c.refused.ensures ∙ ap answer_of (sym went); stores_requests = ap (λ (x : Result). answered c.args.answer.now x.made) (sym went) }
 
 pub returns-in-Passed : goal.returns-in-Passed
 returns-in-Passed c =
-        let s = scene_in c.args.table.now c.args.store.now in
+    let s = scene_in c.args.table.now c.args.store.now in
     let went = late_walked s (length c.args.answer.now) (late c) c.in-Passed.is in
     record { returns_result = c.walk_account.ensures.returns_result ∙ ap answer_of (sym went); stores_requests = c.walk_account.ensures.stores_requests ∙ ap (λ (x : Result). answered c.args.answer.now x.made) (sym went) }

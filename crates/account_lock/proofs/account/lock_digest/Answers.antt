@@ -10,7 +10,7 @@ use Rattle.account_lock.proofs.account.lock_digest.Goals as goal
 pub returns : goal.returns
 unfolding digest group_sighash
 returns c =
-        let s = scene_in c.args.table.now c.args.store.now in
+    let s = scene_in c.args.table.now c.args.store.now in
     let n = c.requires.pass in
     rw (
       c.digest_of.ensures,

@@ -31,7 +31,7 @@ walked-answer o s = rw (totals-found s o.found, totals-fee s o.found)
 pub returns : goal.returns
 unfolding answer_of walk_result walked proof_walk_answer walk_context scene_deps context_of
 returns c =
-        let s = scene_in c.args.table.now c.args.store.now in
+    let s = scene_in c.args.table.now c.args.store.now in
     let totals = c.check_totals-totals.ensures in
     let known : is_operation (operation s) ≡ true = group-operation s c.requires.group in record { returns_result = rw (
         c.fee_where.ensures,

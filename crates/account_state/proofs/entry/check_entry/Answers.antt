@@ -13,7 +13,7 @@ returns-then-entry-lt48 c = rw (lt-leb 48 _ c.if-entry-lt48.true)
 pub returns : goal.returns
 unfolding entry_rows original_entry_rows decide
 returns c =
-        rw (
+    rw (
       c.require.ensures,
       c.aux_length_of.ensures,
       c.check_entry_fields.ensures,

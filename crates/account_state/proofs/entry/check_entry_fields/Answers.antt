@@ -8,13 +8,12 @@ use borrow.Author.Rules.{rules}
 use Rattle.account_state.proofs.entry.check_entry_fields.Goals as goal
 
 -- the first four rows
-first : (c : tie.After-require4)
-    → let a = c.before.before.before.before.before.before.before.before.args in
-    decide a.check (take 4 (entry_field_rows a.fields)) ≡ c.require4.result
+first : (c : goal.After-require-first)
+    → let a = c.args in
+    decide a.check (take 4 (entry_field_rows a.fields)) ≡ c.require-first.result
 unfolding entry_field_rows decide
 first c =
-    let c4 = c.before.before.before.before in
-    rw (c.require4.ensures, c.before.before.require3.ensures, c4.require2.ensures, c4.before.before.require.ensures)
+    rw (c.require-first.ensures, c.require-3.ensures, c.require-2.ensures, c.require.ensures)
 
 pub returns-in-Failed : goal.returns-in-Failed
 unfolding entry_field_rows decide ◌▷◌
@@ -23,4 +22,4 @@ returns-in-Failed c = rw (first c ∙ c.in-Failed.is)
 pub returns-in-Passed : goal.returns-in-Passed
 unfolding entry_field_rows decide ◌▷◌
 returns-in-Passed c =
-        rw (c.require-in-Passed-3.ensures, c.require-in-Passed-2.ensures, c.require-in-Passed.ensures, c.is_supported_algorithm.ensures, first c ∙ c.in-Passed.is)
+    rw (c.require-in-Passed-3.ensures, c.require-in-Passed-2.ensures, c.require-in-Passed.ensures, c.is_supported_algorithm.ensures, first c ∙ c.in-Passed.is)

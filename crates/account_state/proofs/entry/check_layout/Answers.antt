@@ -8,4 +8,4 @@ use Rattle.account_state.proofs.entry.check_layout.Goals as goal
 pub returns : goal.returns
 unfolding entry_layout_rows decide ◌▷◌
 returns c =
-        rw (c.require-3.ensures, c.entry_slot_of.ensures, c.require-2.ensures, c.require.ensures, c.aux_length_of.ensures, c.key_length_of.ensures, c.entry_length_of-len.ensures, le-leb 48 _ c.requires)
+    rw (c.require-3.ensures, c.entry_slot_of.ensures, c.require-2.ensures, c.require.ensures, c.aux_length_of.ensures, c.key_length_of.ensures, c.entry_length_of-len.ensures, le-leb 48 _ c.requires)

@@ -12,4 +12,4 @@ returns-then-state-lt-ACCOUNT_STATE_HEADER_LEN c = rw (lt-leb 32 _ c.if-state-lt
 pub returns : goal.returns
 unfolding state_header_rows decide ◌▷◌
 returns c =
-        rw (c.require-8.ensures, c.require-7.ensures, c.require-6.ensures, c.state_reserved_of.ensures, c.require-5.ensures, c.state_header_length_of.ensures, c.require-4.ensures, c.flags_of.ensures, c.require-3.ensures, c.state_version_of.ensures, c.require-2.ensures, c.state_magic_of.ensures, c.require.ensures, c.entry_count_of-count.ensures, le-leb 32 _ c.if-state-lt-ACCOUNT_STATE_HEADER_LEN.false)
+    rw (c.require-8.ensures, c.require-7.ensures, c.require-6.ensures, c.state_reserved_of.ensures, c.require-5.ensures, c.state_header_length_of.ensures, c.require-4.ensures, c.flags_of.ensures, c.require-3.ensures, c.state_version_of.ensures, c.require-2.ensures, c.state_magic_of.ensures, c.require.ensures, c.entry_count_of-count.ensures, le-leb 32 _ c.if-state-lt-ACCOUNT_STATE_HEADER_LEN.false)

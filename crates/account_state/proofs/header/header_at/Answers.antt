@@ -9,7 +9,7 @@ use Rattle.account_state.proofs.header.header_at.Goals as goal
 pub returns : goal.returns
 unfolding state_header_of
 returns c =
-        let s = c.args.state.now in
+    let s = c.args.state.now in
     rw (
       c.recovery_since_of.ensures ∙ front-number s 32 24 8 (omega arith),
       c.entry_count_of.ensures ∙ front-number s 32 22 1 (omega arith),

@@ -7,4 +7,4 @@ use Rattle.account_state.proofs.thresholds.check_thresholds.Goals as goal
 pub returns : goal.returns
 unfolding threshold_rows decide
 returns c =
-        rw (c.check_recovery.ensures, c.require-check.ensures, c.require-3.ensures, c.require-2.ensures, c.require.ensures)
+    rw (c.check_recovery.ensures, c.require-check.ensures, c.require-3.ensures, c.require-2.ensures, c.require.ensures)

@@ -23,15 +23,15 @@ loop-left-init c =
     (p.1, rw (part-clip s 32 (length s - 32) (omega arith)) (walking-first s a.count (λ i. (c.type_inv.state i).fits) p.1))
 
 -- the entry passed
-passed : (c : tie.After-enum-told invariant-loop decreases-loop)
-    → let l = c.before.before.before.before.loop in
+passed : (c : goal.In-Passed)
+    → let l = c.loop-left in
     decide Passed (entry_rows l.entry.now l.least) ≡ Passed
-passed c = sym c.before.before.check-entry.ensures ∙ c.enum_told.given.1
+passed c = sym c.check_entry.ensures ∙ c.in-Passed.is
 
 pub returns-in-Failed : goal.returns-in-Failed
 unfolding walk_entries entries_walk_answer
 returns-in-Failed c =
-        let h = sym c.check_entry.ensures ∙ c.in-Failed.is in
+    let h = sym c.check_entry.ensures ∙ c.in-Failed.is in
     rw (walking-failed _ _ _ _ _ _ c.loop-left-test.true c.loop-left.invariant.1 _ h)
 
 pub with_entry-summary-requires : goal.with_entry-summary-requires
@@ -42,12 +42,12 @@ with_entry-summary-requires c =
 -- it ends inside the bytes
 inside : (c : goal.After-entry_length_of-len) → c.entry_length_of-len.result ≤ length c.loop-left.entry.now
 inside c =
-        let l = c.loop-left in
+    let l = c.loop-left in
     rw c.entry_length_of-len.ensures (entry-passed l.entry.now l.least (passed-all-pass (entry_rows l.entry.now l.least) (passed c))).inside
 
 pub loop-left-preserved : goal.loop-left-preserved
 loop-left-preserved c =
-        let l = c.loop-left in
+    let l = c.loop-left in
     let e = c.loop-left.entry.now in
     let w = walking-next _ _ _ _ _ _ c.loop-left-test.true l.invariant.1 (passed c) in
     let n = inside c in

@@ -18,38 +18,38 @@ use Rattle.account_state_writer.proofs.check.check_entries.Goals as goal
 
 pub loop-i-init : goal.loop-i-init
 loop-i-init c =
-        let h = c.requires.1 in
+    let h = c.requires.1 in
     (omega arith, rw sub-zero (omega arith), rw sub-zero)
 
 -- this entry's bytes are there
-room : (c : tie.In-loop invariant-loop decreases-loop)
-    → c.before.loop.from + (66 + lent_aux_length_at c.before.before.before.before.args.fields.now c.before.loop.i)
-    ≤ length c.before.before.before.before.args.bytes.now
+room : (c : goal.In-loop-i)
+    → c.loop-i.from + (66 + lent_aux_length_at c.args.fields.now c.loop-i.i)
+    ≤ length c.args.bytes.now
 room c =
-    let l = c.before.loop in
-    let a = c.before.before.before.before.args in
-    let e = needed-turn a.fields.now a.count l.i c.loop-test.true in
-    let h = l.invariant.1 in
+    let l = c.loop-i in
+    let a = c.args in
+    let e = needed-turn a.fields.now a.count l.i c.loop-i-test.true in
+    let h = c.loop-i.invariant.1 in
     omega arith
 
 -- the slices from this entry on
-fields-left : (c : tie.In-loop invariant-loop decreases-loop)
-    → let f = c.before.before.before.before.args.fields.now in
-    take (length f - lent_width * c.before.loop.i) (drop (lent_width * c.before.loop.i) f) ≡ drop (lent_width * c.before.loop.i) f
+fields-left : (c : goal.In-loop-i)
+    → let f = c.args.fields.now in
+    take (length f - lent_width * c.loop-i.i) (drop (lent_width * c.loop-i.i) f) ≡ drop (lent_width * c.loop-i.i) f
 fields-left c =
-    let f = c.before.before.before.before.args.fields.now in
-    part-clip f (lent_width * c.before.loop.i) (length f - lent_width * c.before.loop.i) (omega arith)
+    let f = c.args.fields.now in
+    part-clip f (lent_width * c.loop-i.i) (length f - lent_width * c.loop-i.i) (omega arith)
 
-bytes_left : (c : tie.In-loop invariant-loop decreases-loop)
-    → let b = c.before.before.before.before.args.bytes.now in
-    take (length b - c.before.loop.from) (drop c.before.loop.from b) ≡ drop c.before.loop.from b
+bytes_left : (c : goal.In-loop-i)
+    → let b = c.args.bytes.now in
+    take (length b - c.loop-i.from) (drop c.loop-i.from b) ≡ drop c.loop-i.from b
 bytes_left c =
-    let b = c.before.before.before.before.args.bytes.now in
-    part-clip b c.before.loop.from (length b - c.before.loop.from) (omega arith)
+    let b = c.args.bytes.now in
+    part-clip b c.loop-i.from (length b - c.loop-i.from) (omega arith)
 
 pub check_entry-requires : goal.check_entry-requires
 check_entry-requires c =
-        let l = c.loop-i in
+    let l = c.loop-i in
     let a = c.args in
     let f = c.args.fields.now in
     let b = c.args.bytes.now in
@@ -62,14 +62,14 @@ check_entry-requires c =
 
 pub returns-in-Failed : goal.returns-in-Failed
 returns-in-Failed c =
-        let l = c.loop-i in
+    let l = c.loop-i in
     let a = c.args in
     let h = rw (fields-left c, bytes_left c) at (sym c.check_entry.ensures ∙ c.in-Failed.is) in
     checks-failed a.fields.now a.bytes.now a.count l.i l.from l.least c.loop-i-test.true _ l.invariant.2 _ h
 
 pub loop-i-preserved : goal.loop-i-preserved
 loop-i-preserved c =
-        let l = c.loop-i in
+    let l = c.loop-i in
     let a = c.args in
     let h = rw (fields-left c, bytes_left c) at (sym c.check_entry.ensures ∙ c.in-Passed.is) in
     let e = needed-turn a.fields.now a.count l.i c.loop-i-test.true in

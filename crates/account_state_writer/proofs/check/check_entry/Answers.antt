@@ -15,7 +15,7 @@ overflow_cast-fields c = omega (arith, c.type_inv.fields 0)
 pub returns : goal.returns
 unfolding entry_checks entry_from decide
 returns c =
-        let b = c.args.bytes.now in
+    let b = c.args.bytes.now in
     let l = c.requires.1 in
     rw (
       c.check_entry_fields.ensures,

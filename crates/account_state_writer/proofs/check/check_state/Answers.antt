@@ -11,11 +11,11 @@ use Rattle.account_state_writer.proofs.check.check_state.Goals as goal
 pub check_entries-requires : goal.check_entries-requires
 unfolding lent_count
 check_entries-requires c =
-        (omega arith, c.requires)
+    (omega arith, c.requires)
 
 pub check_end-requires : goal.check_end-requires
 check_end-requires c =
-        let h = sym c.check_head.ensures ∙ c.in-Passed.is in
+    let h = sym c.check_head.ensures ∙ c.in-Passed.is in
     (omega arith, head-limit _ _ h)
 
 pub lent_within-requires : goal.lent_within-requires
@@ -31,7 +31,7 @@ returns-in-Failed c =
 pub returns-in-Passed : goal.returns-in-Passed
 unfolding lent_count
 returns-in-Passed c =
-        let a = c.args in
+    let a = c.args in
     let h = sym c.check_head.ensures ∙ c.in-Passed.is in
     let n = c.requires in
     rw (c.require.ensures, c.lent_within.ensures, c.and.ensures, c.check_end.ensures, c.check_entries.ensures)

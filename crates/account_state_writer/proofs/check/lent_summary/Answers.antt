@@ -11,12 +11,8 @@ use Rattle.account_state.specs.Reading.{capable_share}
 use Rattle.account_state_writer.specs.Slices.{lent_width}
 use Rattle.account_state_writer.specs.Checks.{lent_capable_weight, lent_summary}
 use Rattle.account_state_writer.proofs.Lent.{weight-turn, weight-none}
+use Rattle.account_state_writer.proofs.check.lent_summary.Invariants.{Adding}
 use Rattle.account_state_writer.proofs.check.lent_summary.Goals as goal
-
--- the weight of a bit, as far as it is added, and the room for the rest
-record Adding (bit : ℕ) (fields : List ℕ) (count i sum : ℕ) : Type 0 where
-  whole : sum + lent_capable_weight bit (count - i) (drop (lent_width * i) fields) ≡ lent_capable_weight bit count fields
-  room : sum + 65535 * (count - i) ≤ 1048560
 
 adding-first : (bit : ℕ) (fields : List ℕ) (count : ℕ) → count ≤ 16 → Adding bit fields count 0 0
 adding-first bit fields count h = record { whole = rw sub-zero (zero-add _); room = omega arith }
@@ -42,7 +38,7 @@ loop-i-init c =
 
 pub loop-i-preserved : goal.loop-i-preserved
 loop-i-preserved c =
-        let l = c.loop-i in
+    let l = c.loop-i in
     let a = c.args in
     let f = c.args.fields.now in
     let h = c.loop-i-test.true in (

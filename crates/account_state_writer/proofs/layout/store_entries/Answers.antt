@@ -16,26 +16,27 @@ use Rattle.account_state_writer.proofs.layout.store_entries.Goals as goal
 
 pub loop-i-init : goal.loop-i-init
 loop-i-init c =
-        (omega arith, refl, rw sub-zero (omega arith), omega arith, rw sub-zero)
+    (omega arith, refl, rw sub-zero (omega arith), omega arith, rw sub-zero)
 
 -- the length of this entry's aux
-small : (c : goal.After-shared_slice_known-in-loop-i-1) → lent_aux_length_at c.args.fields.now c.loop-i.i < 65536
+small : (c : goal.After-shared_slice_known-in-loop-i-1)
+    → lent_aux_length_at c.args.fields.now c.loop-i.i < 65536
 small c = (c.type_inv.fields _).fits
 
 -- this entry's bytes are there
-room : (c : tie.After-shared-slice-known3 invariant-loop decreases-loop)
-    → c.before.before.loop.from + (66 + lent_aux_length_at c.before.before.before.before.before.before.args.fields.now c.before.before.loop.i)
-    ≤ length c.before.before.before.before.before.before.args.bytes.now
+room : (c : goal.After-shared_slice_known-in-loop-i-1)
+    → c.loop-i.from + (66 + lent_aux_length_at c.args.fields.now c.loop-i.i)
+    ≤ length c.args.bytes.now
 room c =
-    let l = c.before.before.loop in
-    let a = c.before.before.before.before.before.before.args in
-    let e = needed-turn a.fields.now a.count l.i c.before.loop-test.true in
-    let h = l.invariant.2 in
+    let l = c.loop-i in
+    let a = c.args in
+    let e = needed-turn a.fields.now a.count l.i c.loop-i-test.true in
+    let h = c.loop-i.invariant.2 in
     omega arith
 
 pub store_entry-requires : goal.store_entry-requires
 store_entry-requires c =
-        let l = c.loop-i in
+    let l = c.loop-i in
     let a = c.args in
     let f = c.args.fields.now in
     let b = c.args.bytes.now in
@@ -49,7 +50,7 @@ store_entry-requires c =
 
 pub loop-i-preserved : goal.loop-i-preserved
 loop-i-preserved c =
-        let l = c.loop-i in
+    let l = c.loop-i in
     let a = c.args in
     let f = c.args.fields.now in
     let b = c.args.bytes.now in

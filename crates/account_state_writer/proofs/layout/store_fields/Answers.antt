@@ -26,5 +26,5 @@ overflow_cast-fields-5 c = omega (arith, c.type_inv.fields 3)
 pub returns : goal.returns
 unfolding entry_field_numbers store_numbers
 returns c =
-        rw (c.store_number-5.ensures, c.store_number-4.ensures, c.store_number-3.ensures, c.store_number-2.ensures, c.store_number.ensures)
+    rw (c.store_number-5.ensures, c.store_number-4.ensures, c.store_number-3.ensures, c.store_number-2.ensures, c.store_number.ensures)
     (numbers-stored c.args.front.now 0 (entry_field_numbers c.args.fields.now))

@@ -9,5 +9,5 @@ overflow_cast-fields c = omega (arith, c.type_inv.fields 4)
 
 pub returns : goal.returns
 returns c =
-        rw (c.store_number-2.ensures, c.store_number.ensures, c.store_verifier.ensures, c.store_fields.ensures)
+    rw (c.store_number-2.ensures, c.store_number.ensures, c.store_verifier.ensures, c.store_fields.ensures)
     (front-stored c.args.fields.now c.args.verifier.now c.args.front.now c.requires.1)

@@ -10,7 +10,7 @@ use Rattle.account_state_writer.proofs.layout.store_head.Goals as goal
 pub returns : goal.returns
 unfolding state_header_fields store_numbers
 returns c =
-        rw (c.store_number-11.ensures, c.store_number-10.ensures, c.store_number-9.ensures, c.store_number-8.ensures, c.store_number-7.ensures, c.store_number-6.ensures, c.store_number-5.ensures, c.store_number-4.ensures, c.store_number-3.ensures, c.store_number-2.ensures, c.store_number.ensures) (numbers-stored _ 0 (state_header_fields _ _ _ _ _ _ _))
+    rw (c.store_number-11.ensures, c.store_number-10.ensures, c.store_number-9.ensures, c.store_number-8.ensures, c.store_number-7.ensures, c.store_number-6.ensures, c.store_number-5.ensures, c.store_number-4.ensures, c.store_number-3.ensures, c.store_number-2.ensures, c.store_number.ensures) (numbers-stored _ 0 (state_header_fields _ _ _ _ _ _ _))
 
 pub shape_of-out : goal.shape_of-out
 shape_of-out c = ap length (returns c) ∙ simp length-sets

@@ -19,11 +19,11 @@ overflow_cast-count c = let h = c.requires.0 in omega arith
 pub store_entries-requires : goal.store_entries-requires
 unfolding lent_count
 store_entries-requires c =
-        (omega arith, (c.requires.1.0, rw (c.store_head.ensures, length-sets) c.requires.1.1))
+    (omega arith, (c.requires.1.0, rw (c.store_head.ensures, length-sets) c.requires.1.1))
 
 pub returns : goal.returns
 unfolding state_bytes state_head state_from lent_count
 returns c =
-        let a = c.args in
+    let a = c.args in
     rw (c.store_entries.ensures, c.store_head.ensures, length-entries-from (length a.fields.now / lent_width) a.fields.now a.bytes.now)
     (sets-append a.out.now 0 (layout_bytes (state_header_fields a.flags a.sequence a.spend a.rotate a.recovery (length a.fields.now / lent_width) a.since)) _ 32 (omega (arith, length-head a.flags a.sequence a.spend a.rotate a.recovery (length a.fields.now / lent_width) a.since)))

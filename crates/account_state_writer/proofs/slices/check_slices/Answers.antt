@@ -8,4 +8,4 @@ use Rattle.account_state_writer.proofs.slices.check_slices.Goals as goal
 pub returns : goal.returns
 unfolding slice_rows state_total lent_count decide
 returns c =
-        rw (c.require-4.ensures, c.before.fits2.ensures, c.require-3.ensures, c.require-2.ensures, c.bytes_agree.ensures, c.require.ensures)
+    rw (c.require-4.ensures, c.fits.ensures, c.require-3.ensures, c.require-2.ensures, c.bytes_agree.ensures, c.require.ensures)

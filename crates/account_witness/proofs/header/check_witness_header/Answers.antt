@@ -7,7 +7,7 @@ use Rattle.account_witness.proofs.header.check_witness_header.Goals as goal
 pub returns : goal.returns
 unfolding witness_header_rows decide
 returns c =
-        rw (
+    rw (
       c.require-6.ensures,
       c.witness_reserved_of.ensures,
       c.require-5.ensures,

@@ -9,12 +9,12 @@ use Rattle.account_witness.proofs.walk.check_proof.Goals as goal
 pub returns : goal.returns
 unfolding proof_layout_rows decide
 returns c =
-        rw (
+    rw (
       row-passed _ _ (le-leb _ _ c.requires),
       c.require-4.ensures,
       c.require-3.ensures,
       c.require-2.ensures,
-      c.before.before.before.fits2.ensures,
+      c.fits.ensures,
       c.require.ensures,
       c.proof_reserved_at.ensures,
       c.proof_length_at-len.ensures,

@@ -7,8 +7,8 @@ use borrow.Author.Rules.{rules}
 use Rattle.account_witness.proofs.walk.next_proof.Goals as goal
 
 pub step_at-requires : goal.step_at-requires
-step_at-requires c = leb-true _ _ (sym c.before.fits2.ensures ∙ c.if-fits.true)
+step_at-requires c = leb-true _ _ (sym c.fits.ensures ∙ c.if-fits.true)
 
 pub returns-else-fits : goal.returns-else-fits
 unfolding proof_step proof_step_answer proof_layout_rows decide ◌▷◌
-returns-else-fits c = rw (sym c.before.fits2.ensures ∙ c.if-fits.false)
+returns-else-fits c = rw (sym c.fits.ensures ∙ c.if-fits.false)

@@ -8,7 +8,7 @@ use Rattle.account_witness_writer.proofs.check.check_encode.Goals as goal
 pub returns : goal.returns
 unfolding witness_writer_fault witness_writer_rows lent_proof_rows write_fault decide
 returns c =
-        rw (
+    rw (
       c.require-4.ensures,
       c.total_within.ensures,
       c.check_lent.ensures,

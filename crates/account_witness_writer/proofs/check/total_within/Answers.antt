@@ -18,4 +18,4 @@ returns-then-room-count c =
     sym (lt-leb (16 + (8 * a.count + a.len)) a.limit (omega arith))
 
 pub returns : goal.returns
-returns c = c.fits2.ensures ∙ leb-rest _ 16 _ c.if-limit-lt-ACCOUNT_WITNESS_HEADER_LEN.false
+returns c = c.fits.ensures ∙ leb-rest _ 16 _ c.if-limit-lt-ACCOUNT_WITNESS_HEADER_LEN.false

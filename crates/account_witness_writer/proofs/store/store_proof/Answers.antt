@@ -5,4 +5,4 @@ use Rattle.account_witness_writer.proofs.store.store_proof.Goals as goal
 
 pub returns : goal.returns
 returns c =
-        rw (c.store_bytes.ensures, c.store_number-3.ensures, c.store_number-2.ensures, c.store_number.ensures) (proof-stored _ _ _ _)
+    rw (c.store_bytes.ensures, c.store_number-3.ensures, c.store_number-2.ensures, c.store_number.ensures) (proof-stored _ _ _ _)

@@ -19,15 +19,14 @@ pub overflow_cast-len : goal.overflow_cast-len
 overflow_cast-len c = omega (arith, c.type_inv.lengths c.loop-i.i)
 
 -- the bytes of this turn's proof are there
-room : (c : tie.After-slice-known2 invariant-loop decreases-loop)
-    → let k = c.before.before.before.before.before.before.before.before in
-    let a = k.before.before.before.before.before.args in
-    k.loop.from + get_or a.lengths.now k.loop.i 0 ≤ length a.bytes.now
+room : (c : goal.After-slice_known-in-loop-i-1)
+    → 
+    let a = c.args in
+    c.loop-i.from + get_or a.lengths.now c.loop-i.i 0 ≤ length a.bytes.now
 room c =
-    let k = c.before.before.before.before.before.before.before.before in
-    let a = k.before.before.before.before.before.args in
-    let h : k.loop.i < length a.lengths.now = omega arith in
-    omega (arith, sum-turn a.lengths.now k.loop.i h)
+    let a = c.args in
+    let h : c.loop-i.i < length a.lengths.now = omega arith in
+    omega (arith, sum-turn a.lengths.now c.loop-i.i h)
 
 pub overflow_add-at : goal.overflow_add-at
 overflow_add-at c = omega (arith, room c)

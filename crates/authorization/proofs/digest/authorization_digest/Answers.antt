@@ -17,9 +17,9 @@ same-digest e = rw e
 pub returns-in-Failed : goal.returns-in-Failed
 unfolding authorization_of digest_answer operation_rows decide
 returns-in-Failed c =
-        rw (sym (rw c.is_operation.ensures at c.require-found.ensures) ∙ c.in-Failed.is)
+    rw (sym (rw c.is_operation.ensures at c.require-found.ensures) ∙ c.in-Failed.is)
 
 pub returns-in-Passed : goal.returns-in-Passed
 unfolding authorization_of digest_answer operation_rows decide
 returns-in-Passed c =
-        rw (sym (rw c.is_operation.ensures at c.require-found.ensures) ∙ c.in-Passed.is) (same-digest c.digest_of-digest.ensures)
+    rw (sym (rw c.is_operation.ensures at c.require-found.ensures) ∙ c.in-Passed.is) (same-digest c.digest_of-digest.ensures)

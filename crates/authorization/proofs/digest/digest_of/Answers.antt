@@ -14,7 +14,7 @@ use Rattle.authorization.proofs.digest.digest_of.Goals as goal
 pub returns : goal.returns
 unfolding digest_of digest_input digest_head auth_domain ckb_hash
 returns c =
-        let a = c.args in
+    let a = c.args in
     let w : Fed ckb_parameters (digest_head a.operation a.account a.sequence) c.feed_head.result = record { state = c.feed_head.ensures } in
     let n₁ : length a.account ≡ 32 = omega (arith, c.well-formed) in
     let n₂ : length a.sighash ≡ 32 = omega (arith, c.well-formed) in

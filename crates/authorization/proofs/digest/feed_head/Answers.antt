@@ -9,5 +9,5 @@ use Rattle.authorization.proofs.digest.feed_head.Goals as goal
 pub returns : goal.returns
 unfolding digest_head auth_domain
 returns c =
-        let a = c.args in
+    let a = c.args in
     (fed-more (to_le 8 a.sequence) (fed-more a.account (fed-more (a.operation ∷ []) (fed-more auth_domain (fed-none c.new.ensures) c.update.ensures) c.update-2.ensures) c.update-3.ensures) (rw c.u64_bytes-number.ensures at c.update-4.ensures)).state

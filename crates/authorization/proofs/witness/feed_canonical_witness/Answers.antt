@@ -18,7 +18,7 @@ overflow_add-second-2 c =
 
 pub returns : goal.returns
 returns c =
-        let a = c.args in
+    let a = c.args in
     rw (
       c.update-4.ensures,
       c.update-3.ensures,

@@ -11,4 +11,4 @@ returns c =
     let h = c.args.self.h in
     let n : length h ≡ 8 = search rules in
     let k : 32 ≤ length (bytes_of h) = rw (length-bytes h) (omega arith) in
-    c.before.store_words_lem.ensures ∙ sets_over (replicate 32 0) (bytes_of h) k
+    c.store_words.ensures ∙ sets_over (replicate 32 0) (bytes_of h) k

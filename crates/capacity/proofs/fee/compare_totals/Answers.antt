@@ -15,12 +15,12 @@ returns-in-Above-outputs c n m p q =
 
 pub returns-then-whole-paid : goal.returns-then-whole-paid
 returns-then-whole-paid c n m p q =
-        let whole = total-sum n _ (rw c.in-Sum.is at p) in
+    let whole = total-sum n _ (rw c.in-Sum.is at p) in
     let out = total-sum m _ (rw c.in-Sum-outputs.is at q) in
     c.refused-then-whole-paid.ensures ∙ fee-exceeded n m whole.1 out.1 (omega (arith, whole.0, out.0, c.if-whole-paid.true))
 
 pub returns-else-whole-paid : goal.returns-else-whole-paid
 returns-else-whole-paid c n m p q =
-        let whole = total-sum n _ (rw c.in-Sum.is at p) in
+    let whole = total-sum n _ (rw c.in-Sum.is at p) in
     let out = total-sum m _ (rw c.in-Sum-outputs.is at q) in
     rw (whole.0, out.0) (fee-covered n m whole.1 out.1 (omega (arith, whole.0, out.0, c.if-whole-paid.false)))

@@ -16,13 +16,13 @@ loop-i-init c = (c.side_count-count.ensures, total-whole _)
 
 pub loop-i-preserved : goal.loop-i-preserved
 loop-i-preserved c =
-        let a = c.args in
+    let a = c.args in
     let listed = capacities-listed a.side a.table.now a.store.now in
     let more = rw c.loop-i.invariant.0 at c.loop-i-test.true in
     (c.loop-i.invariant.0, c.loop-i.invariant.1 ∙ (total-turn listed c.loop-i.total c.loop-i.i more ∙ rw (c.with-total.ensures, c.side_capacity.ensures)))
 
 pub returns : goal.returns
 returns c =
-        let a = c.args in
+    let a = c.args in
     let listed = capacities-listed a.side a.table.now a.store.now in
     sym (c.loop-i.invariant.1 ∙ total-end listed c.loop-i.total c.loop-i.i (rw c.loop-i.invariant.0 at c.loop-i-test.false))

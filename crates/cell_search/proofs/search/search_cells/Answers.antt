@@ -18,7 +18,7 @@ loop-i-init c = (c.cell_count-count.ensures, refl)
 pub loop-i-preserved : goal.loop-i-preserved
 unfolding places_of
 loop-i-preserved c =
-        let a = c.args in
+    let a = c.args in
     let cells = cells-listed a.source a.table.now a.store.now in
     let more = rw c.loop-i.invariant.0 at c.loop-i-test.true in (
       c.loop-i.invariant.0,
@@ -30,13 +30,13 @@ loop-i-preserved c =
 
 pub returns-after-loop-i : goal.returns-after-loop-i
 returns-after-loop-i c =
-        let a = c.args in
+    let a = c.args in
     let cells = cells-listed a.source a.table.now a.store.now in
     sym (c.loop-i.invariant.1 ∙ rw (match-end a.field a.hash.now cells c.loop-i.i (rw c.loop-i.invariant.0 at c.loop-i-test.false)) (found-places c.loop-i.found))
 
 pub returns-in_default : goal.returns-in_default
 returns-in_default c =
-        let a = c.args in
+    let a = c.args in
     let cells = cells-listed a.source a.table.now a.store.now in
     let more = rw c.loop-i.invariant.0 at c.loop-i-test.true in
     sym

@@ -10,4 +10,4 @@ returns-in-Failed c =
 
 pub returns-in-Passed : goal.returns-in-Passed
 returns-in-Passed c =
-        rw c.in-Passed.is c.store_front.ensures
+    rw c.in-Passed.is c.store_front.ensures

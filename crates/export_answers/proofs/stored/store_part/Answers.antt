@@ -10,10 +10,10 @@ returns-then-refusal-ne0 c =
 
 pub returns-then-number-eq0 : goal.returns-then-number-eq0
 returns-then-number-eq0 c =
-        let stored = c.store_front-number.ensures in
+    let stored = c.store_front-number.ensures in
     rw c.if-refusal-ne0.false (stored, length-stored 0 _ _ _ _ stored.0 c.if-number-eq0.true)
 
 pub returns-else-number-eq0 : goal.returns-else-number-eq0
 returns-else-number-eq0 c =
-        let stored = c.store_front-number.ensures in
+    let stored = c.store_front-number.ensures in
     rw c.if-refusal-ne0.false (stored, length-kept 0 _ _ _ _ stored.0 c.if-number-eq0.false)

@@ -14,7 +14,7 @@ loop-i-init c = (omega arith, refl, refl)
 
 pub loop-i-preserved : goal.loop-i-preserved
 loop-i-preserved c =
-        let l = c.loop-i in
+    let l = c.loop-i in
     let vs = c.args.words.now in
     (omega arith, ap length c.store_number.ensures ∙ simp length-sets l.invariant.1, rw c.store_number.ensures (word-stored vs l.out l.i (omega arith) ∙ l.invariant.2))
 

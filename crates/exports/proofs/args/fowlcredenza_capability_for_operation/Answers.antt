@@ -14,5 +14,5 @@ returns-in-Refused c =
 pub returns-in-Capability : goal.returns-in-Capability
 unfolding capability_words
 returns-in-Capability c =
-        let e = sym c.capability_for_operation.ensures ∙ c.in-Capability.is in
-    rw e store.store_words_lem.ensures
+    let e = sym c.capability_for_operation.ensures ∙ c.in-Capability.is in
+    rw e c.store_words.ensures

@@ -14,5 +14,5 @@ returns-in-Refused c =
 pub returns-in-Args : goal.returns-in-Args
 unfolding args_words
 returns-in-Args c =
-        let e = sym c.parse.ensures ∙ c.in-Args.is in
-    rw e store.store_words_lem.ensures
+    let e = sym c.parse.ensures ∙ c.in-Args.is in
+    rw e c.store_words.ensures

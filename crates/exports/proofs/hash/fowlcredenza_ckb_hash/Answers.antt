@@ -4,4 +4,4 @@ use Rattle.exports.proofs.hash.fowlcredenza_ckb_hash.Goals as goal
 
 pub returns : goal.returns
 returns c =
-        rw c.ckb_hash.ensures at c.store_hash.ensures
+    rw c.ckb_hash.ensures at c.store_hash.ensures

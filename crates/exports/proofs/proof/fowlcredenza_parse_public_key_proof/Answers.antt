@@ -14,5 +14,5 @@ returns-in-Refused c =
 pub returns-in-Proof : goal.returns-in-Proof
 unfolding proof_words
 returns-in-Proof c =
-        let e = sym c.parse_public_key_proof.ensures ∙ c.in-Proof.is in
-    rw e store.store_words_lem.ensures
+    let e = sym c.parse_public_key_proof.ensures ∙ c.in-Proof.is in
+    rw e c.store_words.ensures

@@ -14,5 +14,5 @@ returns-in-Refused c =
 pub returns-in-Request : goal.returns-in-Request
 unfolding request_words
 returns-in-Request c =
-        let e = sym c.parse_verifier_request.ensures ∙ c.in-Request.is in
-    rw e store.store_words_lem.ensures
+    let e = sym c.parse_verifier_request.ensures ∙ c.in-Request.is in
+    rw e c.store_words.ensures

@@ -14,5 +14,5 @@ returns-in-Refused c =
 pub returns-in-Entry : goal.returns-in-Entry
 unfolding step_words
 returns-in-Entry c =
-        let e = sym c.next_entry.ensures.value ∙ c.in-Entry.is in
-    rw e store.store_words_lem.ensures
+    let e = sym c.next_entry.ensures.value ∙ c.in-Entry.is in
+    rw e c.store_words.ensures

@@ -14,5 +14,5 @@ returns-in-Refused c =
 pub returns-in-Header : goal.returns-in-Header
 unfolding header_words header_fields
 returns-in-Header c =
-        let e = sym c.parse.ensures ∙ c.in-Header.is in
-    rw e store.store_words_lem.ensures
+    let e = sym c.parse.ensures ∙ c.in-Header.is in
+    rw e c.store_words.ensures

@@ -14,5 +14,5 @@ returns-in-Refused c =
 pub returns-in-Valid : goal.returns-in-Valid
 unfolding state_words header_fields
 returns-in-Valid c =
-        let e = sym c.validate_state.ensures.value ∙ c.in-Valid.is in
-    rw e store.store_words_lem.ensures
+    let e = sym c.validate_state.ensures.value ∙ c.in-Valid.is in
+    rw e c.store_words.ensures

@@ -14,5 +14,5 @@ returns-in-Refused c =
 pub returns-in-Next : goal.returns-in-Next
 unfolding proof_step_words
 returns-in-Next c =
-        let e = sym c.next_proof.ensures ∙ c.in-Next.is in
-    rw e store.store_words_lem.ensures
+    let e = sym c.next_proof.ensures ∙ c.in-Next.is in
+    rw e c.store_words.ensures

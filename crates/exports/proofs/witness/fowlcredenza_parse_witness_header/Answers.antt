@@ -14,4 +14,4 @@ returns-in-Refused c =
 pub returns-in-Header : goal.returns-in-Header
 unfolding witness_header_words
 returns-in-Header c =
-        rw (sym c.parse_witness_header.ensures ∙ c.in-Header.is) c.store_witness_header.ensures
+    rw (sym c.parse_witness_header.ensures ∙ c.in-Header.is) c.store_witness_header.ensures

@@ -14,4 +14,4 @@ returns-in-Refused c =
 pub returns-in-Witness : goal.returns-in-Witness
 unfolding witness_words
 returns-in-Witness c =
-        rw (sym c.validate_witness.ensures ∙ c.in-Witness.is) c.store_witness_header.ensures
+    rw (sym c.validate_witness.ensures ∙ c.in-Witness.is) c.store_witness_header.ensures

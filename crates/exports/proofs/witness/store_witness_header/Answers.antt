@@ -5,4 +5,4 @@ use Rattle.exports.proofs.witness.store_witness_header.Goals as goal
 
 pub returns : goal.returns
 unfolding witness_fields
-returns c = c.before.before.store_words_lem.ensures
+returns c = c.store_words.ensures

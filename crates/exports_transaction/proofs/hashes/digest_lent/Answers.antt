@@ -15,5 +15,5 @@ returns-in-Failed c = rw (sym c.check_sizes.ensures ∙ c.in-Failed.is)
 pub returns-in-Passed : goal.returns-in-Passed
 unfolding lent_digest authorization_of
 returns-in-Passed c =
-        let e = sym c.check_sizes.ensures ∙ c.in-Passed.is in
+    let e = sym c.check_sizes.ensures ∙ c.in-Passed.is in
     rw (c.authorization_digest.ensures, c.array_32-in-Passed.ensures ∙ second-whole _ _ e, c.array_32.ensures ∙ first-whole _ _ e, e)

@@ -4,4 +4,4 @@ use Rattle.exports_transaction.proofs.hashes.fowlcredenza_authorization_digest.G
 
 pub returns : goal.returns
 returns c =
-        rw c.digest_lent-answer.ensures at c.store_hash.ensures
+    rw c.digest_lent-answer.ensures at c.store_hash.ensures

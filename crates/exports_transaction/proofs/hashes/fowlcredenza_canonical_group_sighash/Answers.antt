@@ -4,4 +4,4 @@ use Rattle.exports_transaction.proofs.hashes.fowlcredenza_canonical_group_sighas
 
 pub returns : goal.returns
 returns c =
-        rw c.sighash_lent-answer.ensures at c.store_hash.ensures
+    rw c.sighash_lent-answer.ensures at c.store_hash.ensures

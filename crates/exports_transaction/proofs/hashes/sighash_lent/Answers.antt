@@ -11,7 +11,7 @@ use Rattle.exports_transaction.proofs.hashes.sighash_lent.Goals as goal
 pub returns-then-table_valid : goal.returns-then-table_valid
 unfolding lent_sighash
 returns-then-table_valid c =
-        let a = c.args in
+    let a = c.args in
     let e : valid_table a.table.now (length a.store.now) ≡ true = sym c.table_valid.ensures ∙ c.if-table_valid.true in
     rw e c.canonical_group_sighash.ensures
 

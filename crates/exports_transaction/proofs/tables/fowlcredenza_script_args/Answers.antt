@@ -4,4 +4,4 @@ use Rattle.exports_transaction.proofs.tables.fowlcredenza_script_args.Goals as g
 
 pub returns : goal.returns
 returns c =
-        rw c.script_args.ensures at c.place_stored.ensures
+    rw c.script_args.ensures at c.place_stored.ensures

@@ -4,4 +4,4 @@ use Rattle.exports_transaction.proofs.tables.fowlcredenza_witness_lock.Goals as 
 
 pub returns : goal.returns
 returns c =
-        rw c.witness_lock.ensures at c.place_stored.ensures
+    rw c.witness_lock.ensures at c.place_stored.ensures

@@ -13,5 +13,5 @@ returns-in-Refused c =
 pub returns-in-At : goal.returns-in-At
 unfolding place_words
 returns-in-At c =
-        let e = c.in-At.is in
-    rw e store.store_words_lem.ensures
+    let e = c.in-At.is in
+    rw e c.store_words.ensures

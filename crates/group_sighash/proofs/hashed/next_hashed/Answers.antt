@@ -14,11 +14,11 @@ loop-i-init c = (c.witness_count-count.ensures, λ s. refl, λ s. refl, omega ar
 
 pub returns-then-is_hashed : goal.returns-then-is_hashed
 returns-then-is_hashed c =
-        record { behind = c.loop-i.invariant.3; hashed = c.loop-i.invariant.1; group = c.loop-i.invariant.2; hit = λ h. sym c.is_hashed.ensures ∙ c.if-is_hashed.true }
+    record { behind = c.loop-i.invariant.3; hashed = c.loop-i.invariant.1; group = c.loop-i.invariant.2; hit = λ h. sym c.is_hashed.ensures ∙ c.if-is_hashed.true }
 
 pub loop-i-preserved : goal.loop-i-preserved
 loop-i-preserved c =
-        let a = c.args in
+    let a = c.args in
     let more = rw c.loop-i.invariant.0 at c.loop-i-test.true in
     let skip = sym c.is_hashed.ensures ∙ c.if-is_hashed.false in (
       c.loop-i.invariant.0,
@@ -29,4 +29,4 @@ loop-i-preserved c =
 
 pub returns : goal.returns
 returns c =
-        record { behind = c.loop-i.invariant.3; hashed = c.loop-i.invariant.1; group = c.loop-i.invariant.2; hit = λ h. absurd (omega (arith, h, c.loop-i.invariant.0, c.loop-i-test.false)) }
+    record { behind = c.loop-i.invariant.3; hashed = c.loop-i.invariant.1; group = c.loop-i.invariant.2; hit = λ h. absurd (omega (arith, h, c.loop-i.invariant.0, c.loop-i-test.false)) }

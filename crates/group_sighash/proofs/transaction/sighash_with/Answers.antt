@@ -9,7 +9,7 @@ use Rattle.group_sighash.proofs.transaction.sighash_with.Goals as goal
 
 pub returns : goal.returns
 returns c =
-        let a = c.args in
+    let a = c.args in
     let s = scene_in a.table.now a.store.now in
     let transaction = rw c.transaction_hash.ensures at c.part_at-transaction.ensures ∙ sym (lent-given a.table.now a.store.now).transaction in
     rw (

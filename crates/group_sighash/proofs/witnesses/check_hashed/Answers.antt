@@ -13,7 +13,7 @@ use Rattle.group_sighash.proofs.witnesses.check_hashed.Goals as goal
 pub returns : goal.returns
 unfolding witness_fits decide
 returns c =
-        let s = scene_in c.args.table.now c.args.store.now in
+    let s = scene_in c.args.table.now c.args.store.now in
     rw (
       c.and-2.ensures,
       c.check_others.ensures,

@@ -18,7 +18,7 @@ unfolding canonical_room canonical_written canonical_stored
 returns-in-Failed c =
     let w = let a = c.args in
     let found : c.require.result ≡ canonical_room a.witness.now (length a.out.now) =
-    rw (c.require.ensures, k.before.fits2.ensures, c.check_table.ensures, c.rest-copied.ensures, c.second_offset_of.ensures) (room-found a.witness.now (length a.out.now)) in
+    rw (c.require.ensures, c.fits.ensures, c.check_table.ensures, c.rest-copied.ensures, c.second_offset_of.ensures) (room-found a.witness.now (length a.out.now)) in
     write-refused _ _ _ _ found _ _ c.in-Failed.is in record { value = w.0; out_after = w.1 }
 
 pub returns-in-Passed : goal.returns-in-Passed
@@ -28,7 +28,7 @@ returns-in-Passed c =
     let s = c.args.witness.now in
     let rows = table_rows InvalidWitness s in
     let found : c.require.result ≡ canonical_room s (length a.out.now) =
-    rw (c.require.ensures, k.before.fits2.ensures, c.check_table.ensures, c.rest-copied.ensures, c.second_offset_of.ensures) (room-found s (length a.out.now)) in
+    rw (c.require.ensures, c.fits.ensures, c.check_table.ensures, c.rest-copied.ensures, c.second_offset_of.ensures) (room-found s (length a.out.now)) in
     let z : TablePasses s = table-passes InvalidWitness s (write-passed rows (length (canonical_of s)) (length a.out.now) (sym found ∙ c.in-Passed.is)).0 in
     let n : 20 + length c.rest-copied.result.now ≡ length (canonical_of s) = rw (c.rest-copied.ensures, c.second_offset_of.ensures) (sym (length-from-second s z)) in
     let stored : c.store_bytes-in-Passed.new.0 ≡ sets a.out.now 0 (canonical_of s) =

@@ -15,7 +15,7 @@ use Rattle.molecule.proofs.canonical.head_bytes.Goals as goal
 pub returns : goal.returns
 unfolding canonical_head store_numbers
 returns c =
-        let a = c.args in
+    let a = c.args in
     let l : List ℕ = replicate 20 0 in
     let n : length (layout_bytes (canonical_head a.total a.third)) ≡ 20 = length-numbers (canonical_head a.total a.third) in
     rw (

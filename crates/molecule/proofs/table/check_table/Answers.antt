@@ -7,7 +7,7 @@ use Rattle.molecule.proofs.table.check_table.Goals as goal
 pub returns : goal.returns
 unfolding table_rows decide
 returns c =
-        rw (
+    rw (
       c.require-6.ensures,
       c.require-5.ensures,
       c.require-4.ensures,

@@ -9,12 +9,12 @@ use Rattle.proof_walk.proofs.request.check_found.Goals as goal
 pub returns : goal.returns
 unfolding found_rows authenticator_rows request_limit_rows decide entry_of
 returns c =
-        rw (
+    rw (
       c.require-7.ensures,
-      c.before.fits3.ensures,
+      c.fits-2.ensures,
       c.require-6.ensures,
       c.require-5.ensures,
-      c5.before.fits2.ensures,
+      c.fits.ensures,
       c.require-4.ensures,
       c.require-3.ensures,
       c.resolve_verifier.ensures,

@@ -29,36 +29,32 @@ digest-long : (s : goal.Start) → length c.args.authorization.digest ≡ 32
 digest-long s = search rules
 
 -- what the checks find is what the proof's rows say
-checked : (c : tie.After-check-found) →
-    let a = c.before.before.before.before.before.before.before.before.before.args in
-    c.check-found.result
+checked : (c : goal.After-check_found) →
+    let a = c.args in
+    c.check_found.result
     ≡ decide Passed (proof_rows (walk_context a.table.now a.store.now a.state.now a.authorization.operation a.authorization.digest (length a.out.now)) 0 (proof_with a.slot a.proof.now))
 checked c =
-    let a = c.before.before.before.before.before.before.before.before.before.args in
-    let f = c.before.before.before.find-authenticator in
-    (rw (c.before.is_Known.ensures, c.before.before.entry_in.ensures) at c.check-found.ensures)
+    let a = c.args in
+    let f = c.find_authenticator-place in
+    (rw (c.is_known-known.ensures, c.entry_in-entry.ensures) at c.check_found.ensures)
     ∙ ap (decide Passed) (found_rows_lem a.table.now a.store.now a.state.now a.authorization.operation a.authorization.digest (length a.out.now) a.slot a.proof.now f.result f.ensures)
 
 -- where they find nothing every row passes, by the entry that was found
-rows : (t : tie.After-enum-told) →
-    let k = t.before.before in
-    let a = k.before.before.before.before.before.before.before.before.before.args in
-    decide Passed (found_rows k.before.is_Known.result a.authorization.operation (scene_deps a.table.now a.store.now) (entry_of k.before.before.entry_in.result.now) (length a.proof.now) (length a.out.now))
+rows : (t : goal.In-Passed) →
+    let a = c.args in
+    decide Passed (found_rows c.is_known-known.result a.authorization.operation (scene_deps a.table.now a.store.now) (entry_of c.entry_in-entry.result.now) (length a.proof.now) (length a.out.now))
     ≡ Passed
-rows t = sym t.before.before.check-found.ensures ∙ t.enum_told.given.1
+rows t = sym c.check_found.ensures ∙ c.in-Passed.is
 
 -- and the writer answers the request's length
-wrote : (d : tie.After-encode-request) →
-    let k = d.before.before.before.before in
-    let a = k.before.before.before.before.before.before.before.before.before.args in
-    d.encode-request.result
-    ≡ Written (length (request_bytes (request_content a.authorization.operation a.authorization.digest (entry_of k.before.before.entry_in.result.now) (proof_with a.slot a.proof.now))))
+wrote : (d : goal.After-encode_request) →
+    let a = c.args in
+    c.encode_request.result
+    ≡ Written (length (request_bytes (request_content a.authorization.operation a.authorization.digest (entry_of c.entry_in-entry.result.now) (proof_with a.slot a.proof.now))))
 wrote d =
-    let k = d.before.before.before.before in
-    let s = k.before.before.before.before.before.before.before.before.before in
-    let a = s.args in
-    d.encode-request.ensures.0
-    ∙ made-written _ a.authorization.operation a.authorization.digest _ (entry_of k.before.before.entry_in.result.now) (proof_with a.slot a.proof.now) a.out.now (digest-long s) (rows d.before.before)
+    let a = c.args in
+    c.encode_request.ensures.value
+    ∙ made-written _ a.authorization.operation a.authorization.digest _ (entry_of c.entry_in-entry.result.now) (proof_with a.slot a.proof.now) a.out.now (digest-long c) (rows c)
 
 pub returns-in-Failed : goal.returns-in-Failed
 returns-in-Failed c = (sym (checked c) ∙ c.in-Failed.is, refl)
@@ -68,7 +64,7 @@ returns-in-Refused c = refused-written (sym c.in-Refused.is ∙ wrote c)
 
 pub returns-in-Written : goal.returns-in-Written
 returns-in-Written c =
-        let a = c.args in
+    let a = c.args in
     let f = c.find_authenticator-place in
     let e = c.entry_in-entry in
     let p = proof_with a.slot a.proof.now in

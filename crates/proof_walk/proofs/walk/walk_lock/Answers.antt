@@ -25,27 +25,24 @@ slice_bounds-out-start c = omega (arith, c.loop-i.invariant.fits, c.loop-i.invar
 abbrev At : tie.After-walk-proof invariant-loop decreases-loop → tie.Start invariant-loop decreases-loop
 At k = k.before.before.before.before.before.before.before.before.before.before.before
 
-refused-at : (c : tie.After-known-told invariant-loop decreases-loop) →
-    let k = c.before.before.before.before.before in
-    let l = k.before.before.before.loop in
-    let a = (At k).args in
-    ProofOutcomeIs (walk_context a.table.now a.store.now a.state.now a.authorization.operation a.authorization.digest (length (lent_of l.total l.answer))) a.lock.now l.cursor l.i (lent_of l.total l.answer) k.walk-proof.new.1.1.1.1.1.1.1.0 (outcome.Refused c.before.error.given.0.0)
-refused-at c = rw c.before.error.given.1 at c.before.before.before.before.before.walk-proof.ensures
+refused-at : (c : goal.After-answer_of) →
+    let l = c.loop-i in
+    let a = (At c).args in
+    ProofOutcomeIs (walk_context a.table.now a.store.now a.state.now a.authorization.operation a.authorization.digest (length (lent_of l.total l.answer))) a.lock.now l.cursor l.i (lent_of l.total l.answer) c.walk_proof.new.1.1.1.1.1.1.1.0 (outcome.Refused c.in-Refused.error)
+refused-at c = rw c.in-Refused.is at c.walk_proof.ensures
 
-failed-at : (c : tie.After-known-told2 invariant-loop decreases-loop) →
-    let k = c.before.before.before.before.before in
-    let l = k.before.before.before.loop in
-    let a = (At k).args in
-    ProofOutcomeIs (walk_context a.table.now a.store.now a.state.now a.authorization.operation a.authorization.digest (length (lent_of l.total l.answer))) a.lock.now l.cursor l.i (lent_of l.total l.answer) k.walk-proof.new.1.1.1.1.1.1.1.0 (outcome.Failed c.before.len.given.0.0)
-failed-at c = rw c.before.len.given.1 at c.before.before.before.before.before.walk-proof.ensures
+failed-at : (c : goal.In-Failed) →
+    let l = c.loop-i in
+    let a = (At c).args in
+    ProofOutcomeIs (walk_context a.table.now a.store.now a.state.now a.authorization.operation a.authorization.digest (length (lent_of l.total l.answer))) a.lock.now l.cursor l.i (lent_of l.total l.answer) c.walk_proof.new.1.1.1.1.1.1.1.0 (outcome.Failed c.in-Failed.len)
+failed-at c = rw c.in-Failed.is at c.walk_proof.ensures
 
-onward-at : (c : tie.After-known-told3 invariant-loop decreases-loop) →
-    let k = c.before.before.before.before.before in
-    let l = k.before.before.before.loop in
-    let a = (At k).args in
-    let v = c.before.len2.given.0 in
-    ProofOutcomeIs (walk_context a.table.now a.store.now a.state.now a.authorization.operation a.authorization.digest (length (lent_of l.total l.answer))) a.lock.now l.cursor l.i (lent_of l.total l.answer) k.walk-proof.new.1.1.1.1.1.1.1.0 (outcome.Onward v.0 v.1.0 v.1.1.0)
-onward-at c = rw c.before.len2.given.1 at c.before.before.before.before.before.walk-proof.ensures
+onward-at : (c : goal.In-Onward) →
+    let l = c.loop-i in
+    let a = (At c).args in
+    let v = c.len-in-Onward-1.given.0 in
+    ProofOutcomeIs (walk_context a.table.now a.store.now a.state.now a.authorization.operation a.authorization.digest (length (lent_of l.total l.answer))) a.lock.now l.cursor l.i (lent_of l.total l.answer) c.walk_proof.new.1.1.1.1.1.1.1.0 (outcome.Onward c.in-Onward.len c.in-Onward.added c.in-Onward.next)
+onward-at c = rw c.in-Onward.is at c.walk_proof.ensures
 
 -- a request was written
 Written : (k : goal.After-walk_proof) → ℕ → Type 0
@@ -56,12 +53,12 @@ Written k len =
 
 written_2 : (c : goal.In-Failed) → Written c c.in-Failed.len
 written_2 c =
-        let a = (At c).args in
+    let a = (At c).args in
     turn-written a.table.now a.store.now a.state.now a.authorization.operation a.authorization.digest c.loop-i.invariant c.loop-i-test.true _ _ (failed-at c).0
 
 written-3 : (c : goal.In-Onward) → Written c c.in-Onward.len
 written-3 c =
-        let a = (At c).args in
+    let a = (At c).args in
     turn-written a.table.now a.store.now a.state.now a.authorization.operation a.authorization.digest c.loop-i.invariant c.loop-i-test.true _ _ (onward-at c).0
 
 pub shape_of-answer-in-Refused : goal.shape_of-answer-in-Refused
@@ -107,7 +104,7 @@ overflow_add-total-in-Onward c = omega (arith, (written-3 c).ranges, (At c).good
 
 pub loop-i-preserved : goal.loop-i-preserved
 loop-i-preserved c =
-        let a = (At c).args in
+    let a = (At c).args in
     let l = c.loop-i in
     let t = onward-at c in
     turn-onward a.table.now a.store.now a.state.now a.authorization.operation a.authorization.digest l.invariant c.loop-i-test.true _ _ t.0 _ _ (omega arith) t

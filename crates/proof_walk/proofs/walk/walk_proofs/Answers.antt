@@ -9,7 +9,7 @@ use Rattle.proof_walk.proofs.walk.walk_proofs.Goals as goal
 
 pub returns-then-is_operation : goal.returns-then-is_operation
 returns-then-is_operation c =
-        let a = c.args in
+    let a = c.args in
     let same = sym (walk-known a.table.now a.store.now a.state.now a.authorization.operation a.authorization.digest (length a.answer.now) a.lock.now (sym c.is_operation.ensures ∙ c.if-is_operation.true)) in
     record { value = c.walk_lock.ensures.value ∙ ap proof_walk_answer same; answer_after = c.walk_lock.ensures.answer_after ∙ ap (λ (o : WalkOutcome). answered a.answer.now o.made) same }
 

@@ -7,7 +7,7 @@ use Rattle.public_key_proof.proofs.reader.check_proof.Goals as goal
 pub returns : goal.returns
 unfolding public_key_proof_fault public_key_proof_rows decide
 returns c =
-        rw (
+    rw (
       c.require-5.ensures,
       c.require-4.ensures,
       c.require-3.ensures,

@@ -8,9 +8,9 @@ use Rattle.public_key_proof.proofs.writer.check_room.Goals as goal
 pub returns : goal.returns
 unfolding public_key_proof_writer_fault public_key_proof_total public_key_proof_writer_rows write_fault decide
 returns c =
-        rw (
+    rw (
       c.require-5.ensures,
-      c.before.fits2.ensures,
+      c.fits.ensures,
       c.require-4.ensures,
       c.require-3.ensures,
       c.require-2.ensures,

@@ -10,7 +10,7 @@ use Rattle.public_key_proof.proofs.writer.encode_public_key_proof.Goals as goal
 pub overflow_add-result-in-Passed : goal.overflow_add-result-in-Passed
 unfolding public_key_proof_writer_fault public_key_proof_total
 overflow_add-result-in-Passed c =
-        let r : PublicKeyProofReading = public_key_proof_with c.args.key.now c.args.signature.now in
+    let r : PublicKeyProofReading = public_key_proof_with c.args.key.now c.args.signature.now in
     omega (arith, write-fits (public_key_proof_writer_rows r) (public_key_proof_total r) c.args.out.now _ c.check_room.ensures c.in-Passed.is, c.well-formed)
 
 pub returns-in-Failed : goal.returns-in-Failed

@@ -8,7 +8,7 @@ use Rattle.public_key_proof.proofs.writer.store_proof.Goals as goal
 pub returns : goal.returns
 unfolding public_key_proof_head store_numbers
 returns c =
-        rw (
+    rw (
       c.store_bytes-2.ensures,
       c.store_bytes.ensures,
       c.store_number-3.ensures,

@@ -12,14 +12,14 @@ loop-left-init c = record { small = omega arith; finds = rw c.entry_count_of-lef
 
 pub returns-then-entry_slot_of-slot : goal.returns-then-entry_slot_of-slot
 returns-then-entry_slot_of-slot c =
-        seek_hit c.loop-left.invariant (omega arith) (rw c.rest-entry.ensures at (sym c.entry_slot_of.ensures ∙ c.if-entry_slot_of-slot.true))
+    seek_hit c.loop-left.invariant (omega arith) (rw c.rest-entry.ensures at (sym c.entry_slot_of.ensures ∙ c.if-entry_slot_of-slot.true))
 
 pub overflow_add-at : goal.overflow_add-at
 overflow_add-at c = omega (arith, c.loop-left.invariant.small)
 
 pub loop-left-preserved : goal.loop-left-preserved
 loop-left-preserved c =
-        seek-next c.loop-left.invariant (omega arith)
+    seek-next c.loop-left.invariant (omega arith)
     (λ e. c.if-entry_slot_of-slot.false (c.entry_slot_of.ensures ∙ rw c.rest-entry.ensures e))
     _
     (rw c.rest-entry.ensures at c.entry_length_of.ensures)

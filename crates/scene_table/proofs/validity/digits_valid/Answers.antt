@@ -10,10 +10,8 @@ use Rattle.octets.specs.Lists.{every}
 use Rattle.scene_table.specs.Lent.{table_entry, records_at}
 use Rattle.scene_table.proofs.WalkLaws.{digits-turn, digits-end}
 use borrow.Author.Rules.{rules}
+use Rattle.scene_table.proofs.validity.digits_valid.Invariants.{good}
 use Rattle.scene_table.proofs.validity.digits_valid.Goals as goal
-
-abbrev good : ℕ → Bool
-good d = ltb d 3
 
 pub returns-then-table_entry-gt2 : goal.returns-then-table_entry-gt2
 returns-then-table_entry-gt2 c =

@@ -12,6 +12,9 @@ use Rattle.scene_table.proofs.WalkLaws.{digits-turn, digits-end}
 use borrow.Author.Rules.{rules}
 use Rattle.scene_table.proofs.validity.digits_valid.Given as goal
 
+abbrev pub good : ℕ → Bool
+good d = ltb d 3
+
 abbrev pub invariant-loop-i : goal.invariant-loop-i
 invariant-loop-i l = (l.i ≤ l.n) × (every good (records_at (table_entry l.table) 1 (l.n - l.i) (l.first + l.i)) ≡ every good (records_at (table_entry l.table) 1 l.n l.first))
 

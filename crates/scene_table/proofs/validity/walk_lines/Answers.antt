@@ -7,7 +7,7 @@ use Rattle.scene_table.proofs.validity.walk_lines.Goals as goal
 pub returns : goal.returns
 unfolding inputs_at records_start walk_head walk_inputs walk_outputs walk_deps walk_witnesses walk_lines
 returns c =
-        rw (
+    rw (
       c.next_record.ensures,
       c.table_entry-2.ensures,
       c.verdicts_at.ensures.value,

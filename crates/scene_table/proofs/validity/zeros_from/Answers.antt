@@ -9,10 +9,8 @@ use lib.Dec.{eqb}
 use lib.ListN.{length, drop, get_or}
 use Rattle.octets.specs.Lists.{every}
 use Rattle.octets.proofs.Every.{every_first, every-end}
+use Rattle.scene_table.proofs.validity.zeros_from.Invariants.{good}
 use Rattle.scene_table.proofs.validity.zeros_from.Goals as goal
-
-abbrev good : ℕ → Bool
-good e = eqb e 0
 
 pub loop-at-preserved : goal.loop-at-preserved
 loop-at-preserved c =

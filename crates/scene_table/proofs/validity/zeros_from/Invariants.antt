@@ -11,6 +11,9 @@ use Rattle.octets.specs.Lists.{every}
 use Rattle.octets.proofs.Every.{every_first, every-end}
 use Rattle.scene_table.proofs.validity.zeros_from.Given as goal
 
+abbrev pub good : ℕ → Bool
+good e = eqb e 0
+
 abbrev pub invariant-loop-at : goal.invariant-loop-at
 invariant-loop-at l = (l.zero && every good (drop l.at l.table)) ≡ every good (drop l.first l.table)
 

@@ -18,4 +18,4 @@ overflow_mul-result-2 c =
 pub returns : goal.returns
 unfolding epoch_leb
 returns c =
-        rw (c.parts_of.ensures, c.divisor_of.ensures, c.parts_of-2.ensures, c.divisor_of-2.ensures)
+    rw (c.parts_of.ensures, c.divisor_of.ensures, c.parts_of-2.ensures, c.divisor_of-2.ensures)

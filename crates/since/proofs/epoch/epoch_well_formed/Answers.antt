@@ -12,9 +12,9 @@ returns-then-index-length c = rw (sym c.index_of-index.ensures, sym c.length_of-
 pub returns-then-index-eq0 : goal.returns-then-index-eq0
 unfolding epoch_well_formed
 returns-then-index-eq0 c =
-        rw (sym c.index_of-index.ensures, sym c.length_of-length.ensures, le-ltb _ _ c.if-index-length.false, eq-eqb _ 0 c.if-index-eq0.true)
+    rw (sym c.index_of-index.ensures, sym c.length_of-length.ensures, le-ltb _ _ c.if-index-length.false, eq-eqb _ 0 c.if-index-eq0.true)
 
 pub returns-else-index-eq0 : goal.returns-else-index-eq0
 unfolding epoch_well_formed
 returns-else-index-eq0 c =
-        rw (sym c.index_of-index.ensures, sym c.length_of-length.ensures, le-ltb _ _ c.if-index-length.false, ne_eqb _ 0 c.if-index-eq0.false)
+    rw (sym c.index_of-index.ensures, sym c.length_of-length.ensures, le-ltb _ _ c.if-index-length.false, ne_eqb _ 0 c.if-index-eq0.false)

@@ -13,7 +13,7 @@ overflow_mul-result c =
 pub overflow_add-result : goal.overflow_add-result
 unfolding parts
 overflow_add-result c =
-        rw (c.number_of.ensures, c.divisor_of.ensures, c.index_of.ensures) (omega (arith, parts-bound c.args.value))
+    rw (c.number_of.ensures, c.divisor_of.ensures, c.index_of.ensures) (omega (arith, parts-bound c.args.value))
 
 pub returns : goal.returns
 unfolding parts

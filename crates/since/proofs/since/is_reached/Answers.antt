@@ -17,7 +17,7 @@ returns-then-relative_of c =
 pub returns-then-metric_of : goal.returns-then-metric_of
 unfolding reached
 returns-then-metric_of c =
-        let a = c.args in
+    let a = c.args in
     let relative = sym c.relative_of.ensures ∙ (c.if-relative_of.false ∙ c.relative_of-2.ensures) in
     let metric : (since_fields a.wait).metric ≢ (since_fields a.since).metric =
     λ e. c.if-metric_of.true (c.metric_of.ensures ∙ (e ∙ sym c.metric_of-2.ensures)) in
@@ -26,6 +26,6 @@ returns-then-metric_of c =
 pub returns : goal.returns
 unfolding reached
 returns c =
-        let relative = sym c.relative_of.ensures ∙ (c.if-relative_of.false ∙ c.relative_of-2.ensures) in
+    let relative = sym c.relative_of.ensures ∙ (c.if-relative_of.false ∙ c.relative_of-2.ensures) in
     let metric = sym c.metric_of.ensures ∙ (c.if-metric_of.false ∙ c.metric_of-2.ensures) in
     rw (eq-eqb _ _ relative, eq-eqb _ _ metric) c.value_leb.ensures

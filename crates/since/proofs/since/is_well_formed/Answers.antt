@@ -13,10 +13,10 @@ returns-then-reserved_of-ne0 c = rw (sym c.reserved_of.ensures, ne_eqb _ 0 c.if-
 pub returns-then-metric-eq-EPOCHS : goal.returns-then-metric-eq-EPOCHS
 unfolding well_formed in_epochs
 returns-then-metric-eq-EPOCHS c =
-        rw (sym c.reserved_of.ensures, eq-eqb _ 0 c.if-reserved_of-ne0.false, sym c.metric_of-metric.ensures, c.if-metric-eq-EPOCHS.true, c.epoch_well_formed.ensures, c.before.value_of_lem.ensures)
+    rw (sym c.reserved_of.ensures, eq-eqb _ 0 c.if-reserved_of-ne0.false, sym c.metric_of-metric.ensures, c.if-metric-eq-EPOCHS.true, c.epoch_well_formed.ensures, c.value_of.ensures)
 
 pub returns : goal.returns
 unfolding well_formed in_epochs
 returns c =
-        rw (sym c.reserved_of.ensures, eq-eqb _ 0 c.if-reserved_of-ne0.false, sym c.metric_of-metric.ensures, ne_eqb _ 1 c.if-metric-eq-EPOCHS.false)
+    rw (sym c.reserved_of.ensures, eq-eqb _ 0 c.if-reserved_of-ne0.false, sym c.metric_of-metric.ensures, ne_eqb _ 1 c.if-metric-eq-EPOCHS.false)
     (sym (and-true _))

@@ -8,9 +8,9 @@ use Rattle.since.proofs.since.value_leb.Goals as goal
 pub returns-then-metric_of-eq-EPOCHS : goal.returns-then-metric_of-eq-EPOCHS
 unfolding value_leb in_epochs
 returns-then-metric_of-eq-EPOCHS c =
-        rw (sym c.metric_of.ensures, eq-eqb _ 1 c.if-metric_of-eq-EPOCHS.true, c.epoch_leb.ensures, c.value_of-then-metric_of-eq-EPOCHS.ensures, c.before.before.value_of_lem.ensures)
+    rw (sym c.metric_of.ensures, eq-eqb _ 1 c.if-metric_of-eq-EPOCHS.true, c.epoch_leb.ensures, c.value_of-then-metric_of-eq-EPOCHS.ensures, c.value_of.ensures)
 
 pub returns-else-metric_of-eq-EPOCHS : goal.returns-else-metric_of-eq-EPOCHS
 unfolding value_leb in_epochs
 returns-else-metric_of-eq-EPOCHS c =
-        rw (sym c.metric_of.ensures, ne_eqb _ 1 c.if-metric_of-eq-EPOCHS.false, c.value_of-else-metric_of-eq-EPOCHS-2.ensures, c.value_of-else-metric_of-eq-EPOCHS.ensures)
+    rw (sym c.metric_of.ensures, ne_eqb _ 1 c.if-metric_of-eq-EPOCHS.false, c.value_of-else-metric_of-eq-EPOCHS-2.ensures, c.value_of-else-metric_of-eq-EPOCHS.ensures)

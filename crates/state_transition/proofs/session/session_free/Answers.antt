@@ -15,7 +15,7 @@ returns-then-session_enabled c =
 
 pub loop-left-init : goal.loop-left-init
 loop-left-init c =
-        let s = c.args.state.now in
+    let s = c.args.state.now in
     let off = sym (rw c.flags_of.ensures at c.session_enabled.ensures) ∙ c.if-session_enabled.false in
     rw (c.entry_count_of-left.ensures, c.rest-entry.ensures) (look-first s off)
 
@@ -23,13 +23,13 @@ loop-left-init c =
 pub returns-then-capabilities_of-eq1 : goal.returns-then-capabilities_of-eq1
 unfolding has_capability entry_of
 returns-then-capabilities_of-eq1 c =
-        sym (look_hit _ _ _ c.loop-left.invariant (omega arith) (eq-eqb _ 1 (rw c.capabilities_of.ensures at c.if-capabilities_of-eq1.true)))
+    sym (look_hit _ _ _ c.loop-left.invariant (omega arith) (eq-eqb _ 1 (rw c.capabilities_of.ensures at c.if-capabilities_of-eq1.true)))
 
 -- it does not
 pub loop-left-preserved : goal.loop-left-preserved
 unfolding has_capability entry_of
 loop-left-preserved c =
-        rw (c.rest-next.ensures, c.entry_length_of.ensures)
+    rw (c.rest-next.ensures, c.entry_length_of.ensures)
     (look-next _ _ _ c.loop-left.invariant (omega arith) (ne_eqb _ 1 (rw c.capabilities_of.ensures at c.if-capabilities_of-eq1.false)))
 
 pub returns : goal.returns

@@ -9,5 +9,5 @@ use Rattle.state_transition.proofs.transition.check_recovery.Goals as goal
 pub returns : goal.returns
 unfolding recovery_rows decide
 returns c =
-        rw (c.and.ensures, c.check_wait.ensures, c.recovery_since_of.ensures, c.require.ensures, c.recovery_enabled.ensures, c.flags_of.ensures)
+    rw (c.and.ensures, c.check_wait.ensures, c.recovery_since_of.ensures, c.require.ensures, c.recovery_enabled.ensures, c.flags_of.ensures)
     (sym (decide-then _ (wait_rows _ _)))

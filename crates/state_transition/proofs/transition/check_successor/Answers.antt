@@ -11,4 +11,4 @@ use Rattle.state_transition.proofs.transition.check_successor.Goals as goal
 pub returns : goal.returns
 unfolding successor_rows decide
 returns c =
-        rw (c.require-2.ensures, c.require.ensures, c.check_state.ensures.value, c.is_next-next.ensures, c.sequence_of-2.ensures, c.sequence_of.ensures, c.session_free-free.ensures) (sym (decide-append Passed (state_rows _) _))
+    rw (c.require-2.ensures, c.require.ensures, c.check_state.ensures.value, c.is_next-next.ensures, c.sequence_of-2.ensures, c.sequence_of.ensures, c.session_free-free.ensures) (sym (decide-append Passed (state_rows _) _))

@@ -12,4 +12,4 @@ returns-then-wait-eq0 c = rw (eq-eqb _ 0 c.if-wait-eq0.true)
 pub returns : goal.returns
 unfolding wait_rows decide
 returns c =
-        rw (ne_eqb _ 0 c.if-wait-eq0.false, c.require-3.ensures, c.require-2.ensures, c.require.ensures, c.is_reached-over.ensures, c.is_well_formed-input.ensures, c.is_well_formed-state.ensures)
+    rw (ne_eqb _ 0 c.if-wait-eq0.false, c.require-3.ensures, c.require-2.ensures, c.require.ensures, c.is_reached-over.ensures, c.is_well_formed-input.ensures, c.is_well_formed-state.ensures)

@@ -11,7 +11,3 @@ returns-then-len-at c =
     let a = c.args in
     let done = c.put_digits.ensures in
     record { value = done.value; upper_bound = done.upper_bound; out_after = done.out_after ∙ sets_end a.out.now (decimal_text 20 a.value) a.at c.if-len-at.true }
-
-pub returns-else-len-at : goal.returns-else-len-at
-unfolding number_text
-returns-else-len-at c = let w = c.put_digits-else-len-at.ensures in record { value = w.0; upper_bound = w.1.0; out_after = w.1.1 }

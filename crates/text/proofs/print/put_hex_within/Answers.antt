@@ -18,7 +18,7 @@ hex_digit-requires c = omega (arith, (c.type_inv.bytes c.loop-i.i).fits)
 
 pub loop-i-preserved : goal.loop-i-preserved
 loop-i-preserved c =
-        let l = c.loop-i in
+    let l = c.loop-i in
     let bytes = c.args.bytes.now in
     let turn = hex-turn bytes l.i c.loop-i-test.true in (
       search rules,

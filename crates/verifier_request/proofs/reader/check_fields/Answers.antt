@@ -7,7 +7,7 @@ use Rattle.verifier_request.proofs.reader.check_fields.Goals as goal
 pub returns : goal.returns
 unfolding request_field_rows decide
 returns c =
-        rw (
+    rw (
       c.require-6.ensures,
       c.require-5.ensures,
       c.require-4.ensures,

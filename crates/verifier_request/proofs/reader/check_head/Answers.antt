@@ -7,7 +7,7 @@ use Rattle.verifier_request.proofs.reader.check_head.Goals as goal
 pub returns : goal.returns
 unfolding request_header_rows decide
 returns c =
-        rw (
+    rw (
       c.require-6.ensures,
       c.request_header_length_of.ensures,
       c.require-5.ensures,

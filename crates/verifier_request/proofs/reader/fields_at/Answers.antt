@@ -6,7 +6,7 @@ use Rattle.verifier_request.proofs.reader.fields_at.Goals as goal
 pub returns : goal.returns
 unfolding request_fields_of
 returns c =
-        rw (
+    rw (
       c.request_proof_length_of.ensures,
       c.request_profile_of.ensures,
       c.request_operation_of.ensures,

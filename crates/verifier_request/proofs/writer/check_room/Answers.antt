@@ -8,9 +8,9 @@ use Rattle.verifier_request.proofs.writer.check_room.Goals as goal
 pub returns : goal.returns
 unfolding write_fault request_writer_limit_rows decide
 returns c =
-        rw (
+    rw (
       c.require-4.ensures,
-      c.before.fits2.ensures,
+      c.fits.ensures,
       c.require-3.ensures,
       c.require-2.ensures,
       c.require.ensures,

@@ -10,7 +10,7 @@ use Rattle.verifier_request.proofs.writer.encode_verifier_request.Goals as goal
 pub overflow_add-result-in-Passed : goal.overflow_add-result-in-Passed
 unfolding request_writer_rows request_total
 overflow_add-result-in-Passed c =
-        let a = c.args in
+    let a = c.args in
     let r : RequestReading = request_with a.algorithm a.slot a.operation a.profile a.digest a.key a.aux.now a.proof.now in
     omega (arith, write-fits (request_writer_rows r) (request_total r) a.out.now _ c.check_room.ensures c.in-Passed.is, c.well-formed)
 

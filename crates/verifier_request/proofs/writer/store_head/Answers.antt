@@ -11,7 +11,7 @@ shape_of-out c = omega (arith, c)
 pub returns : goal.returns
 unfolding request_head store_numbers
 returns c =
-        rw (
+    rw (
       c.store_number-9.ensures,
       c.store_number-8.ensures,
       c.store_number-7.ensures,

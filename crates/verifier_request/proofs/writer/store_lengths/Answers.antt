@@ -7,4 +7,4 @@ use Rattle.verifier_request.proofs.writer.store_lengths.Goals as goal
 pub returns : goal.returns
 unfolding request_lengths store_numbers
 returns c =
-        rw (c.store_number-3.ensures, c.store_number-2.ensures, c.store_number.ensures) (numbers-stored _ 80 (request_lengths _ _))
+    rw (c.store_number-3.ensures, c.store_number-2.ensures, c.store_number.ensures) (numbers-stored _ 80 (request_lengths _ _))

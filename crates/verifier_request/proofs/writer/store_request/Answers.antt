@@ -10,7 +10,7 @@ overflow_add-aux c = omega (arith, c)
 
 pub returns : goal.returns
 returns c =
-        let a = c.args in
+    let a = c.args in
     let r : RequestReading = request_with a.algorithm a.slot a.operation a.profile a.digest a.key a.aux.now a.proof.now in
     let z : RequestSized r = record { digest = omega (arith, c.well-formed); key = omega (arith, c.well-formed) } in
     rw (
