@@ -29,11 +29,11 @@ unfolding IV
 both_stored v h w first second = second ∙ ap (λ (l : List ℕ). sets l 8 IV) first
 
 pub returns-then-last : goal.returns-then-last
-unfolding work_vector flagged xor_at
+unfolding work_vector flagged xor_at IV
 returns-then-last c =
-    rw c.if-last.true (ap (flagged true) (before-flag _ c.args.h c.args.t (search rules) c.ranges.t.fits (both_stored _ _ _ c.copy_words.ensures c.copy_words-2.ensures)))
+    rw c.if-last.true (ap (flagged true) (before-flag _ c.args.h c.args.t (search rules) c.ranges.t.fits (both_stored c.copy_words.new.v c.args.h c.copy_words-2.new.v c.copy_words.ensures c.copy_words-2.ensures)))
 
 pub returns-else-last : goal.returns-else-last
-unfolding work_vector flagged
+unfolding work_vector flagged IV
 returns-else-last c =
-    rw c.if-last.false (before-flag _ c.args.h c.args.t (search rules) c.ranges.t.fits (both_stored _ _ _ c.copy_words.ensures c.copy_words-2.ensures))
+    rw c.if-last.false (before-flag _ c.args.h c.args.t (search rules) c.ranges.t.fits (both_stored c.copy_words.new.v c.args.h c.copy_words-2.new.v c.copy_words.ensures c.copy_words-2.ensures))
