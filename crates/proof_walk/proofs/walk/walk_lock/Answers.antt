@@ -28,26 +28,26 @@ At k = k.before.before.before.before.before.before.before.before.before.before.b
 refused-at : (c : goal.After-answer_of) →
     let l = c.loop-i in
     let a = (At-1 c).args in
-    ProofOutcomeIs (walk_context a.table.now a.store.now a.state.now a.authorization.operation a.authorization.digest (length (lent_of l.total l.answer))) a.lock.now l.cursor l.i (lent_of l.total l.answer) c.walk_proof.new.store.1.1.1.1.1.1.0 (outcome.Refused c.in-Refused.error)
+    ProofOutcomeIs (walk_context a.table.now a.store.now a.state.now a.authorization.operation a.authorization.digest (length (lent_of l.total l.answer))) a.lock.now l.cursor l.i (lent_of l.total l.answer) c.walk_proof.new.out (outcome.Refused c.in-Refused.error)
 refused-at c = rw c.in-Refused.is at c.walk_proof.ensures
 
 failed-at-1 : (c : goal.In-Failed) →
     let l = c.loop-i in
     let a = (At-2 c).args in
-    ProofOutcomeIs (walk_context a.table.now a.store.now a.state.now a.authorization.operation a.authorization.digest (length (lent_of l.total l.answer))) a.lock.now l.cursor l.i (lent_of l.total l.answer) c.walk_proof.new.store.1.1.1.1.1.1.0 (outcome.Failed c.in-Failed.len)
+    ProofOutcomeIs (walk_context a.table.now a.store.now a.state.now a.authorization.operation a.authorization.digest (length (lent_of l.total l.answer))) a.lock.now l.cursor l.i (lent_of l.total l.answer) c.walk_proof.new.out (outcome.Failed c.in-Failed.len)
 failed-at-1 c = rw c.in-Failed.is at c.walk_proof.ensures
 
 failed-at-2 : (c : goal.After-answer_of-in-Failed) →
     let l = c.loop-i in
     let a = (At-3 c).args in
-    ProofOutcomeIs (walk_context a.table.now a.store.now a.state.now a.authorization.operation a.authorization.digest (length (lent_of l.total l.answer))) a.lock.now l.cursor l.i (lent_of l.total l.answer) c.walk_proof.new.store.1.1.1.1.1.1.0 (outcome.Failed c.in-Failed.len)
+    ProofOutcomeIs (walk_context a.table.now a.store.now a.state.now a.authorization.operation a.authorization.digest (length (lent_of l.total l.answer))) a.lock.now l.cursor l.i (lent_of l.total l.answer) c.walk_proof.new.out (outcome.Failed c.in-Failed.len)
 failed-at-2 c = rw c.in-Failed.is at c.walk_proof.ensures
 
 onward-at : (c : goal.In-Onward) →
     let l = c.loop-i in
     let a = (At-4 c).args in
     let v = c.len-in-Onward-1.given.0 in
-    ProofOutcomeIs (walk_context a.table.now a.store.now a.state.now a.authorization.operation a.authorization.digest (length (lent_of l.total l.answer))) a.lock.now l.cursor l.i (lent_of l.total l.answer) c.walk_proof.new.store.1.1.1.1.1.1.0 (outcome.Onward c.in-Onward.len c.in-Onward.added c.in-Onward.next)
+    ProofOutcomeIs (walk_context a.table.now a.store.now a.state.now a.authorization.operation a.authorization.digest (length (lent_of l.total l.answer))) a.lock.now l.cursor l.i (lent_of l.total l.answer) c.walk_proof.new.out (outcome.Onward c.in-Onward.len c.in-Onward.added c.in-Onward.next)
 onward-at c = rw c.in-Onward.is at c.walk_proof.ensures
 
 -- a request was written
@@ -55,19 +55,19 @@ Written-1 : (k : goal.In-Failed) → ℕ → Type 0
 Written-1 k len =
     let l = c.loop-i in
     let a = (At-2 k).args in
-    RequestWritten (walk_context a.table.now a.store.now a.state.now a.authorization.operation a.authorization.digest (length a.answer.now)) a.answer.now l.answer l.invariant.made l.total (proof_of a.lock.now l.cursor.offset) c.walk_proof.new.store.1.1.1.1.1.1.0 len
+    RequestWritten (walk_context a.table.now a.store.now a.state.now a.authorization.operation a.authorization.digest (length a.answer.now)) a.answer.now l.answer l.invariant.made l.total (proof_of a.lock.now l.cursor.offset) c.walk_proof.new.out len
 
 Written-2 : (k : goal.After-answer_of-in-Failed) → ℕ → Type 0
 Written-2 k len =
     let l = c.loop-i in
     let a = (At-3 k).args in
-    RequestWritten (walk_context a.table.now a.store.now a.state.now a.authorization.operation a.authorization.digest (length a.answer.now)) a.answer.now l.answer l.invariant.made l.total (proof_of a.lock.now l.cursor.offset) c.walk_proof.new.store.1.1.1.1.1.1.0 len
+    RequestWritten (walk_context a.table.now a.store.now a.state.now a.authorization.operation a.authorization.digest (length a.answer.now)) a.answer.now l.answer l.invariant.made l.total (proof_of a.lock.now l.cursor.offset) c.walk_proof.new.out len
 
 Written-3 : (k : goal.In-Onward) → ℕ → Type 0
 Written-3 k len =
     let l = c.loop-i in
     let a = (At-4 k).args in
-    RequestWritten (walk_context a.table.now a.store.now a.state.now a.authorization.operation a.authorization.digest (length a.answer.now)) a.answer.now l.answer l.invariant.made l.total (proof_of a.lock.now l.cursor.offset) c.walk_proof.new.store.1.1.1.1.1.1.0 len
+    RequestWritten (walk_context a.table.now a.store.now a.state.now a.authorization.operation a.authorization.digest (length a.answer.now)) a.answer.now l.answer l.invariant.made l.total (proof_of a.lock.now l.cursor.offset) c.walk_proof.new.out len
 
 written_2-1 : (c : goal.In-Failed) → Written-1 c c.in-Failed.len
 written_2-1 c =
