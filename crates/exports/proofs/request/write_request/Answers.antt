@@ -16,4 +16,4 @@ unfolding answer_after buffer_after lent_written lent_stored
 returns-in-Passed c =
     let e = sym c.check_sizes.ensures ∙ c.in-Passed.is in
     let w = rw (c.array_32.ensures ∙ first-whole _ _ e, c.array_32-in-Passed.ensures ∙ second-whole _ _ e) at c.encode_verifier_request.ensures in
-    record { value = rw e w.0; out_after = rw e w.1 }
+    record { value = rw e w.value; out_after = rw e w.out_after }
