@@ -8,7 +8,7 @@ use Rattle.blake2b_compression.specs.Compression.{IV}
 use Rattle.blake2b.specs.Rfc7693.{start_words}
 use Rattle.blake2b.proofs.start_words.Given as goal
 
-pub word : List ℕ → ℕ → ℕ
+unfoldable pub word : List ℕ → ℕ → ℕ
 word p i = bit_xor (get_or IV i 0) (number_at p (8 * i) 8)
 
 abbrev pub invariant-loop-i : goal.invariant-loop-i
