@@ -2,7 +2,6 @@
 use mathlib.Core.Path.{sym, ◌∙◌}
 use Rattle.export_answers.proofs.Sizes.{first-whole, second-whole}
 use Rattle.exports.specs.Writers.{answer_after, buffer_after, lent_written, lent_stored}
-use borrow.Author.Rules.{rules}
 use Rattle.exports.proofs.request.write_request.Goals as goal
 
 pub returns-in-Failed : goal.returns-in-Failed
