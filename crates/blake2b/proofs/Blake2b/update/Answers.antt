@@ -1,11 +1,11 @@
 -- `blake2b::Blake2b::update` meets its contract: the waiting part is filled up, and then the locals stand where a block ends.
 -- Assumes nothing.
-use Rattle.std.proofs.Common.{◌≡◌, ◌+◌, ◌-◌, ◌<◌, ◌≤◌, length, take, refl, ◌∙◌, ⊎_elim, arith, take_all, rules}
+use Rattle.std.proofs.Common.{◌≡◌, ◌+◌, ◌≤◌, length, take, refl, ◌∙◌, arith, take_all, rules}
 use native.Mathlib.Nat.{sub-zero}
 use Rattle.blake2b.specs.declared.Blake2b.{Blake2b}
 use Rattle.blake2b.specs.State.{fed_all}
 use Rattle.blake2b.proofs.Feed.{feed-fill}
-use Rattle.blake2b.proofs.WholeBlocks.{WholeBlocks, blocks-first, blocks-next, blocks-rest}
+use Rattle.blake2b.proofs.WholeBlocks.{blocks-first, blocks-next, blocks-rest}
 use Rattle.blake2b.proofs.Blake2b.update.Goals as goal
 use Rattle.blake2b.proofs.Blake2b.update.Goals.{then-at-data+else-loop-at-test, else-at-data}
 
@@ -42,11 +42,11 @@ returns c =
     let xs = a.«data».now in
     elim c.if-at-data.branch [
       | then-at-data+else-loop-at-test w ↦
-        let l = w.loop-at in
-        rw (w.h-is, w.block-is, w.fed-is, w.wrapping_add_u64-fed-then-at-data.ensures.value, w.store_bytes-then-at-data.ensures)
-        (blocks-rest a.self xs l.at l.h l.fed l.invariant.1 l.invariant.0 (omega (arith, w.loop-at-test.false)))
+          let l = w.loop-at in
+          rw (w.h-is, w.block-is, w.fed-is, w.wrapping_add_u64-fed-then-at-data.ensures.value, w.store_bytes-then-at-data.ensures)
+          (blocks-rest a.self xs l.at l.h l.fed l.invariant.1 l.invariant.0 (omega (arith, w.loop-at-test.false)))
       | else-at-data w ↦
-        let e : length xs ≤ n.result = omega (arith, w.if-at-data.false) in
-        rw (w.h-is, w.block-is, w.fed-is, u.ensures.value, q.ensures, c.next_place.ensures, sub-zero)
-        (feed-fill a.self xs n.result (search rules) (omega arith) (omega arith) ∙ rw (take_all n.result xs e))
+          let e : length xs ≤ n.result = omega (arith, w.if-at-data.false) in
+          rw (w.h-is, w.block-is, w.fed-is, u.ensures.value, q.ensures, c.next_place.ensures, sub-zero)
+          (feed-fill a.self xs n.result (search rules) (omega arith) (omega arith) ∙ rw (take_all n.result xs e))
     ]
