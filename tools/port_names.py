@@ -11,7 +11,7 @@ definition of the same words, and get `_lem`.
 import os
 import re
 
-WORD = re.compile(r"[A-Za-z_][A-Za-z0-9_']*(?:-[A-Za-z0-9_'ℕ]+)*")
+WORD = re.compile(r"(?<![0-9])[A-Za-z_][A-Za-z0-9_']*(?:-[A-Za-z0-9_'ℕ]+)*")
 CAMEL = re.compile(r"[a-z][A-Za-z0-9_']*\Z")
 TOGETHER = {"bytes_ok": "bytes_ok_lem", "found_rows": "found_rows_lem"}
 

@@ -67,7 +67,7 @@ algorithm_of e = number_at e 4 2
 abbrev pub capabilities_of : List ℕ → ℕ
 capabilities_of e = number_at e 6 2
 
--- the original's CAP_KNOWN_MASK; 01: "capabilities at most 0x000_f"
+-- the original's CAP_KNOWN_MASK; 01: "capabilities at most 0x000F"
 abbrev pub cap_known_mask : ℕ
 cap_known_mask = 0x000f
 

@@ -37,7 +37,7 @@ state_header_rows s =
     ∷ []
 
 -- 01, each entry: "Order: 48 bytes present, entry length equal to 48 + key + aux, entry inside the state, slot above its
--- predecessor, weight not 0 and capabilities at most 0x000_f (all 21); hash type at most 1 (0 names a dep by data hash, 1 by type
+-- predecessor, weight not 0 and capabilities at most 0x000F (all 21); hash type at most 1 (0 names a dep by data hash, 1 by type
 -- hash) and ABI 1 (30); algorithm 0x0001, 0x0101, 0x0102, 0x0103 or 0x0201 (33); key of 32 bytes and aux not empty (21)."
 -- e is the state from the entry on, and least is one above the slot of its predecessor.
 unfoldable pub entry_layout_rows : List ℕ → ℕ → List Row

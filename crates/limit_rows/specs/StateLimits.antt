@@ -130,7 +130,7 @@ pub record StateLimits : Type 0 where
   -- 02, change 10: "States with flag 2 or capability 0x0008 are still read"
   pub flag-2 : by_policy 2 0x0003 1 1 0 0 ≡ 0
   pub flags-3 : by_policy 3 0x0007 1 1 1 0 ≡ 0
-  -- "capabilities at most 0x000_f"
+  -- "capabilities at most 0x000F"
   pub capabilities : map by_capabilities (0x0003 ∷ 0x0007 ∷ 0x000b ∷ 0x000f ∷ 0x0013 ∷ []) ≡ 0 ∷ 0 ∷ 0 ∷ 0 ∷ 21 ∷ []
   -- "spend or rotate threshold 0 or above the weight of its holders is 38. With flag 1 set the same holds for recovery."
   pub thresholds-0 : by_policy 0 0x0003 0 1 0 0 ∷ by_policy 0 0x0003 1 0 0 0 ∷ by_policy 1 0x0007 1 1 0 0 ∷ [] ≡ 38 ∷ 38 ∷ 38 ∷ []

@@ -39,8 +39,8 @@ rising-end ns least i h = rw (drop_of_length-le ns h)
 -- no member is below the least
 pub rising-member : {least n : ℕ} (ns : List ℕ) → Rising least ns → Memᴰ n ns → least ≤ n
 rising-member [] r m = absurd (Memᴰ.not-nil m)
-rising-member (x ∷ xs) r m =
-    ⊎_elim (λ e. omega arith) (λ t. let h = rising-member xs r.1 t in omega arith) (Memᴰ.cases_cons m)
+rising-member {least = least} {n = n} (x ∷ xs) r m =
+    ⊎_elim (λ e. omega arith) (λ t. let h = rising-member {least = x + 1} {n = n} xs r.1 t in omega arith) (Memᴰ.cases_cons m)
 
 -- what rises from a number on rises from a lower one on
 pub rising-less : {k l : ℕ} (ns : List ℕ) → k ≤ l → Rising l ns → Rising k ns

@@ -1,0 +1,77 @@
+-- `account_lock::lock_scene` meets its contract. Assumes nothing.
+use mathlib.Core.Path.{◌≡◌, sym, ap, ◌∙◌}
+use lib.ListN.{length}
+use Rattle.protocol.specs.Rows.{AllPass, decide, ◌then◌}
+use Rattle.protocol.specs.declared.check.Check.TheVariants.{Passed}
+use Rattle.protocol.proofs.AllPass.{passed-all-pass, then-passed}
+use Rattle.scene_table.specs.Scene.{Scene}
+use Rattle.scene_table.specs.Lent.{scene_in}
+use Rattle.scene_table.proofs.PlaceLaws.{lent-given}
+use Rattle.cell_hashes.specs.Hashes.{hash_rows}
+use Rattle.group_sighash.specs.Witnesses.{group_rows}
+use Rattle.group_sighash.proofs.FirstRows.{group-first}
+use Rattle.decision.specs.Walk.{answered}
+use Rattle.account_lock.specs.Lock.{account, script_rows, Result, refused, answer_of}
+use Rattle.account_lock.proofs.LockLaws.{script-account, scene-refused, scene-late}
+use borrow.Author.Rules.{rules}
+use Rattle.account_lock.proofs.lock_scene.Goals as goal
+
+-- where the function begins, and the scene that is lent
+abbrev begun : tie.After-and2 → tie.Start
+begun c = c.before.before.before.before.before.before.before.before.before.before.before
+
+scene : (c : goal.After-and-2) → Scene
+scene c = scene_in (begun c).args.table.now (begun c).args.store.now
+
+-- the script is the scene's
+own : (c : goal.After-and-2) → c.part_at-script.result.now ≡ (scene c).script
+own c =
+    rw c.script.ensures at c.part_at-script.ensures ∙ sym (lent-given (begun c).args.table.now (begun c).args.store.now).script
+
+-- what the rows of the hashes, the script and the group find
+hashes-found : (c : goal.After-and-2) → c.check_hashes.result ≡ decide Passed (hash_rows (scene c))
+hashes-found c = c.check_hashes.ensures
+
+script-found : (c : goal.After-and-2) → c.check_script.result ≡ decide Passed (script_rows (scene c).script)
+script-found c = rw (own c) at c.check_script.ensures
+
+group-found : (c : goal.After-and-2) → c.check_first_witness.result ≡ decide Passed (group_rows (scene c))
+group-found c =
+    rw c.first_witness-witness.ensures at c.check_first_witness.ensures ∙ group-first _
+
+-- and together
+all_found : (c : goal.After-and-2)
+    → c.and-2.result
+    ≡ (c.check_hashes.result then c.check_script.result)
+    then c.check_first_witness.result
+all_found c = rw c.and.ensures at c.and-2.ensures
+
+pub lock_account-requires : goal.lock_account-requires
+unfolding account
+lock_account-requires c =
+    let s = scene c in
+    let passed = then-passed _ _ (sym (all_found c) ∙ c.in-Passed.is) in
+    let before = then-passed _ _ passed.0 in
+    let script : AllPass (script_rows s.script) = passed-all-pass (script_rows s.script) (sym (script-found c) ∙ before.1) in
+    record {
+      account = c.account_of.ensures ∙ rw (c.args_of.ensures, own c) (script-account s.script script);
+      first = c.first_witness-witness.ensures;
+      script = script;
+      group = passed-all-pass (group_rows s) (sym (group-found c) ∙ passed.1);
+    }
+
+pub returns-in-Failed : goal.returns-in-Failed
+unfolding answered refused
+returns-in-Failed c =
+    let before = (begun c).args.answer.now in
+    let went =
+    scene-refused (scene c) (length before) _ (hashes-found c) (script-found c) (group-found c) (sym (all_found c) ∙ c.in-Failed.is)
+    in
+    record { returns_result = c.refused.ensures ∙ ap answer_of (sym went); stores_requests = ap (λ (x : Result). answered before x.made) (sym went) }
+
+pub returns-in-Passed : goal.returns-in-Passed
+returns-in-Passed c =
+    let before = (begun c).args.answer.now in
+    let passed = c.in-Passed.is in
+    let went = scene-late (scene c) (length before) (hashes-found c) (script-found c) (group-found c) (sym (all_found c) ∙ passed) in
+    record { returns_result = c.lock_account.ensures.returns_result ∙ ap answer_of (sym went); stores_requests = c.lock_account.ensures.stores_requests ∙ ap (λ (x : Result). answered before x.made) (sym went) }

@@ -1,0 +1,6 @@
+-- `account_state::fields::recovery_since_of` meets its contract. Assumes nothing.
+use borrow.Author.Rules.{rules}
+use Rattle.account_state.proofs.fields.recovery_since_of.Goals as goal
+
+pub returns : goal.returns
+returns c = c.u64_at.ensures

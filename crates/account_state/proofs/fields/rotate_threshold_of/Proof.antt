@@ -1,7 +1,0 @@
--- `account_state::fields::rotate_threshold_of` meets its contract. Assumes nothing.
-use borrow.Author.Rules.{rules}
-use Rattle.account_state.proofs.fields.rotate_threshold_of.Statement.{statement}
-use Rattle.account_state.proofs.fields.rotate_threshold_of.Tie as tie
-
-pub rotate-threshold-of-spec : {M : Type 1} → statement M
-rotate-threshold-of-spec = tie.close (tie.spec (λ c κs. search rules) (λ c. c.u16-at.ensures))

@@ -1,7 +1,0 @@
--- `account_state::fields::state_header_length_of` meets its contract. Assumes nothing.
-use borrow.Author.Rules.{rules}
-use Rattle.account_state.proofs.fields.state_header_length_of.Statement.{statement}
-use Rattle.account_state.proofs.fields.state_header_length_of.Tie as tie
-
-pub state-header-length-of-spec : {M : Type 1} → statement M
-state-header-length-of-spec = tie.close (tie.spec (λ c κs. search rules) (λ c. c.u16-at.ensures))

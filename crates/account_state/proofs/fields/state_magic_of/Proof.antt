@@ -1,7 +1,0 @@
--- `account_state::fields::state_magic_of` meets its contract. Assumes nothing.
-use borrow.Author.Rules.{rules}
-use Rattle.account_state.proofs.fields.state_magic_of.Statement.{statement}
-use Rattle.account_state.proofs.fields.state_magic_of.Tie as tie
-
-pub state-magic-of-spec : {M : Type 1} → statement M
-state-magic-of-spec = tie.close (tie.spec (λ c κs. search rules) (λ c. c.u32-at.ensures))

@@ -1,7 +1,0 @@
--- `account_state::fields::state_version_of` meets its contract. Assumes nothing.
-use borrow.Author.Rules.{rules}
-use Rattle.account_state.proofs.fields.state_version_of.Statement.{statement}
-use Rattle.account_state.proofs.fields.state_version_of.Tie as tie
-
-pub state-version-of-spec : {M : Type 1} → statement M
-state-version-of-spec = tie.close (tie.spec (λ c κs. search rules) (λ c. c.u8-at.ensures))

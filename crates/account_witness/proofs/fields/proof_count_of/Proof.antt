@@ -1,7 +1,0 @@
--- `account_witness::fields::proof_count_of` meets its contract. Assumes nothing.
-use borrow.Author.Rules.{rules}
-use Rattle.account_witness.proofs.fields.proof_count_of.Statement.{statement}
-use Rattle.account_witness.proofs.fields.proof_count_of.Tie as tie
-
-pub proof-count-of-spec : {M : Type 1} → statement M
-proof-count-of-spec = tie.close (tie.spec (λ c κs. search rules) (λ c. c.u8-at.ensures))

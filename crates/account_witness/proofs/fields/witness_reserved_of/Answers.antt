@@ -1,0 +1,6 @@
+-- `account_witness::fields::witness_reserved_of` meets its contract. Assumes nothing.
+use borrow.Author.Rules.{rules}
+use Rattle.account_witness.proofs.fields.witness_reserved_of.Goals as goal
+
+pub returns : goal.returns
+returns c = c.u8_at.ensures

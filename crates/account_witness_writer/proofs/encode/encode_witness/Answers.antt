@@ -1,0 +1,40 @@
+-- `account_witness_writer::encode::encode_witness` meets its contract, by what the checks find. Assumes nothing.
+use mathlib.Core.Path.{◌≡◌, sym, ◌∙◌}
+use lib.ListN.{length}
+use Rattle.protocol.specs.Write.{write_answer, after_write}
+use Rattle.protocol.specs.declared.check.Check.TheVariants.{Passed}
+use Rattle.account_witness_writer.specs.Writer.{witness_writer_fault, witness_written, witness_stored}
+use Rattle.account_witness_writer.proofs.WriterLaws.{WitnessWriterHolds, witness-writer-holds, witness-stored}
+use borrow.Author.Rules.{rules}
+use native.Mathlib.Omega.{arith}
+use Rattle.account_witness_writer.proofs.encode.encode_witness.Goals as goal
+
+passed : (c : goal.After-store_proofs-arg-1) → let a = c.args in witness_writer_fault a.operation a.slots.now a.lengths.now a.bytes.now (length a.out.now) ≡ Passed
+passed c = sym c.check_encode.ensures ∙ c.in-Passed.is
+
+holds : (c : goal.After-store_proofs-arg-1) → let a = c.args in WitnessWriterHolds a.slots.now a.lengths.now a.bytes.now (length a.out.now)
+holds c = witness-writer-holds _ _ _ _ _ (passed c)
+
+pub store_proofs-requires : goal.store_proofs-requires
+store_proofs-requires c = let z = holds c in (z.counts, z.sums, z.most)
+
+pub overflow_mul-result : goal.overflow_mul-result
+overflow_mul-result c = omega (arith, (holds c).most)
+
+pub overflow_add-result : goal.overflow_add-result
+overflow_add-result c = omega (arith, (holds c).most)
+
+pub overflow_add-result-in-Passed : goal.overflow_add-result-in-Passed
+overflow_add-result-in-Passed c = omega (arith, (holds c).most)
+
+pub returns-in-Failed : goal.returns-in-Failed
+unfolding witness_written witness_stored write_answer after_write
+returns-in-Failed c =
+    let e = sym c.check_encode.ensures ∙ c.in-Failed.is in
+    record { value = rw e; out_after = rw e }
+
+pub returns-in-Passed : goal.returns-in-Passed
+unfolding witness_written witness_stored write_answer
+returns-in-Passed c =
+    let e = passed c in
+    record { value = rw e; out_after = rw (c.store_proofs.ensures, c.store_header.ensures, e) (witness-stored _ _ _ _ _ _ (holds c)) }

@@ -1,0 +1,29 @@
+-- `answer_line::put_fee` meets its contract. Assumes nothing.
+use borrow.Author.Rules.{rules}
+use borrow.Author.Tests.{eq-eqb, ne_eqb}
+use Prim.Native.Nat.{ℕ}
+use mathlib.Core.Path.{◌≡◌}
+use mathlib.Core.Logic.{◌≢◌}
+use mathlib.Core.List.{[]}
+use native.Mathlib.Omega.{arith}
+use Rattle.text.specs.Print.{number_text}
+use Rattle.answer_line.specs.Line.{fee_text}
+use Rattle.answer_line.proofs.put_fee.Goals as goal
+
+fee-of-accepted : (number fee : ℕ) → number ≡ 0 → fee_text number fee ≡ number_text fee
+unfolding fee_text
+fee-of-accepted number fee e = rw (eq-eqb number 0 e)
+
+fee-of-refused : (number fee : ℕ) → number ≢ 0 → fee_text number fee ≡ []
+unfolding fee_text
+fee-of-refused number fee n = rw (ne_eqb number 0 n)
+
+pub returns-then-number-eq0 : goal.returns-then-number-eq0
+returns-then-number-eq0 c =
+    let w = let a = c.args in
+    rw (fee-of-accepted a.number a.fee c.if-number-eq0.true) c.put_number.ensures in record { value = w.0; upper_bound = w.1.0; out_after = w.1.1 }
+
+pub returns : goal.returns
+returns c =
+    let w = let a = c.args in
+    rw (fee-of-refused a.number a.fee c.if-number-eq0.false) (omega arith, (omega arith, c.put_byte.ensures)) in record { value = w.0; upper_bound = w.1.0; out_after = w.1.1 }

@@ -1,0 +1,12 @@
+-- `blake2b::compression::copy_words` meets its contract: what is left to store, stored, is the whole.
+-- Assumes nothing.
+use Rattle.std.proofs.Common.{◌≡◌, ◌+◌, ◌-◌, ◌≤◌, ◌∷◌, length, get_or, drop, ◌∙◌, add-zero, add-one, arith, drop_of_length-le, drop-cons, rules}
+use lib.Seq.{sets}
+use Rattle.octets.proofs.Stores.{sets-cons}
+use Rattle.blake2b_compression.proofs.copy_words.Given as goal
+
+abbrev pub invariant-loop-i : goal.invariant-loop-i
+invariant-loop-i l = (l.i ≤ 8) × (length l.words ≡ 8) × (sets l.v (l.at + l.i) (drop l.i l.words) ≡ sets l.initial.v l.at l.words)
+
+abbrev pub decreases-loop-i : goal.decreases-loop-i
+decreases-loop-i l = 8 - l.i

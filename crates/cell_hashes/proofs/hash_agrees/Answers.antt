@@ -1,0 +1,15 @@
+-- `cell_hashes::hash_agrees` meets its contract, by whether there are bytes. Assumes nothing.
+use borrow.Author.Tests.{eq-eqb, ne_eqb}
+use Rattle.cell_hashes.specs.Hashes.{hash_agrees}
+use borrow.Author.Rules.{rules}
+use Rattle.cell_hashes.proofs.hash_agrees.Goals as goal
+
+pub returns-then-bytes-eq0 : goal.returns-then-bytes-eq0
+unfolding hash_agrees
+returns-then-bytes-eq0 c = rw (eq-eqb _ 0 c.if-bytes-eq0.true)
+
+pub returns : goal.returns
+unfolding hash_agrees
+returns c =
+    let some = ne_eqb _ 0 c.if-bytes-eq0.false in
+    rw (some, ← c.ckb_hash-worked_out.ensures) c.same_bytes.ensures

@@ -1,0 +1,14 @@
+-- `cell_search::cells::cell_type_script` meets its contract. Assumes nothing.
+use mathlib.Core.Path.{ap, ◌∙◌}
+use Rattle.scene_table.specs.Scene.{Cell}
+use Rattle.scene_table.specs.Lent.{cell_from}
+use Rattle.cell_search.proofs.CellLaws.{cell-within}
+use borrow.Author.Rules.{rules}
+use Rattle.cell_search.proofs.cells.cell_type_script.Goals as goal
+
+pub returns : goal.returns
+unfolding cell_from
+returns c =
+    let a = c.args in
+    rw c.places_within-places.ensures at c.part_at.ensures
+    ∙ ap (λ (x : Cell). x.type_script) (cell-within a.source a.table.now a.store.now a.i)

@@ -1,0 +1,45 @@
+-- `cell_search::search::search_cells` meets its contract. Assumes nothing.
+use mathlib.Core.Path.{◌≡◌, refl, sym, ◌∙◌}
+use mathlib.Core.Logic.{⊎_elim}
+use mathlib.Core.List.{◌++◌}
+use Prim.Native.Nat.{◌-◌, ◌+◌}
+use native.Mathlib.Omega.{arith}
+use borrow.Author.Rules.{rules}
+use Rattle.scene_table.specs.Lent.{scene_in}
+use Rattle.cell_search.specs.Search.{cells_of, matches, search_of, cell_search}
+use Rattle.cell_search.specs.Cells.{cell_count}
+use Rattle.cell_search.proofs.CellLaws.{cells-listed, match_from, match-yes, match-no, match-end, places_of, found-places, second-match}
+use Rattle.cell_search.proofs.search.search_cells.Goals as goal
+
+pub loop-i-init : goal.loop-i-init
+unfolding cell_search matches match_from places_of
+loop-i-init c = (c.cell_count-count.ensures, refl)
+
+pub loop-i-preserved : goal.loop-i-preserved
+unfolding places_of
+loop-i-preserved c =
+    let a = c.args in
+    let cells = cells-listed a.source a.table.now a.store.now in
+    let more = rw c.loop-i.invariant.0 at c.loop-i-test.true in (
+      c.loop-i.invariant.0,
+      ⊎_elim
+          (λ w. c.loop-i.invariant.1 ∙ rw (w.2.given.1, w.3, match-yes a.field a.hash.now cells c.loop-i.i more (sym (rw c.cell_hash.ensures at c.same_bytes.ensures) ∙ w.0.taken)))
+          (λ w. c.loop-i.invariant.1 ∙ rw (w.1, match-no a.field a.hash.now cells c.loop-i.i more (sym (rw c.cell_hash.ensures at c.same_bytes.ensures) ∙ w.0.left)))
+          c.if-same_bytes.branch,
+    )
+
+pub returns-after-loop-i : goal.returns-after-loop-i
+returns-after-loop-i c =
+    let a = c.args in
+    let cells = cells-listed a.source a.table.now a.store.now in
+    sym (c.loop-i.invariant.1 ∙ rw (match-end a.field a.hash.now cells c.loop-i.i (rw c.loop-i.invariant.0 at c.loop-i-test.false)) (found-places c.loop-i.found))
+
+pub returns-in_default : goal.returns-in_default
+returns-in_default c =
+    let a = c.args in
+    let cells = cells-listed a.source a.table.now a.store.now in
+    let more = rw c.loop-i.invariant.0 at c.loop-i-test.true in
+    sym
+    (c.loop-i.invariant.1
+    ∙ rw (match-yes a.field a.hash.now cells c.loop-i.i more (sym (rw c.cell_hash.ensures at c.same_bytes.ensures) ∙ c.if-same_bytes.true))
+    (second-match c.loop-i.found c.loop-i.i _ c.in_default.in_default-own.keys2))

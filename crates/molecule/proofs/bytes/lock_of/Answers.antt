@@ -1,0 +1,6 @@
+-- `molecule::bytes::lock_of` meets its contract. Assumes nothing.
+use borrow.Author.Rules.{rules}
+use Rattle.molecule.proofs.bytes.lock_of.Goals as goal
+
+pub returns : goal.returns
+returns c = rw c.witness_lock_place.ensures at c.part_at.ensures

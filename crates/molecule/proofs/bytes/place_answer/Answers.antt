@@ -1,0 +1,12 @@
+-- `molecule::bytes::place_answer` meets its contract, by what was found. Assumes nothing.
+use Rattle.molecule.specs.Bytes.{place_answer}
+use borrow.Author.Rules.{rules}
+use Rattle.molecule.proofs.bytes.place_answer.Goals as goal
+
+pub returns-in-Failed : goal.returns-in-Failed
+unfolding place_answer
+returns-in-Failed c = rw c.in-Failed.is
+
+pub returns-in-Passed : goal.returns-in-Passed
+unfolding place_answer
+returns-in-Passed c = rw c.in-Passed.is

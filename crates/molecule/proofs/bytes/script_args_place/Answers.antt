@@ -1,0 +1,6 @@
+-- `molecule::bytes::script_args_place` meets its contract. Assumes nothing.
+use borrow.Author.Rules.{rules}
+use Rattle.molecule.proofs.bytes.script_args_place.Goals as goal
+
+pub returns : goal.returns
+returns c = rw (c.place_of.ensures, c.third_field.ensures, c.third_offset_of.ensures)

@@ -1,7 +1,0 @@
--- `molecule::fields::second_offset_of` meets its contract. Assumes nothing.
-use borrow.Author.Rules.{rules}
-use Rattle.molecule.proofs.fields.second_offset_of.Statement.{statement}
-use Rattle.molecule.proofs.fields.second_offset_of.Tie as tie
-
-pub second-offset-of-spec : {M : Type 1} → statement M
-second-offset-of-spec = tie.close (tie.spec (λ c κs. search rules) (λ c. c.u32-at.ensures))

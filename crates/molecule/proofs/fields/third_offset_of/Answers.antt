@@ -1,0 +1,6 @@
+-- `molecule::fields::third_offset_of` meets its contract. Assumes nothing.
+use borrow.Author.Rules.{rules}
+use Rattle.molecule.proofs.fields.third_offset_of.Goals as goal
+
+pub returns : goal.returns
+returns c = c.u32_at.ensures

@@ -1,0 +1,18 @@
+-- `octets::zero::zero_words` meets its contract. Assumes nothing.
+use Prim.Native.Nat.{◌-◌}
+use lib.ListN.{length}
+use borrow.Author.Rules.{rules}
+use Rattle.octets.proofs.ZeroLoop.{ZeroedTo, zeroed-none, zeroed-more, zeroed-all}
+use Rattle.octets.proofs.zero.zero_words.Goals as goal
+
+pub loop-i-init : goal.loop-i-init
+loop-i-init c = zeroed-none _
+
+pub loop-i-preserved : goal.loop-i-preserved
+loop-i-preserved c = let l = c.loop-i in zeroed-more _ l.words l.i l.invariant c.loop-i-test.true
+
+pub returns : goal.returns
+returns c = let l = c.loop-i in zeroed-all _ l.words l.i l.invariant c.loop-i-test.false
+
+pub shape_of-words : goal.shape_of-words
+shape_of-words c = c.loop-i.invariant.long

@@ -1,0 +1,11 @@
+-- `proof_walk::request::encode_request` meets its contract: the writer's answer for the proof's request. Assumes nothing.
+use Rattle.octets.proofs.LeLaws.{number-one}
+use Rattle.account_state.specs.Reading.{entry_of}
+use Rattle.decision.specs.Proofs.{request_content}
+use borrow.Author.Rules.{rules}
+use Rattle.proof_walk.proofs.request.encode_request.Goals as goal
+
+pub returns : goal.returns
+unfolding request_content entry_of
+returns c =
+    let w = rw (c.array_32.ensures, c.key_of.ensures, c.u8_at.ensures, c.algorithm_of.ensures, c.aux_of-aux.ensures, number-one) at c.encode_verifier_request.ensures in record { value = w.0; out_after = w.1 }

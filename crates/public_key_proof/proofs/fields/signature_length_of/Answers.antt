@@ -1,0 +1,6 @@
+-- `public_key_proof::fields::signature_length_of` meets its contract. Assumes nothing.
+use borrow.Author.Rules.{rules}
+use Rattle.public_key_proof.proofs.fields.signature_length_of.Goals as goal
+
+pub returns : goal.returns
+returns c = c.u16_at.ensures

@@ -1,0 +1,21 @@
+-- `scene_line::fields::check_fields` meets its contract: what the fields so far and the rest give is what all give. Assumes
+-- nothing.
+use Prim.Native.Nat.{◌+◌, ◌≤◌}
+use mathlib.Core.Bool.{true, ◌&&◌, and-true}
+use mathlib.Core.Path.{◌≡◌, refl, ◌∙◌}
+use mathlib.Core.List.{[]}
+use native.Mathlib.Omega.{arith}
+use borrow.Author.Rules.{rules}
+use lib.ListN.{length, take}
+use Rattle.text.specs.Text.{pieces, comma}
+use Rattle.scene_line.specs.Line.{field_ok, bare_after, forms_ok, field_bytes, line_bytes, fields_found}
+use Rattle.scene_line.proofs.FieldLaws.{forms-next, fields-length, bytes_on}
+use Rattle.scene_line.proofs.fields.check_fields.Given as goal
+
+abbrev pub invariant-loop-rest : goal.invariant-loop-rest
+invariant-loop-rest l = (forms_ok true l.initial.t (pieces comma l.fields) ≡ (l.ok && forms_ok l.bare l.t (pieces comma l.rest)))
+    × (l.bytes + length (line_bytes l.t (pieces comma l.rest)) ≡ length (line_bytes l.initial.t (pieces comma l.fields)))
+    × (l.bytes + length l.rest ≤ length l.fields)
+
+abbrev pub decreases-loop-rest : goal.decreases-loop-rest
+decreases-loop-rest l = length l.rest

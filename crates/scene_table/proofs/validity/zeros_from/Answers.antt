@@ -1,0 +1,31 @@
+-- `scene_table::validity::zeros_from` meets its contract: what was found of the entries passed, and the rest. Assumes nothing.
+use mathlib.Core.Path.{◌≡◌, refl, sym, ◌∙◌}
+use mathlib.Core.Bool.{Bool, ◌&&◌, and-true, and-false}
+use mathlib.Core.Logic.{⊎_elim}
+use Prim.Native.Nat.{ℕ, ◌-◌}
+use native.Mathlib.Omega.{arith}
+use borrow.Author.Tests.{eq-eqb, ne_eqb}
+use lib.Dec.{eqb}
+use lib.ListN.{length, drop, get_or}
+use Rattle.octets.specs.Lists.{every}
+use Rattle.octets.proofs.Every.{every_first, every-end}
+use Rattle.scene_table.proofs.validity.zeros_from.Invariants.{good}
+use Rattle.scene_table.proofs.validity.zeros_from.Goals as goal
+
+pub loop-at-preserved : goal.loop-at-preserved
+loop-at-preserved c =
+    let l = c.loop-at in
+    let T = c.args.table.now in
+    let turn = every_first good T l.at c.loop-at-test.true in
+    ⊎_elim
+    (λ w. rw w.1 (sym (and-false l.zero) ∙ rw (turn, ne_eqb (get_or T l.at 0) 0 w.0.taken) at l.invariant))
+    (λ w. rw w.1 (rw (turn, eq-eqb (get_or T l.at 0) 0 w.0.left) at l.invariant))
+    c.if-table-at-ne0.branch
+
+pub returns : goal.returns
+returns c =
+    let l = c.loop-at in
+    sym (and-true l.zero) ∙ rw (every-end good c.args.table.now l.at c.loop-at-test.false) at l.invariant
+
+pub loop-at-init : goal.loop-at-init
+loop-at-init c = refl

@@ -1,0 +1,23 @@
+-- `text::cut::count` meets its contract. Assumes nothing.
+use borrow.Author.Rules.{rules}
+use native.Mathlib.Omega.{arith}
+use Prim.Native.Nat.{◌+◌, ◌-◌, ◌≤◌}
+use mathlib.Core.Path.{◌≡◌}
+use lib.ListN.{length, drop}
+use Rattle.text.specs.Text.{pieces}
+use Rattle.text.proofs.Pieces.{more-pieces, same-pieces, one_piece}
+use mathlib.Core.Logic.{⊎_elim}
+use Rattle.text.proofs.cut.count.Goals as goal
+
+pub loop-i-preserved : goal.loop-i-preserved
+loop-i-preserved c =
+    let a = c.args in
+    let l = c.loop-i in
+    let more = c.loop-i-test.true in
+    ⊎_elim
+    (λ w. omega (arith, more-pieces a.c a.s.now l.i more w.0.taken))
+    (λ w. omega (arith, same-pieces a.c a.s.now l.i more w.0.left))
+    c.if-s-i.branch
+
+pub returns : goal.returns
+returns c = omega (arith, one_piece c.args.c c.args.s.now c.loop-i.i c.loop-i-test.false)

@@ -1,7 +1,0 @@
--- `verifier_request::fields::request_abi_of` meets its contract. Assumes nothing.
-use borrow.Author.Rules.{rules}
-use Rattle.verifier_request.proofs.fields.request_abi_of.Statement.{statement}
-use Rattle.verifier_request.proofs.fields.request_abi_of.Tie as tie
-
-pub request-abi-of-spec : {M : Type 1} → statement M
-request-abi-of-spec = tie.close (tie.spec (λ c κs. search rules) (λ c. c.u8-at.ensures))

@@ -1,7 +1,0 @@
--- `verifier_request::fields::request_header_length_of` meets its contract. Assumes nothing.
-use borrow.Author.Rules.{rules}
-use Rattle.verifier_request.proofs.fields.request_header_length_of.Statement.{statement}
-use Rattle.verifier_request.proofs.fields.request_header_length_of.Tie as tie
-
-pub request-header-length-of-spec : {M : Type 1} → statement M
-request-header-length-of-spec = tie.close (tie.spec (λ c κs. search rules) (λ c. c.u16-at.ensures))

@@ -1,0 +1,6 @@
+-- `verifier_request::fields::request_operation_of` meets its contract. Assumes nothing.
+use borrow.Author.Rules.{rules}
+use Rattle.verifier_request.proofs.fields.request_operation_of.Goals as goal
+
+pub returns : goal.returns
+returns c = c.u8_at.ensures
