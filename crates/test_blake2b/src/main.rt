@@ -83,11 +83,8 @@ fn print_step(rt: &impl Print, data: &[u8], step: usize) -> io::Result<()>
 }
 
 fn print_steps(rt: &impl Print, data: &[u8]) -> io::Result<()> {
-    let steps = STEPS;
-    let mut i: usize = 0;
-    while i < 6 {
-        print_step(rt, data, steps[i])?;
-        i += 1;
+    for step in STEPS {
+        print_step(rt, data, step)?;
     }
     Ok(())
 }
