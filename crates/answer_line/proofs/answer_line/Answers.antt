@@ -29,7 +29,7 @@ pub returns : goal.returns
 unfolding line_of answer_word
 returns c =
     let a = c.args in
-    let begun : Stored a.out.now c.store_bytes.new.0 answer_word 6 = record { here = c.store_bytes.ensures; ends = refl } in
+    let begun : Stored a.out.now c.store_bytes.new.out answer_word 6 = record { here = c.store_bytes.ensures; ends = refl } in
     let numbered = stored_more (comma ∷ number_text a.number) _ _ begun c.put_number-number_end.ensures.out_after c.put_number-number_end.ensures.value in
     let counted = stored_more (comma ∷ number_text a.count) _ _ numbered c.put_number-count_end.ensures.out_after c.put_number-count_end.ensures.value in
     let totalled = stored_more (comma ∷ number_text a.total) _ _ counted c.put_number-total_end.ensures.out_after c.put_number-total_end.ensures.value in

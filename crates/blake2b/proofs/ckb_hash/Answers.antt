@@ -10,4 +10,4 @@ unfolding ckb_hash
 returns c =
     fed-hash 32
     (fed-more _ (fed-none c.new.ensures) c.update.ensures)
-    c.well-formed.0.0 c.finish.ensures c.digest.ensures
+    c.well_formed.0.0 c.finish.ensures c.digest.ensures

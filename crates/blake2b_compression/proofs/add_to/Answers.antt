@@ -7,4 +7,4 @@ use Rattle.blake2b_compression.proofs.add_to.Goals as goal
 
 pub returns : goal.returns
 unfolding add
-returns c = rw (c.wrapping_add_u64.ensures, c.wrapping_add_u64-sum.ensures, mod-add-mod)
+returns c = rw (c.wrapping_add_u64.ensures.value, c.wrapping_add_u64-sum.ensures.value, mod-add-mod)

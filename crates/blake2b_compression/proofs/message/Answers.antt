@@ -4,14 +4,11 @@ use Rattle.std.proofs.Common.{◌<◌, get_or, arith, rules}
 use Rattle.blake2b_compression.proofs.Table.{in_row}
 use Rattle.blake2b_compression.proofs.message.Goals as goal
 
-named : (c : goal.After-result-1) → get_or c.args.s.now c.args.k 0 < 16
-named c = in_row c.args.s.now c.requires.1 c.args.k c.requires.0
-
 pub overflow_cast-result : goal.overflow_cast-result
-overflow_cast-result c = omega (arith, named c)
+overflow_cast-result c = omega (arith, in_row c.args.s.now c.requires.1 c.args.k c.requires.0)
 
 pub offset_bounds-m-s : goal.offset_bounds-m-s
-offset_bounds-m-s c = omega (arith, named c)
+offset_bounds-m-s c = omega (arith, in_row c.args.s.now c.requires.1 c.args.k c.requires.0)
 
 pub bounds-m-s : goal.bounds-m-s
-bounds-m-s c = omega (arith, named c)
+bounds-m-s c = omega (arith, in_row c.args.s.now c.requires.1 c.args.k c.requires.0)

@@ -6,7 +6,7 @@ use Rattle.octets.proofs.Filled.{Filled, filled_none, filled_more, filled-all}
 use Rattle.blake2b_compression.specs.Compression.{words_of}
 use Rattle.blake2b_compression.proofs.message_words.Given as goal
 
-pub word : List ℕ → ℕ → ℕ
+unfoldable pub word : List ℕ → ℕ → ℕ
 word block i = number_at block (8 * i) 8
 
 abbrev pub invariant-loop-i : goal.invariant-loop-i

@@ -24,16 +24,16 @@ before-flag v h t e small w =
     let q : t / 2 ^ 64 ≡ 0 = omega arith in
     rw (w, two-halves h e, mod-eq_of_lt small, q, xor_zero_r, set-get_or)
 
-both_stored : (c : goal.After-copy_words-2) → c.copy_words-2.new.0 ≡ sets (sets (replicate 16 0) 0 c.args.h) 8 IV
+both_stored : (v h w : List ℕ) → v ≡ sets (replicate 16 0) 0 h → w ≡ sets v 8 IV → w ≡ sets (sets (replicate 16 0) 0 h) 8 IV
 unfolding IV
-both_stored c = c.copy_words-2.ensures ∙ ap (λ (l : List ℕ). sets l 8 IV) c.copy_words.ensures
+both_stored v h w first second = second ∙ ap (λ (l : List ℕ). sets l 8 IV) first
 
 pub returns-then-last : goal.returns-then-last
-unfolding work_vector flagged xor_at
+unfolding work_vector flagged xor_at IV
 returns-then-last c =
-    rw c.if-last.true (ap (flagged true) (before-flag _ c.args.h c.args.t (search rules) c.ranges.t.fits (both_stored c)))
+    rw c.if-last.true (ap (flagged true) (before-flag _ c.args.h c.args.t (search rules) c.ranges.t.fits (both_stored c.copy_words.new.v c.args.h c.copy_words-2.new.v c.copy_words.ensures c.copy_words-2.ensures)))
 
 pub returns-else-last : goal.returns-else-last
-unfolding work_vector flagged
+unfolding work_vector flagged IV
 returns-else-last c =
-    rw c.if-last.false (before-flag _ c.args.h c.args.t (search rules) c.ranges.t.fits (both_stored c))
+    rw c.if-last.false (before-flag _ c.args.h c.args.t (search rules) c.ranges.t.fits (both_stored c.copy_words.new.v c.args.h c.copy_words-2.new.v c.copy_words.ensures c.copy_words-2.ensures))

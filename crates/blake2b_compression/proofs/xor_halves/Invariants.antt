@@ -6,7 +6,7 @@ use Rattle.octets.proofs.Filled.{Filled, filled_none, filled_more, filled-all}
 use Rattle.blake2b_compression.specs.Compression.{halves}
 use Rattle.blake2b_compression.proofs.xor_halves.Given as goal
 
-pub word : List ℕ → List ℕ → ℕ → ℕ
+unfoldable pub word : List ℕ → List ℕ → ℕ → ℕ
 word h v i = bit_xor (bit_xor (get_or h i 0) (get_or v i 0)) (get_or v (i + 8) 0)
 
 abbrev pub invariant-loop-i : goal.invariant-loop-i

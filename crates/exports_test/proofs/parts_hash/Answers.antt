@@ -24,4 +24,4 @@ returns c =
     let l = c.loop-at in
     let xs = c.args.«data».now in
     let e : length xs ≤ l.at = omega arith in
-    fed-hash 32 (rw (take_all l.at xs e) at l.invariant.1) c.well-formed.0.0 c.finish.ensures c.digest.ensures
+    fed-hash 32 (rw (take_all l.at xs e) at l.invariant.1) c.well_formed.0.0 c.finish.ensures c.digest.ensures

@@ -8,18 +8,25 @@ use borrow.Author.Rules.{rules}
 use Rattle.account_state.proofs.entry.check_entry_fields.Goals as goal
 
 -- the first four rows
-first : (c : goal.After-require-first)
+first-1 : (c : goal.In-Failed)
     → let a = c.args in
     decide a.check (take 4 (entry_field_rows a.fields)) ≡ c.require-first.result
 unfolding entry_field_rows decide
-first c =
+first-1 c =
+    rw (c.require-first.ensures, c.require-3.ensures, c.require-2.ensures, c.require.ensures)
+
+first-2 : (c : goal.After-require-in-Passed-3)
+    → let a = c.args in
+    decide a.check (take 4 (entry_field_rows a.fields)) ≡ c.require-first.result
+unfolding entry_field_rows decide
+first-2 c =
     rw (c.require-first.ensures, c.require-3.ensures, c.require-2.ensures, c.require.ensures)
 
 pub returns-in-Failed : goal.returns-in-Failed
 unfolding entry_field_rows decide ◌▷◌
-returns-in-Failed c = rw (first c ∙ c.in-Failed.is)
+returns-in-Failed c = rw (first-1 c ∙ c.in-Failed.is)
 
 pub returns-in-Passed : goal.returns-in-Passed
 unfolding entry_field_rows decide ◌▷◌
 returns-in-Passed c =
-    rw (c.require-in-Passed-3.ensures, c.require-in-Passed-2.ensures, c.require-in-Passed.ensures, c.is_supported_algorithm.ensures, first c ∙ c.in-Passed.is)
+    rw (c.require-in-Passed-3.ensures, c.require-in-Passed-2.ensures, c.require-in-Passed.ensures, c.is_supported_algorithm.ensures, first-2 c ∙ c.in-Passed.is)

@@ -10,14 +10,20 @@ use borrow.Author.Rules.{rules}
 use Rattle.account_state.proofs.entry.next_entry.Goals as goal
 
 -- the checks passed
-passed : (c : goal.In-Passed) → decide Passed (entry_rows (drop c.args.cursor.offset c.args.state.now) c.args.cursor.least) ≡ Passed
-passed c = rw (← c.rest.ensures) (sym c.check_entry.ensures ∙ c.in-Passed.is)
+passed-1 : (c : goal.In-Passed) → decide Passed (entry_rows (drop c.args.cursor.offset c.args.state.now) c.args.cursor.least) ≡ Passed
+passed-1 c = rw (← c.rest.ensures) (sym c.check_entry.ensures ∙ c.in-Passed.is)
+
+passed-2 : (c : goal.After-entry_at) → decide Passed (entry_rows (drop c.args.cursor.offset c.args.state.now) c.args.cursor.least) ≡ Passed
+passed-2 c = rw (← c.rest.ensures) (sym c.check_entry.ensures ∙ c.in-Passed.is)
+
+passed-3 : (c : goal.After-cursor_behind) → decide Passed (entry_rows (drop c.args.cursor.offset c.args.state.now) c.args.cursor.least) ≡ Passed
+passed-3 c = rw (← c.rest.ensures) (sym c.check_entry.ensures ∙ c.in-Passed.is)
 
 pub entry_at-requires : goal.entry_at-requires
-entry_at-requires c = entry-room _ _ _ (passed c)
+entry_at-requires c = entry-room _ _ _ (passed-1 c)
 
 pub cursor_behind-requires : goal.cursor_behind-requires
-cursor_behind-requires c = entry-room _ _ _ (passed c)
+cursor_behind-requires c = entry-room _ _ _ (passed-2 c)
 
 pub returns-in-Failed : goal.returns-in-Failed
 unfolding entry_step entry_step_answer
@@ -29,4 +35,4 @@ pub returns-in-Passed : goal.returns-in-Passed
 unfolding entry_step entry_step_answer
 returns-in-Passed c =
     let w = let a = c.args in
-    step-promised a.state.now a.cursor (rw (c.cursor_behind.ensures, c.entry_at.ensures, passed c)) in record { value = w.0; step_within = w.1 }
+    step-promised a.state.now a.cursor (rw (c.cursor_behind.ensures, c.entry_at.ensures, passed-3 c)) in record { value = w.0; step_within = w.1 }

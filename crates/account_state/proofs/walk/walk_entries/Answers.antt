@@ -23,10 +23,15 @@ loop-left-init c =
     (p.1, rw (part-clip s 32 (length s - 32) (omega arith)) (walking-first s a.count (λ i. (c.type_inv.state i).fits) p.1))
 
 -- the entry passed
-passed : (c : goal.In-Passed)
+passed-1 : (c : goal.After-entry_length_of-len)
     → let l = c.loop-left in
     decide Passed (entry_rows l.entry.now l.least) ≡ Passed
-passed c = sym c.check_entry.ensures ∙ c.in-Passed.is
+passed-1 c = sym c.check_entry.ensures ∙ c.in-Passed.is
+
+passed-2 : (c : goal.After-entry-in-Passed-1)
+    → let l = c.loop-left in
+    decide Passed (entry_rows l.entry.now l.least) ≡ Passed
+passed-2 c = sym c.check_entry.ensures ∙ c.in-Passed.is
 
 pub returns-in-Failed : goal.returns-in-Failed
 unfolding walk_entries entries_walk_answer
@@ -40,17 +45,22 @@ with_entry-summary-requires c =
     record { spend = omega arith; rotate = omega arith; recovery = omega arith }
 
 -- it ends inside the bytes
-inside : (c : goal.After-entry_length_of-len) → c.entry_length_of-len.result ≤ length c.loop-left.entry.now
-inside c =
+inside-1 : (c : goal.After-entry_length_of-len) → c.entry_length_of-len.result ≤ length c.loop-left.entry.now
+inside-1 c =
     let l = c.loop-left in
-    rw c.entry_length_of-len.ensures (entry-passed l.entry.now l.least (passed-all-pass (entry_rows l.entry.now l.least) (passed c))).inside
+    rw c.entry_length_of-len.ensures (entry-passed l.entry.now l.least (passed-all-pass (entry_rows l.entry.now l.least) (passed-1 c))).inside
+
+inside-2 : (c : goal.After-entry-in-Passed-1) → c.entry_length_of-len.result ≤ length c.loop-left.entry.now
+inside-2 c =
+    let l = c.loop-left in
+    rw c.entry_length_of-len.ensures (entry-passed l.entry.now l.least (passed-all-pass (entry_rows l.entry.now l.least) (passed-2 c))).inside
 
 pub loop-left-preserved : goal.loop-left-preserved
 loop-left-preserved c =
     let l = c.loop-left in
     let e = c.loop-left.entry.now in
-    let w = walking-next _ _ _ _ _ _ c.loop-left-test.true l.invariant.1 (passed c) in
-    let n = inside c in
+    let w = walking-next _ _ _ _ _ _ c.loop-left-test.true l.invariant.1 (passed-2 c) in
+    let n = inside-2 c in
     (omega arith, rw (part-clip e c.entry_length_of-len.result (length e - c.entry_length_of-len.result) (omega arith), c.entry_length_of-len.ensures, c.entry_slot_of.ensures, c.with_entry-summary.ensures, c.weight_of.ensures, c.capabilities_of.ensures) w)
 
 pub returns : goal.returns
@@ -60,10 +70,10 @@ returns c =
     rw (← z.0, ← z.1, ← z.2)
 
 pub slice_bounds-entry-count-in-Passed : goal.slice_bounds-entry-count-in-Passed
-slice_bounds-entry-count-in-Passed c = omega (arith, inside c)
+slice_bounds-entry-count-in-Passed c = omega (arith, inside-1 c)
 
 pub slice_bounds-entry-start-in-Passed : goal.slice_bounds-entry-start-in-Passed
-slice_bounds-entry-start-in-Passed c = omega (arith, inside c)
+slice_bounds-entry-start-in-Passed c = omega (arith, inside-1 c)
 
 pub slice_bounds-entry-end-in-Passed : goal.slice_bounds-entry-end-in-Passed
-slice_bounds-entry-end-in-Passed c = omega (arith, inside c)
+slice_bounds-entry-end-in-Passed c = omega (arith, inside-1 c)

@@ -22,10 +22,30 @@ loop-i-init c =
     (omega arith, rw sub-zero (omega arith), rw sub-zero)
 
 -- this entry's bytes are there
-room : (c : goal.In-loop-i)
+room-1 : (c : goal.After-check_entry-arg-1)
     → c.loop-i.from + (66 + lent_aux_length_at c.args.fields.now c.loop-i.i)
     ≤ length c.args.bytes.now
-room c =
+room-1 c =
+    let l = c.loop-i in
+    let a = c.args in
+    let e = needed-turn a.fields.now a.count l.i c.loop-i-test.true in
+    let h = c.loop-i.invariant.1 in
+    omega arith
+
+room-2 : (c : goal.After-check_entry-arg-in-loop-i-1)
+    → c.loop-i.from + (66 + lent_aux_length_at c.args.fields.now c.loop-i.i)
+    ≤ length c.args.bytes.now
+room-2 c =
+    let l = c.loop-i in
+    let a = c.args in
+    let e = needed-turn a.fields.now a.count l.i c.loop-i-test.true in
+    let h = c.loop-i.invariant.1 in
+    omega arith
+
+room-3 : (c : goal.After-shared_slice_known-in-Passed-2-1)
+    → c.loop-i.from + (66 + lent_aux_length_at c.args.fields.now c.loop-i.i)
+    ≤ length c.args.bytes.now
+room-3 c =
     let l = c.loop-i in
     let a = c.args in
     let e = needed-turn a.fields.now a.count l.i c.loop-i-test.true in
@@ -33,17 +53,45 @@ room c =
     omega arith
 
 -- the slices from this entry on
-fields-left : (c : goal.In-loop-i)
+fields-left-1 : (c : goal.After-check_entry-arg-in-loop-i-1)
     → let f = c.args.fields.now in
     take (length f - lent_width * c.loop-i.i) (drop (lent_width * c.loop-i.i) f) ≡ drop (lent_width * c.loop-i.i) f
-fields-left c =
+fields-left-1 c =
     let f = c.args.fields.now in
     part-clip f (lent_width * c.loop-i.i) (length f - lent_width * c.loop-i.i) (omega arith)
 
-bytes_left : (c : goal.In-loop-i)
+fields-left-2 : (c : goal.In-Failed)
+    → let f = c.args.fields.now in
+    take (length f - lent_width * c.loop-i.i) (drop (lent_width * c.loop-i.i) f) ≡ drop (lent_width * c.loop-i.i) f
+fields-left-2 c =
+    let f = c.args.fields.now in
+    part-clip f (lent_width * c.loop-i.i) (length f - lent_width * c.loop-i.i) (omega arith)
+
+fields-left-3 : (c : goal.After-shared_slice_known-in-Passed-2-1)
+    → let f = c.args.fields.now in
+    take (length f - lent_width * c.loop-i.i) (drop (lent_width * c.loop-i.i) f) ≡ drop (lent_width * c.loop-i.i) f
+fields-left-3 c =
+    let f = c.args.fields.now in
+    part-clip f (lent_width * c.loop-i.i) (length f - lent_width * c.loop-i.i) (omega arith)
+
+bytes_left-1 : (c : goal.After-check_entry-arg-in-loop-i-1)
     → let b = c.args.bytes.now in
     take (length b - c.loop-i.from) (drop c.loop-i.from b) ≡ drop c.loop-i.from b
-bytes_left c =
+bytes_left-1 c =
+    let b = c.args.bytes.now in
+    part-clip b c.loop-i.from (length b - c.loop-i.from) (omega arith)
+
+bytes_left-2 : (c : goal.In-Failed)
+    → let b = c.args.bytes.now in
+    take (length b - c.loop-i.from) (drop c.loop-i.from b) ≡ drop c.loop-i.from b
+bytes_left-2 c =
+    let b = c.args.bytes.now in
+    part-clip b c.loop-i.from (length b - c.loop-i.from) (omega arith)
+
+bytes_left-3 : (c : goal.After-shared_slice_known-in-Passed-2-1)
+    → let b = c.args.bytes.now in
+    take (length b - c.loop-i.from) (drop c.loop-i.from b) ≡ drop c.loop-i.from b
+bytes_left-3 c =
     let b = c.args.bytes.now in
     part-clip b c.loop-i.from (length b - c.loop-i.from) (omega arith)
 
@@ -57,21 +105,21 @@ check_entry-requires c =
     let n : length (drop (lent_width * l.i) f) ≡ length f - lent_width * l.i = length-drop (lent_width * l.i) f in
     let m : length (drop l.from b) ≡ length b - l.from = length-drop l.from b in
     let p = c.requires.0 in
-    let r = room c in
-    rw (fields-left c, bytes_left c) (omega arith, omega arith)
+    let r = room-2 c in
+    rw (fields-left-1 c, bytes_left-1 c) (omega arith, omega arith)
 
 pub returns-in-Failed : goal.returns-in-Failed
 returns-in-Failed c =
     let l = c.loop-i in
     let a = c.args in
-    let h = rw (fields-left c, bytes_left c) at (sym c.check_entry.ensures ∙ c.in-Failed.is) in
+    let h = rw (fields-left-2 c, bytes_left-2 c) at (sym c.check_entry.ensures ∙ c.in-Failed.is) in
     checks-failed a.fields.now a.bytes.now a.count l.i l.from l.least c.loop-i-test.true _ l.invariant.2 _ h
 
 pub loop-i-preserved : goal.loop-i-preserved
 loop-i-preserved c =
     let l = c.loop-i in
     let a = c.args in
-    let h = rw (fields-left c, bytes_left c) at (sym c.check_entry.ensures ∙ c.in-Passed.is) in
+    let h = rw (fields-left-3 c, bytes_left-3 c) at (sym c.check_entry.ensures ∙ c.in-Passed.is) in
     let e = needed-turn a.fields.now a.count l.i c.loop-i-test.true in
     let q = c.loop-i.invariant.1 in (
       omega arith,
@@ -86,13 +134,13 @@ returns c =
     sym (checks-none (a.count - l.i) (drop (lent_width * l.i) a.fields.now) (drop l.from a.bytes.now) l.least (omega arith)) ∙ l.invariant.2
 
 pub slice_bounds-check_entry-count-in-loop-i : goal.slice_bounds-check_entry-count-in-loop-i
-slice_bounds-check_entry-count-in-loop-i c = omega (arith, room c)
+slice_bounds-check_entry-count-in-loop-i c = omega (arith, room-1 c)
 
 pub slice_bounds-check_entry-start-in-loop-i : goal.slice_bounds-check_entry-start-in-loop-i
-slice_bounds-check_entry-start-in-loop-i c = omega (arith, room c)
+slice_bounds-check_entry-start-in-loop-i c = omega (arith, room-1 c)
 
 pub slice_bounds-check_entry-end-in-loop-i : goal.slice_bounds-check_entry-end-in-loop-i
-slice_bounds-check_entry-end-in-loop-i c = omega (arith, room c)
+slice_bounds-check_entry-end-in-loop-i c = omega (arith, room-1 c)
 
 pub overflow_cast-least : goal.overflow_cast-least
 overflow_cast-least c = omega (arith, (c.type_inv.fields (lent_width * c.loop-i.i + 0)).fits)
@@ -101,10 +149,10 @@ pub overflow_add-least-in-Passed : goal.overflow_add-least-in-Passed
 overflow_add-least-in-Passed c = omega (arith, (c.type_inv.fields (lent_width * c.loop-i.i + 0)).fits)
 
 pub overflow_cast-from : goal.overflow_cast-from
-overflow_cast-from c = omega (arith, room c)
+overflow_cast-from c = omega (arith, room-3 c)
 
 pub overflow_add-from-in-Passed : goal.overflow_add-from-in-Passed
-overflow_add-from-in-Passed c = omega (arith, room c)
+overflow_add-from-in-Passed c = omega (arith, room-3 c)
 
 pub overflow_add-from-in-Passed-2 : goal.overflow_add-from-in-Passed-2
-overflow_add-from-in-Passed-2 c = omega (arith, room c)
+overflow_add-from-in-Passed-2 c = omega (arith, room-3 c)

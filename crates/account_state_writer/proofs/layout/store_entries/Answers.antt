@@ -19,15 +19,29 @@ loop-i-init c =
     (omega arith, refl, rw sub-zero (omega arith), omega arith, rw sub-zero)
 
 -- the length of this entry's aux
-small : (c : goal.After-shared_slice_known-in-loop-i-1)
+small-1 : (c : goal.After-shared_slice_known-in-loop-i-1)
     → lent_aux_length_at c.args.fields.now c.loop-i.i < 65536
-small c = (c.type_inv.fields _).fits
+small-1 c = (c.type_inv.fields _).fits
+
+small-2 : (c : goal.After-slice_known-in-loop-i-1)
+    → lent_aux_length_at c.args.fields.now c.loop-i.i < 65536
+small-2 c = (c.type_inv.fields _).fits
 
 -- this entry's bytes are there
-room : (c : goal.After-shared_slice_known-in-loop-i-1)
+room-1 : (c : goal.After-rest)
     → c.loop-i.from + (66 + lent_aux_length_at c.args.fields.now c.loop-i.i)
     ≤ length c.args.bytes.now
-room c =
+room-1 c =
+    let l = c.loop-i in
+    let a = c.args in
+    let e = needed-turn a.fields.now a.count l.i c.loop-i-test.true in
+    let h = c.loop-i.invariant.2 in
+    omega arith
+
+room-2 : (c : goal.After-slice_known-in-loop-i-1)
+    → c.loop-i.from + (66 + lent_aux_length_at c.args.fields.now c.loop-i.i)
+    ≤ length c.args.bytes.now
+room-2 c =
     let l = c.loop-i in
     let a = c.args in
     let e = needed-turn a.fields.now a.count l.i c.loop-i-test.true in
@@ -44,7 +58,7 @@ store_entry-requires c =
     let x : lent_aux_length (drop (lent_width * l.i) f) ≡ lent_aux_length_at f l.i = get_or-drop (lent_width * l.i) f 4 0 in
     let n : length (drop (lent_width * l.i) f) ≡ length f - lent_width * l.i = length-drop (lent_width * l.i) f in
     let m : length (drop l.from b) ≡ length b - l.from = length-drop l.from b in
-    let r = room c in
+    let r = room-1 c in
     let k = needed-turn f a.count l.i c.loop-i-test.true in
     rw (e, c.rest.ensures) (omega arith, (omega arith, omega arith))
 
@@ -57,7 +71,7 @@ loop-i-preserved c =
     let e : take (length f - lent_width * l.i) (drop (lent_width * l.i) f) ≡ drop (lent_width * l.i) f = part-clip f (lent_width * l.i) (length f - lent_width * l.i) (omega arith) in
     let h = rw (e, c.rest.ensures) at c.store_entry.ensures in
     let n = needed-turn f a.count l.i c.loop-i-test.true in
-    let r = room c in (
+    let r = room-2 c in (
       omega arith,
       ap length h ∙ simp length-sets l.invariant.1,
       omega arith,
@@ -75,16 +89,16 @@ returns c =
     rw (entries_none (a.count - l.i) (drop (lent_width * l.i) a.fields.now) (drop l.from a.bytes.now) (omega arith)) at l.invariant.4
 
 pub overflow_cast-aux : goal.overflow_cast-aux
-overflow_cast-aux c = omega (arith, small c)
+overflow_cast-aux c = omega (arith, small-1 c)
 
 pub overflow_add-at : goal.overflow_add-at
-overflow_add-at c = omega (arith, small c)
+overflow_add-at c = omega (arith, small-2 c)
 
 pub overflow_add-at-in-loop-i : goal.overflow_add-at-in-loop-i
-overflow_add-at-in-loop-i c = omega (arith, small c, room c)
+overflow_add-at-in-loop-i c = omega (arith, small-2 c, room-2 c)
 
 pub overflow_add-from : goal.overflow_add-from
-overflow_add-from c = omega (arith, small c)
+overflow_add-from c = omega (arith, small-2 c)
 
 pub overflow_add-from-in-loop-i : goal.overflow_add-from-in-loop-i
-overflow_add-from-in-loop-i c = omega (arith, room c)
+overflow_add-from-in-loop-i c = omega (arith, room-2 c)

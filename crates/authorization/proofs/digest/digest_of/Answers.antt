@@ -16,8 +16,8 @@ unfolding digest_of digest_input digest_head auth_domain ckb_hash
 returns c =
     let a = c.args in
     let w : Fed ckb_parameters (digest_head a.operation a.account a.sequence) c.feed_head.result = record { state = c.feed_head.ensures } in
-    let n₁ : length a.account ≡ 32 = omega (arith, c.well-formed) in
-    let n₂ : length a.sighash ≡ 32 = omega (arith, c.well-formed) in
+    let n₁ : length a.account ≡ 32 = omega (arith, c.well_formed) in
+    let n₂ : length a.sighash ≡ 32 = omega (arith, c.well_formed) in
     let n₃ : length c.ckb_hash-hashed.result ≡ 32 = search rules in
     let n₄ : length (ckb_hash a.state.now) ≡ 32 = rw c.ckb_hash-hashed.ensures at n₃ in
     let small : length (digest_input a.operation a.account a.sequence a.state.now a.sighash) < 2 ^ 64 = simp (length-append, length_to, n₁, n₂, n₄) (omega arith) in

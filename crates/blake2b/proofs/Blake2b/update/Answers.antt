@@ -29,7 +29,7 @@ loop-at-preserved c =
     let a = c.args in (
       omega arith,
       rw c.flush-next.ensures
-          (blocks-next a.self a.«data».now l.at l.h l.fed l.invariant.1 (l.at + 128) c.wrapping_add_u64-fed-in-loop-at.result refl (omega arith) c.wrapping_add_u64-fed-in-loop-at.ensures),
+          (blocks-next a.self a.«data».now l.at l.h l.fed l.invariant.1 (l.at + 128) c.wrapping_add_u64-fed-in-loop-at.result refl (omega arith) c.wrapping_add_u64-fed-in-loop-at.ensures.value),
     )
 
 pub returns : goal.returns

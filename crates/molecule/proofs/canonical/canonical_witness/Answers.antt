@@ -24,13 +24,14 @@ returns-in-Failed c =
 pub returns-in-Passed : goal.returns-in-Passed
 unfolding canonical_room canonical_written canonical_stored
 returns-in-Passed c =
-    let w = let a = c.args in
+    let a = c.args in
     let s = c.args.witness.now in
     let rows = table_rows InvalidWitness s in
     let found : c.require.result ≡ canonical_room s (length a.out.now) =
     rw (c.require.ensures, c.fits.ensures, c.check_table.ensures, c.rest-copied.ensures, c.second_offset_of.ensures) (room-found s (length a.out.now)) in
     let z : TablePasses s = table-passes InvalidWitness s (write-passed rows (length (canonical_of s)) (length a.out.now) (sym found ∙ c.in-Passed.is)).0 in
     let n : 20 + length c.rest-copied.result.now ≡ length (canonical_of s) = rw (c.rest-copied.ensures, c.second_offset_of.ensures) (sym (length-from-second s z)) in
-    let stored : c.store_bytes-in-Passed.new.0 ≡ sets a.out.now 0 (canonical_of s) =
+    let stored : c.store_bytes-in-Passed.new.out ≡ sets a.out.now 0 (canonical_of s) =
     rw (c.store_bytes-in-Passed.ensures, c.store_bytes.ensures, c.canonical_head-head.ensures, c.rest-copied.ensures, c.second_offset_of.ensures) (parts-stored s z a.out.now) in
-    rw n (write_done rows (length (canonical_of s)) a.out.now _ found (canonical_of s) _ c.in-Passed.is refl stored) in record { value = w.0; out_after = w.1 }
+    let w = write_done rows (length (canonical_of s)) a.out.now _ found (canonical_of s) _ c.in-Passed.is refl stored in
+    record { value = rw n w.0; out_after = w.1 }

@@ -25,42 +25,70 @@ written-length : {m n : ℕ} → Written m ≡ Written n → m ≡ n
 written-length h = cc
 
 -- the digest is an array of 32 bytes
-digest-long : (s : goal.Start) → length c.args.authorization.digest ≡ 32
-digest-long s = search rules
+digest-long-1 : (s : goal.In-Refused) → length c.args.authorization.digest ≡ 32
+digest-long-1 s = search rules
+
+digest-long-2 : (s : goal.After-weight_of) → length c.args.authorization.digest ≡ 32
+digest-long-2 s = search rules
 
 -- what the checks find is what the proof's rows say
-checked : (c : goal.After-check_found) →
+checked-1 : (c : goal.In-Failed) →
     let a = c.args in
     c.check_found.result
     ≡ decide Passed (proof_rows (walk_context a.table.now a.store.now a.state.now a.authorization.operation a.authorization.digest (length a.out.now)) 0 (proof_with a.slot a.proof.now))
-checked c =
+checked-1 c =
+    let a = c.args in
+    let f = c.find_authenticator-place in
+    (rw (c.is_known-known.ensures, c.entry_in-entry.ensures) at c.check_found.ensures)
+    ∙ ap (decide Passed) (found_rows_lem a.table.now a.store.now a.state.now a.authorization.operation a.authorization.digest (length a.out.now) a.slot a.proof.now f.result f.ensures)
+
+checked-2 : (c : goal.After-weight_of) →
+    let a = c.args in
+    c.check_found.result
+    ≡ decide Passed (proof_rows (walk_context a.table.now a.store.now a.state.now a.authorization.operation a.authorization.digest (length a.out.now)) 0 (proof_with a.slot a.proof.now))
+checked-2 c =
     let a = c.args in
     let f = c.find_authenticator-place in
     (rw (c.is_known-known.ensures, c.entry_in-entry.ensures) at c.check_found.ensures)
     ∙ ap (decide Passed) (found_rows_lem a.table.now a.store.now a.state.now a.authorization.operation a.authorization.digest (length a.out.now) a.slot a.proof.now f.result f.ensures)
 
 -- where they find nothing every row passes, by the entry that was found
-rows : (t : goal.In-Passed) →
+rows-1 : (t : goal.In-Refused) →
     let a = c.args in
     decide Passed (found_rows c.is_known-known.result a.authorization.operation (scene_deps a.table.now a.store.now) (entry_of c.entry_in-entry.result.now) (length a.proof.now) (length a.out.now))
     ≡ Passed
-rows t = sym c.check_found.ensures ∙ c.in-Passed.is
+rows-1 t = sym c.check_found.ensures ∙ c.in-Passed.is
+
+rows-2 : (t : goal.After-weight_of) →
+    let a = c.args in
+    decide Passed (found_rows c.is_known-known.result a.authorization.operation (scene_deps a.table.now a.store.now) (entry_of c.entry_in-entry.result.now) (length a.proof.now) (length a.out.now))
+    ≡ Passed
+rows-2 t = sym c.check_found.ensures ∙ c.in-Passed.is
 
 -- and the writer answers the request's length
-wrote : (d : goal.After-encode_request) →
+wrote-1 : (d : goal.In-Refused) →
     let a = c.args in
     c.encode_request.result
     ≡ Written (length (request_bytes (request_content a.authorization.operation a.authorization.digest (entry_of c.entry_in-entry.result.now) (proof_with a.slot a.proof.now))))
-wrote d =
+wrote-1 d =
     let a = c.args in
     c.encode_request.ensures.value
-    ∙ made-written _ a.authorization.operation a.authorization.digest _ (entry_of c.entry_in-entry.result.now) (proof_with a.slot a.proof.now) a.out.now (digest-long c) (rows c)
+    ∙ made-written _ a.authorization.operation a.authorization.digest _ (entry_of c.entry_in-entry.result.now) (proof_with a.slot a.proof.now) a.out.now (digest-long-1 c) (rows-1 c)
+
+wrote-2 : (d : goal.After-weight_of) →
+    let a = c.args in
+    c.encode_request.result
+    ≡ Written (length (request_bytes (request_content a.authorization.operation a.authorization.digest (entry_of c.entry_in-entry.result.now) (proof_with a.slot a.proof.now))))
+wrote-2 d =
+    let a = c.args in
+    c.encode_request.ensures.value
+    ∙ made-written _ a.authorization.operation a.authorization.digest _ (entry_of c.entry_in-entry.result.now) (proof_with a.slot a.proof.now) a.out.now (digest-long-2 c) (rows-2 c)
 
 pub returns-in-Failed : goal.returns-in-Failed
-returns-in-Failed c = (sym (checked c) ∙ c.in-Failed.is, refl)
+returns-in-Failed c = (sym (checked-1 c) ∙ c.in-Failed.is, refl)
 
 pub returns-in-Refused : goal.returns-in-Refused
-returns-in-Refused c = refused-written (sym c.in-Refused.is ∙ wrote c)
+returns-in-Refused c = refused-written (sym c.in-Refused.is ∙ wrote-1 c)
 
 pub returns-in-Written : goal.returns-in-Written
 returns-in-Written c =
@@ -68,14 +96,14 @@ returns-in-Written c =
     let f = c.find_authenticator-place in
     let e = c.entry_in-entry in
     let p = proof_with a.slot a.proof.now in
-    let n = digest-long c in
+    let n = digest-long-2 c in
     let q = found-request a.table.now a.store.now a.state.now a.authorization.operation a.authorization.digest (length a.out.now) a.slot a.proof.now f.result f.ensures in
-    let len = written-length (sym c.in-Written.is ∙ wrote c) in (
+    let len = written-length (sym c.in-Written.is ∙ wrote-2 c) in (
       record {
-        passed = sym (checked c) ∙ c.in-Passed.is;
-        wrote = c.encode_request.ensures.out_after ∙ made-stored _ a.authorization.operation a.authorization.digest _ (entry_of e.result.now) p a.out.now n (rows c) ∙ rw e.ensures (ap (answered a.out.now) q);
+        passed = sym (checked-2 c) ∙ c.in-Passed.is;
+        wrote-2 = c.encode_request.ensures.out_after ∙ made-stored _ a.authorization.operation a.authorization.digest _ (entry_of e.result.now) p a.out.now n (rows-2 c) ∙ rw e.ensures (ap (answered a.out.now) q);
         long = len ∙ rw e.ensures (ap length q);
-        fits = omega (arith, len, made-fits _ a.authorization.operation a.authorization.digest _ (entry_of e.result.now) p a.out.now n (rows c));
+        fits = omega (arith, len, made-fits _ a.authorization.operation a.authorization.digest _ (entry_of e.result.now) p a.out.now n (rows-2 c));
       },
       (rw e.ensures at c.weight_of.ensures) ∙ found-weight a.table.now a.store.now a.state.now a.authorization.operation a.authorization.digest (length a.out.now) a.slot a.proof.now f.result f.ensures,
     )

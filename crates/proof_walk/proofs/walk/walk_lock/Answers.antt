@@ -27,38 +27,61 @@ At k = k.before.before.before.before.before.before.before.before.before.before.b
 
 refused-at : (c : goal.After-answer_of) →
     let l = c.loop-i in
-    let a = (At c).args in
-    ProofOutcomeIs (walk_context a.table.now a.store.now a.state.now a.authorization.operation a.authorization.digest (length (lent_of l.total l.answer))) a.lock.now l.cursor l.i (lent_of l.total l.answer) c.walk_proof.new.1.1.1.1.1.1.1.0 (outcome.Refused c.in-Refused.error)
+    let a = (At-1 c).args in
+    ProofOutcomeIs (walk_context a.table.now a.store.now a.state.now a.authorization.operation a.authorization.digest (length (lent_of l.total l.answer))) a.lock.now l.cursor l.i (lent_of l.total l.answer) c.walk_proof.new.store.1.1.1.1.1.1.0 (outcome.Refused c.in-Refused.error)
 refused-at c = rw c.in-Refused.is at c.walk_proof.ensures
 
-failed-at : (c : goal.In-Failed) →
+failed-at-1 : (c : goal.In-Failed) →
     let l = c.loop-i in
-    let a = (At c).args in
-    ProofOutcomeIs (walk_context a.table.now a.store.now a.state.now a.authorization.operation a.authorization.digest (length (lent_of l.total l.answer))) a.lock.now l.cursor l.i (lent_of l.total l.answer) c.walk_proof.new.1.1.1.1.1.1.1.0 (outcome.Failed c.in-Failed.len)
-failed-at c = rw c.in-Failed.is at c.walk_proof.ensures
+    let a = (At-2 c).args in
+    ProofOutcomeIs (walk_context a.table.now a.store.now a.state.now a.authorization.operation a.authorization.digest (length (lent_of l.total l.answer))) a.lock.now l.cursor l.i (lent_of l.total l.answer) c.walk_proof.new.store.1.1.1.1.1.1.0 (outcome.Failed c.in-Failed.len)
+failed-at-1 c = rw c.in-Failed.is at c.walk_proof.ensures
+
+failed-at-2 : (c : goal.After-answer_of-in-Failed) →
+    let l = c.loop-i in
+    let a = (At-3 c).args in
+    ProofOutcomeIs (walk_context a.table.now a.store.now a.state.now a.authorization.operation a.authorization.digest (length (lent_of l.total l.answer))) a.lock.now l.cursor l.i (lent_of l.total l.answer) c.walk_proof.new.store.1.1.1.1.1.1.0 (outcome.Failed c.in-Failed.len)
+failed-at-2 c = rw c.in-Failed.is at c.walk_proof.ensures
 
 onward-at : (c : goal.In-Onward) →
     let l = c.loop-i in
-    let a = (At c).args in
+    let a = (At-4 c).args in
     let v = c.len-in-Onward-1.given.0 in
-    ProofOutcomeIs (walk_context a.table.now a.store.now a.state.now a.authorization.operation a.authorization.digest (length (lent_of l.total l.answer))) a.lock.now l.cursor l.i (lent_of l.total l.answer) c.walk_proof.new.1.1.1.1.1.1.1.0 (outcome.Onward c.in-Onward.len c.in-Onward.added c.in-Onward.next)
+    ProofOutcomeIs (walk_context a.table.now a.store.now a.state.now a.authorization.operation a.authorization.digest (length (lent_of l.total l.answer))) a.lock.now l.cursor l.i (lent_of l.total l.answer) c.walk_proof.new.store.1.1.1.1.1.1.0 (outcome.Onward c.in-Onward.len c.in-Onward.added c.in-Onward.next)
 onward-at c = rw c.in-Onward.is at c.walk_proof.ensures
 
 -- a request was written
-Written : (k : goal.After-walk_proof) → ℕ → Type 0
-Written k len =
+Written-1 : (k : goal.In-Failed) → ℕ → Type 0
+Written-1 k len =
     let l = c.loop-i in
-    let a = (At k).args in
-    RequestWritten (walk_context a.table.now a.store.now a.state.now a.authorization.operation a.authorization.digest (length a.answer.now)) a.answer.now l.answer l.invariant.made l.total (proof_of a.lock.now l.cursor.offset) c.walk_proof.new.1.1.1.1.1.1.1.0 len
+    let a = (At-2 k).args in
+    RequestWritten (walk_context a.table.now a.store.now a.state.now a.authorization.operation a.authorization.digest (length a.answer.now)) a.answer.now l.answer l.invariant.made l.total (proof_of a.lock.now l.cursor.offset) c.walk_proof.new.store.1.1.1.1.1.1.0 len
 
-written_2 : (c : goal.In-Failed) → Written c c.in-Failed.len
-written_2 c =
-    let a = (At c).args in
-    turn-written a.table.now a.store.now a.state.now a.authorization.operation a.authorization.digest c.loop-i.invariant c.loop-i-test.true _ _ (failed-at c).0
+Written-2 : (k : goal.After-answer_of-in-Failed) → ℕ → Type 0
+Written-2 k len =
+    let l = c.loop-i in
+    let a = (At-3 k).args in
+    RequestWritten (walk_context a.table.now a.store.now a.state.now a.authorization.operation a.authorization.digest (length a.answer.now)) a.answer.now l.answer l.invariant.made l.total (proof_of a.lock.now l.cursor.offset) c.walk_proof.new.store.1.1.1.1.1.1.0 len
 
-written-3 : (c : goal.In-Onward) → Written c c.in-Onward.len
+Written-3 : (k : goal.In-Onward) → ℕ → Type 0
+Written-3 k len =
+    let l = c.loop-i in
+    let a = (At-4 k).args in
+    RequestWritten (walk_context a.table.now a.store.now a.state.now a.authorization.operation a.authorization.digest (length a.answer.now)) a.answer.now l.answer l.invariant.made l.total (proof_of a.lock.now l.cursor.offset) c.walk_proof.new.store.1.1.1.1.1.1.0 len
+
+written_2-1 : (c : goal.In-Failed) → Written-1 c c.in-Failed.len
+written_2-1 c =
+    let a = (At-2 c).args in
+    turn-written a.table.now a.store.now a.state.now a.authorization.operation a.authorization.digest c.loop-i.invariant c.loop-i-test.true _ _ (failed-at-1 c).0
+
+written_2-2 : (c : goal.After-answer_of-in-Failed) → Written-2 c c.in-Failed.len
+written_2-2 c =
+    let a = (At-3 c).args in
+    turn-written a.table.now a.store.now a.state.now a.authorization.operation a.authorization.digest c.loop-i.invariant c.loop-i-test.true _ _ (failed-at-2 c).0
+
+written-3 : (c : goal.In-Onward) → Written-3 c c.in-Onward.len
 written-3 c =
-    let a = (At c).args in
+    let a = (At-4 c).args in
     turn-written a.table.now a.store.now a.state.now a.authorization.operation a.authorization.digest c.loop-i.invariant c.loop-i-test.true _ _ (onward-at c).0
 
 pub shape_of-answer-in-Refused : goal.shape_of-answer-in-Refused
@@ -68,7 +91,7 @@ shape_of-answer-in-Refused c =
 
 pub returns-in-Refused : goal.returns-in-Refused
 returns-in-Refused c =
-    let w = let a = (At c).args in
+    let w = let a = (At-1 c).args in
     let l = c.loop-i in
     walk-answered a.answer.now
     (turn_stopped a.table.now a.store.now a.state.now a.authorization.operation a.authorization.digest l.invariant c.loop-i-test.true _ _ (refused-at c))
@@ -80,18 +103,18 @@ pub overflow_add-i : goal.overflow_add-i
 overflow_add-i c = omega arith
 
 pub overflow_add-total : goal.overflow_add-total
-overflow_add-total c = omega (arith, (written_2 c).ranges, (At c).good)
+overflow_add-total c = omega (arith, (written_2-1 c).ranges, (At-2 c).good)
 
 pub shape_of-answer-in-Failed : goal.shape_of-answer-in-Failed
-shape_of-answer-in-Failed c = (written_2 c).kept
+shape_of-answer-in-Failed c = (written_2-2 c).kept
 
 pub returns-in-Failed : goal.returns-in-Failed
 returns-in-Failed c =
-    let w = let a = (At c).args in
+    let w = let a = (At-3 c).args in
     let l = c.loop-i in
-    let w = written_2 c in
+    let w = written_2-2 c in
     walk-answered a.answer.now
-    (turn-failed a.table.now a.store.now a.state.now a.authorization.operation a.authorization.digest l.invariant c.loop-i-test.true _ _ (failed-at c).0 (failed-at c).1)
+    (turn-failed a.table.now a.store.now a.state.now a.authorization.operation a.authorization.digest l.invariant c.loop-i-test.true _ _ (failed-at-2 c).0 (failed-at-2 c).1)
     w.long
     w.wrote
     c.answer_of-in-Failed.ensures in record { value = w.0; answer_after = w.1 }
@@ -100,11 +123,11 @@ pub overflow_add-weight : goal.overflow_add-weight
 overflow_add-weight c = omega (arith, c.loop-i.invariant.bounded)
 
 pub overflow_add-total-in-Onward : goal.overflow_add-total-in-Onward
-overflow_add-total-in-Onward c = omega (arith, (written-3 c).ranges, (At c).good)
+overflow_add-total-in-Onward c = omega (arith, (written-3 c).ranges, (At-4 c).good)
 
 pub loop-i-preserved : goal.loop-i-preserved
 loop-i-preserved c =
-    let a = (At c).args in
+    let a = (At-4 c).args in
     let l = c.loop-i in
     let t = onward-at c in
     turn-onward a.table.now a.store.now a.state.now a.authorization.operation a.authorization.digest l.invariant c.loop-i-test.true _ _ t.0 _ _ (omega arith) t

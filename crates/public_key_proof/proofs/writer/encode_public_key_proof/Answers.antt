@@ -11,7 +11,7 @@ pub overflow_add-result-in-Passed : goal.overflow_add-result-in-Passed
 unfolding public_key_proof_writer_fault public_key_proof_total
 overflow_add-result-in-Passed c =
     let r : PublicKeyProofReading = public_key_proof_with c.args.key.now c.args.signature.now in
-    omega (arith, write-fits (public_key_proof_writer_rows r) (public_key_proof_total r) c.args.out.now _ c.check_room.ensures c.in-Passed.is, c.well-formed)
+    omega (arith, write-fits (public_key_proof_writer_rows r) (public_key_proof_total r) c.args.out.now _ c.check_room.ensures c.in-Passed.is, c.well_formed)
 
 pub returns-in-Failed : goal.returns-in-Failed
 unfolding public_key_proof_writer_fault public_key_proof_written public_key_proof_stored

@@ -11,16 +11,17 @@ use Rattle.octets.specs.Lists.{every}
 use Rattle.octets.proofs.Every.{every_first, every-end}
 use Rattle.scene_table.proofs.validity.zeros_from.Invariants.{good}
 use Rattle.scene_table.proofs.validity.zeros_from.Goals as goal
+use Rattle.scene_table.proofs.validity.zeros_from.Goals.{then-table-at-ne0, else-table-at-ne0}
 
 pub loop-at-preserved : goal.loop-at-preserved
 loop-at-preserved c =
     let l = c.loop-at in
     let T = c.args.table.now in
     let turn = every_first good T l.at c.loop-at-test.true in
-    ⊎_elim
-    (λ w. rw w.1 (sym (and-false l.zero) ∙ rw (turn, ne_eqb (get_or T l.at 0) 0 w.0.taken) at l.invariant))
-    (λ w. rw w.1 (rw (turn, eq-eqb (get_or T l.at 0) 0 w.0.left) at l.invariant))
-    c.if-table-at-ne0.branch
+    elim c.if-table-at-ne0.branch [
+      | then-table-at-ne0 w ↦ rw w.zero-is (sym (and-false l.zero) ∙ rw (turn, ne_eqb (get_or T l.at 0) 0 w.if-table-at-ne0.true) at l.invariant)
+      | else-table-at-ne0 w ↦ rw w.zero-is (rw (turn, eq-eqb (get_or T l.at 0) 0 w.if-table-at-ne0.false) at l.invariant)
+    ]
 
 pub returns : goal.returns
 returns c =

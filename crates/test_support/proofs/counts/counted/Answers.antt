@@ -3,7 +3,7 @@ use Rattle.std.proofs.Common.{rules}
 use Rattle.test_support.proofs.counts.counted.Goals as goal
 
 pub returns-then-passes : goal.returns-then-passes
-returns-then-passes c = rw (c.if-passes.true, c.wrapping_add_u64.ensures)
+returns-then-passes c = rw (c.if-passes.true, c.wrapping_add_u64.ensures.value)
 
 pub returns-else-passes : goal.returns-else-passes
-returns-else-passes c = rw (c.if-passes.false, c.wrapping_add_u64-else-passes.ensures)
+returns-else-passes c = rw (c.if-passes.false, c.wrapping_add_u64-else-passes.ensures.value)

@@ -11,3 +11,9 @@ returns-then-len-at c =
     let a = c.args in
     let done = c.put_digits.ensures in
     record { value = done.value; upper_bound = done.upper_bound; out_after = done.out_after ∙ sets_end a.out.now (decimal_text 20 a.value) a.at c.if-len-at.true }
+
+pub returns-else-len-at : goal.returns-else-len-at
+unfolding number_text
+returns-else-len-at c =
+    let done = c.put_digits-else-len-at.ensures in
+    record { value = done.value; upper_bound = done.upper_bound; out_after = done.out_after }

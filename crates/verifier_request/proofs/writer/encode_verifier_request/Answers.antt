@@ -12,7 +12,7 @@ unfolding request_writer_rows request_total
 overflow_add-result-in-Passed c =
     let a = c.args in
     let r : RequestReading = request_with a.algorithm a.slot a.operation a.profile a.digest a.key a.aux.now a.proof.now in
-    omega (arith, write-fits (request_writer_rows r) (request_total r) a.out.now _ c.check_room.ensures c.in-Passed.is, c.well-formed)
+    omega (arith, write-fits (request_writer_rows r) (request_total r) a.out.now _ c.check_room.ensures c.in-Passed.is, c.well_formed)
 
 pub returns-in-Failed : goal.returns-in-Failed
 unfolding request_writer_rows request_total request_writer_fault request_written request_stored
@@ -24,5 +24,5 @@ unfolding request_writer_rows request_total request_writer_fault request_written
 returns-in-Passed c =
     let w = let a = c.args in
     let r : RequestReading = request_with a.algorithm a.slot a.operation a.profile a.digest a.key a.aux.now a.proof.now in
-    let z : RequestSized r = record { digest = omega (arith, c.well-formed); key = omega (arith, c.well-formed) } in
+    let z : RequestSized r = record { digest = omega (arith, c.well_formed); key = omega (arith, c.well_formed) } in
     write_done (request_writer_rows r) (request_total r) a.out.now _ c.check_room.ensures (request_bytes r) _ c.in-Passed.is (length-request r z) c.store_request.ensures in record { value = w.0; out_after = w.1 }

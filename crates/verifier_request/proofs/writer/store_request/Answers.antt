@@ -12,7 +12,7 @@ pub returns : goal.returns
 returns c =
     let a = c.args in
     let r : RequestReading = request_with a.algorithm a.slot a.operation a.profile a.digest a.key a.aux.now a.proof.now in
-    let z : RequestSized r = record { digest = omega (arith, c.well-formed); key = omega (arith, c.well-formed) } in
+    let z : RequestSized r = record { digest = omega (arith, c.well_formed); key = omega (arith, c.well_formed) } in
     rw (
       c.store_bytes-4.ensures,
       c.store_bytes-3.ensures,

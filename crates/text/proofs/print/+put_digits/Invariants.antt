@@ -1,0 +1,5 @@
+-- The digits left fall by one at each call.
+use Rattle.text.proofs.print.+put_digits.Given as goal
+
+abbrev pub decreases-put_digits : goal.decreases-put_digits
+decreases-put_digits l = l.most
