@@ -88,10 +88,10 @@ found-places (One k) = refl
 found-places Several = refl
 
 -- a further match where there was one
-pub second-match : (v : Search) (k : ℕ) (xs : List ℕ) → (tag_of (declared enum) v ≡ 1) ⊎ (tag_of (declared enum) v ≡ 2)
+pub second-match : (v : Search) (k : ℕ) (xs : List ℕ) → (v ≡ Missing → ⊥)
     → search_of (places_of v ++ k ∷ xs) ≡ Several
 unfolding search_of places_of
-second-match Missing k xs o = absurd (⊎_elim (λ e. omega arith) (λ e. omega arith) o)
+second-match Missing k xs o = absurd (o refl)
 second-match (One j) k xs o = refl
 second-match Several k xs o = refl
 

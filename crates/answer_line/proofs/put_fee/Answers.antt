@@ -20,10 +20,11 @@ fee-of-refused number fee n = rw (ne_eqb number 0 n)
 
 pub returns-then-number-eq0 : goal.returns-then-number-eq0
 returns-then-number-eq0 c =
-    let w = let a = c.args in
-    rw (fee-of-accepted a.number a.fee c.if-number-eq0.true) c.put_number.ensures in record { value = w.0; upper_bound = w.1.0; out_after = w.1.1 }
+    let e = fee-of-accepted c.args.number c.args.fee c.if-number-eq0.true in
+    let put = c.put_number.ensures in
+    record { value = rw e put.value; upper_bound = put.upper_bound; out_after = rw e put.out_after }
 
 pub returns : goal.returns
 returns c =
-    let w = let a = c.args in
-    rw (fee-of-refused a.number a.fee c.if-number-eq0.false) (omega arith, (omega arith, c.put_byte.ensures)) in record { value = w.0; upper_bound = w.1.0; out_after = w.1.1 }
+    let e = fee-of-refused c.args.number c.args.fee c.if-number-eq0.false in
+    record { value = rw e (omega arith); upper_bound = omega arith; out_after = rw e c.put_byte.ensures }

@@ -8,15 +8,11 @@ use Rattle.test_support.proofs.counts.count_line.Goals as goal
 pub returns : goal.returns
 unfolding count_text passed_word failed_word
 returns c =
-    let failed-word = c in
-    let failed = failed-word.before.before.before.before.before in
-    let passed-word = failed.before.before.before.before in
-    let passed = passed-word.before.before.before.before.before in
-    let a = passed.before.before.before.args in
-    let p = passed.put-decimal.ensures in
-    let f = failed.put-decimal2.ensures in
-    let i = passed.put-decimal.result in
-    let k = i + 9 + failed.put-decimal2.result in
+    let a = c.args in
+    let p = c.put_decimal-passed_end.ensures in
+    let f = c.put_decimal.ensures in
+    let i = c.put_decimal-passed_end.result in
+    let k = i + 9 + c.put_decimal.result in
     let long = four-long (number_text a.counts.passed) passed_word (number_text a.counts.failed) failed_word in
-    let stored = four-stored a.out.now (number_text a.counts.passed) passed_word (number_text a.counts.failed) failed_word i (i + 9) k p.0 refl (omega (arith, f.0)) in
-    record { value = omega (arith, p.0, f.0, long); out_after = failed-word.store-bytes2.ensures ∙ rw (f.1.1, passed-word.store_Bytes.ensures, p.1.1) stored }
+    let stored = four-stored a.out.now (number_text a.counts.passed) passed_word (number_text a.counts.failed) failed_word i (i + 9) k p.value refl (omega (arith, f.value)) in
+    record { value = omega (arith, p.value, f.value, long); out_after = c.store_bytes-2.ensures ∙ rw (f.out_after, c.store_bytes.ensures, p.out_after) stored }
