@@ -1,5 +1,5 @@
 -- `test_decide_scene::run_all` is safe and ends. Assumes nothing.
-use Rattle.std.proofs.Common.{length, rules}
+use Rattle.std.proofs.Common.{length}
 use Rattle.test_decide_scene.proofs.run_all.Given as goal
 
 abbrev pub invariant-loop-rest : goal.invariant-loop-rest

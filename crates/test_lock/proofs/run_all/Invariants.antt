@@ -1,7 +1,6 @@
 -- `test_lock::run_all` is safe and ends. Assumes nothing.
 use mathlib.Core.Path.{◌≡◌}
 use lib.ListN.{length}
-use borrow.Author.Rules.{rules}
 use Rattle.test_lock.proofs.run_all.Given as goal
 
 abbrev pub invariant-loop-rest : goal.invariant-loop-rest

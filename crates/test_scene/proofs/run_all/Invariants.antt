@@ -2,7 +2,6 @@
 use Prim.Native.Nat.{◌≤◌}
 use mathlib.Core.Path.{◌≡◌}
 use lib.ListN.{length}
-use borrow.Author.Rules.{rules}
 use Rattle.test_scene.proofs.run_all.Given as goal
 
 abbrev pub invariant-loop-rest : goal.invariant-loop-rest
