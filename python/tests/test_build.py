@@ -31,10 +31,12 @@ class Build(Case):
     def test_progress(self):
         """Each crate is counted once, as it is proved."""
         lines = [
-            "rt: octets proved (3 s)",
-            "rt: protocol proved (unchanged since it was last proved)",
-            "rt: octets proved (unchanged since it was last proved)",
-            'rt: target/staticlib/libexports.a has the functions of exports that are marked #[no_mangle] pub extern "C"',
+            "rt: chose --jobs 2 for octets",
+            "fn octets::read::fits: proved",
+            "library: octets proved",
+            "library: protocol proved",
+            "library: octets proved",
+            "library: exports proved",
         ]
         result = self.made_by("".join(f"echo '{line}' >&2\n" for line in lines).encode())
         total, names = len(build.crates_of_library()), ("octets", "protocol", "exports")
@@ -43,8 +45,9 @@ class Build(Case):
 
     def test_refused(self):
         """A crate that is not proved: what the toolchain says is shown."""
-        result = self.made_by(b"echo 'rt: octets NOT PROVED (exit 1, 2 s)'\nexit 1\n")
-        self.assertEqual((result.status, result.lines), (1, ["rt: octets NOT PROVED (exit 1, 2 s)", f"{LIBRARY} is not made"]))
+        result = self.made_by(b"echo 'rt: the library octets did not build, so nothing above it was checked'\nexit 1\n")
+        said = "rt: the library octets did not build, so nothing above it was checked"
+        self.assertEqual((result.status, result.lines), (1, [said, f"{LIBRARY} is not made"]))
 
     def test_misuse(self):
         self.assertEqual(run("build", "everything").status, 2)

@@ -7,7 +7,7 @@ ghost use Rattle.decide_scene.specs.Decided.{program_scene_max_length};
 ghost use Rattle.account_lock_cli.specs.Within.{Within};
 
 use decide_scene::{PROGRAM_SCENE_MAX_LEN, program_line};
-use libc::{STDERR_FILENO, STDIN_FILENO, STDOUT_FILENO};
+use std::io::Read;
 
 // What reading gave: so many bytes, or a read failed.
 #[derive(Drop)]
@@ -17,23 +17,22 @@ enum Input {
 }
 
 // One read; at the end of the input it gives no bytes.
-fn read_once(room: &mut [u8]) -> Input
+fn read_once<R: Read>(reader: &mut R, room: &mut [u8]) -> Input
     ensures { Within (length room.old) result }
 {
-    let got = libc::read(STDIN_FILENO, room);
-    if got < 0 {
-        return Input::Failed;
+    match reader.read(room) {
+        Ok(n) => Input::Read(n),
+        Err(_) => Input::Failed,
     }
-    Input::Read(io::count(got, room))
 }
 
 // Reads to the end of the input, or as far as there is room.
-fn read_all(room: &mut [u8]) -> Input
+fn read_all<R: Read>(reader: &mut R, room: &mut [u8]) -> Input
     ensures { Within (length room.old) result }
 {
     let mut done: usize = 0;
     while done < room.len() {
-        let Input::Read(n) = read_once(&mut room[done..]) else {
+        let Input::Read(n) = read_once(reader, &mut room[done..]) else {
             return Input::Failed;
         };
         if n == 0 {
@@ -45,15 +44,12 @@ fn read_all(room: &mut [u8]) -> Input
 }
 
 // A line that is cut short has no byte 10.
-fn print_answer(scene: &[u8]) {
+fn print_answer(rt: &(impl Print + Eprint), scene: &[u8]) {
     let line = program_line(scene);
     let bytes = line.bytes;
     let end = line.length;
-    if !io::write_all(STDOUT_FILENO, &bytes[..end]) {
-        io::write_all(
-            STDERR_FILENO,
-            b"account_lock_cli: standard output cannot be written\n",
-        );
+    if rt.write_all(&bytes[..end]).is_err() {
+        let _ = rt.eprintln("account_lock_cli: standard output cannot be written");
     }
 }
 
@@ -64,15 +60,12 @@ fn scene_buffer() -> [u8; PROGRAM_SCENE_MAX_LEN + 1]
     [0; PROGRAM_SCENE_MAX_LEN + 1]
 }
 
-fn main() {
+fn main(rt: HostRuntime) {
     let mut scene = scene_buffer();
-    match read_all(&mut scene) {
-        Input::Read(n) => print_answer(&scene[..n]),
+    match read_all(&mut rt.reader(), &mut scene) {
+        Input::Read(n) => print_answer(&rt, &scene[..n]),
         Input::Failed => {
-            io::write_all(
-                STDERR_FILENO,
-                b"account_lock_cli: standard input cannot be read\n",
-            );
+            let _ = rt.eprintln("account_lock_cli: standard input cannot be read");
         }
     }
 }

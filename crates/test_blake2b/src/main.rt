@@ -7,7 +7,7 @@ ghost use Rattle.std.specs.Prelude.{◌≡◌, ◌<◌, min};
 
 use self::splits::{print_splits, steps_hash, two_hash};
 use blake2b::Blake2b;
-use test_support::wide;
+use std::io;
 
 // How many bytes of the pattern are hashed.
 const LENGTHS: [usize; 14] = [
@@ -20,13 +20,11 @@ const CUTS: [usize; 4] = [1, 63, 128, 129];
 // How many bytes are fed at a time.
 const STEPS: [usize; 6] = [127, 128, 129, 255, 256, 257];
 
-pub(crate) fn print_digest(digest: &[u8]) {
-    let mut i: usize = 0;
-    while i < digest.len() {
-        io::print_hex(1, wide(digest[i]), 2);
-        i += 1;
+pub(crate) fn print_digest(rt: &impl Print, digest: &[u8]) -> io::Result<()> {
+    for byte in digest {
+        print!(rt; "{byte:02x}")?;
     }
-    io::write_all(1, b"\n");
+    println!(rt)
 }
 
 // Byte i is i % 251.
@@ -41,20 +39,21 @@ fn pattern() -> [u8; 65536] {
 }
 
 // The parameter block of Appendix A: 64 bytes of digest, fanout and depth 1.
-fn print_appendix_a() {
+fn print_appendix_a(rt: &impl Print) -> io::Result<()> {
     let mut p = [0u8; 64];
     p[0] = 64;
     p[2] = 1;
     p[3] = 1;
-    io::write_all(1, b"abc ");
-    print_digest(&Blake2b::with_parameters(p).update(b"abc").finish().bytes());
+    print!(rt; "abc ")?;
+    print_digest(
+        rt,
+        &Blake2b::with_parameters(p).update(b"abc").finish().bytes(),
+    )
 }
 
-fn print_whole(data: &[u8]) {
-    io::write_all(1, b"ckb ");
-    io::print_decimal(1, data.len() as u64);
-    io::write_all(1, b" whole ");
-    print_digest(&blake2b::ckb_hash(data));
+fn print_whole(rt: &impl Print, data: &[u8]) -> io::Result<()> {
+    print!(rt; "ckb {} whole ", data.len())?;
+    print_digest(rt, &blake2b::ckb_hash(data))
 }
 
 // The least of the two.
@@ -64,63 +63,49 @@ pub(crate) fn least(a: usize, b: usize) -> usize
     if a <= b { a } else { b }
 }
 
-fn print_cut(data: &[u8], at: usize) {
-    io::write_all(1, b"ckb ");
-    io::print_decimal(1, data.len() as u64);
-    io::write_all(1, b" cut ");
-    io::print_decimal(1, at as u64);
-    io::write_all(1, b" ");
-    print_digest(&two_hash(data, least(at, data.len())));
+fn print_cut(rt: &impl Print, data: &[u8], at: usize) -> io::Result<()> {
+    print!(rt; "ckb {} cut {at} ", data.len())?;
+    print_digest(rt, &two_hash(data, least(at, data.len())))
 }
 
-fn print_cuts(data: &[u8]) {
-    let cuts = CUTS;
-    let mut i: usize = 0;
-    while i < 4 {
-        print_cut(data, cuts[i]);
-        i += 1;
+fn print_cuts(rt: &impl Print, data: &[u8]) -> io::Result<()> {
+    for at in CUTS {
+        print_cut(rt, data, at)?;
     }
+    Ok(())
 }
 
-fn print_step(data: &[u8], step: usize)
+fn print_step(rt: &impl Print, data: &[u8], step: usize) -> io::Result<()>
     requires { 0 < step }
 {
-    io::write_all(1, b"ckb ");
-    io::print_decimal(1, data.len() as u64);
-    io::write_all(1, b" feeds of ");
-    io::print_decimal(1, step as u64);
-    io::write_all(1, b" ");
-    print_digest(&steps_hash(data, step));
+    print!(rt; "ckb {} feeds of {step} ", data.len())?;
+    print_digest(rt, &steps_hash(data, step))
 }
 
-fn print_steps(data: &[u8]) {
-    let steps = STEPS;
-    let mut i: usize = 0;
-    while i < 6 {
-        print_step(data, steps[i]);
-        i += 1;
+fn print_steps(rt: &impl Print, data: &[u8]) -> io::Result<()> {
+    for step in STEPS {
+        print_step(rt, data, step)?;
     }
+    Ok(())
 }
 
-fn print_input(data: &[u8]) {
-    print_whole(data);
-    print_cuts(data);
-    print_steps(data);
+fn print_input(rt: &impl Print, data: &[u8]) -> io::Result<()> {
+    print_whole(rt, data)?;
+    print_cuts(rt, data)?;
+    print_steps(rt, data)
 }
 
-fn print_lengths(data: &[u8]) {
-    let lengths = LENGTHS;
-    let mut i: usize = 0;
-    while i < 14 {
-        let n = least(lengths[i], data.len());
-        print_input(&data[0..n]);
-        i += 1;
+fn print_lengths(rt: &impl Print, data: &[u8]) -> io::Result<()> {
+    for length in LENGTHS {
+        let n = least(length, data.len());
+        print_input(rt, &data[0..n])?;
     }
+    Ok(())
 }
 
-fn main() {
-    print_appendix_a();
+fn main(rt: HostRuntime) -> io::Result<()> {
+    print_appendix_a(&rt)?;
     let data = pattern();
-    print_lengths(&data);
-    print_splits(&data);
+    print_lengths(&rt, &data)?;
+    print_splits(&rt, &data)
 }

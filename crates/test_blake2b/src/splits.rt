@@ -3,6 +3,7 @@ ghost use Rattle.std.specs.Prelude.{◌<◌, ◌≤◌, length};
 
 use super::{least, print_digest};
 use blake2b::Blake2b;
+use std::io;
 
 // The longest input that is split into two feeds, and the shortest and longest that are split into three.
 const TWO: usize = 400;
@@ -75,42 +76,44 @@ fn count_two(data: &[u8], whole: &[u8]) -> u64 {
     count
 }
 
-fn print_count(name: &[u8], data: &[u8], count: u64, whole: &[u8]) {
-    io::write_all(1, name);
-    io::print_decimal(1, data.len() as u64);
-    io::write_all(1, b" splits ");
-    io::print_decimal(1, count);
-    io::write_all(1, b" ");
-    print_digest(whole);
+fn print_count(
+    rt: &impl Print,
+    name: &str,
+    data: &[u8],
+    count: u64,
+    whole: &[u8],
+) -> io::Result<()> {
+    print!(rt; "{name} {} splits {count} ", data.len())?;
+    print_digest(rt, whole)
 }
 
-fn print_two(data: &[u8]) {
+fn print_two(rt: &impl Print, data: &[u8]) -> io::Result<()> {
     let whole = blake2b::ckb_hash(data);
-    print_count(b"two ", data, count_two(data, &whole), &whole);
+    print_count(rt, "two", data, count_two(data, &whole), &whole)
 }
 
-fn print_three(data: &[u8]) {
+fn print_three(rt: &impl Print, data: &[u8]) -> io::Result<()> {
     let whole = blake2b::ckb_hash(data);
-    print_count(b"three ", data, count_three(data, &whole), &whole);
+    print_count(rt, "three", data, count_three(data, &whole), &whole)
 }
 
-fn print_splits_of(data: &[u8]) {
-    print_two(data);
+fn print_splits_of(rt: &impl Print, data: &[u8]) -> io::Result<()> {
+    print_two(rt, data)?;
     if THREE_FROM <= data.len() {
         if data.len() <= THREE {
-            print_three(data);
+            print_three(rt, data)?;
         }
     }
+    Ok(())
 }
 
 // The inputs of up to 400 bytes, split into two; those of 256 to 272 into three, too.
-pub(crate) fn print_splits(data: &[u8]) {
-    let mut n: usize = 0;
-    while n <= TWO {
+pub(crate) fn print_splits(rt: &impl Print, data: &[u8]) -> io::Result<()> {
+    for n in 0..=TWO {
         let end = least(n, data.len());
-        print_splits_of(&data[0..end]);
-        n += 1;
+        print_splits_of(rt, &data[0..end])?;
     }
+    Ok(())
 }
 
 // The hash of the data, fed `step` bytes at a time, with an empty feed before each of them and behind the last.

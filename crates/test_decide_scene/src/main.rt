@@ -3,28 +3,30 @@
 
 use decide_scene::program_line;
 use octets::{part, same_bytes};
+use std::io;
+use test_support::read_full;
 use text::{LINE_END, find, head, tail};
 
-fn print_line(scene: &[u8]) {
+fn print_line(rt: &impl Print, scene: &[u8]) -> io::Result<()> {
     let line = program_line(scene);
     let bytes = line.bytes;
-    io::write_all(1, part(&bytes, 0, line.length));
+    rt.write_all(part(&bytes, 0, line.length))
 }
 
-fn run_all(list: &[u8]) {
+fn run_all(rt: &impl Print, list: &[u8]) -> io::Result<()> {
     let mut rest = list;
     let mut scene = list;
     let mut n: usize = 0;
     loop {
         let e = find(rest, LINE_END);
         if e == rest.len() {
-            return;
+            return Ok(());
         }
         let ended = same_bytes(head(rest, e), b"end");
         let next = tail(rest, e);
         rest = next;
         if ended {
-            print_line(head(scene, n));
+            print_line(rt, head(scene, n))?;
             scene = next;
             n = 0;
         } else {
@@ -33,8 +35,8 @@ fn run_all(list: &[u8]) {
     }
 }
 
-fn main() {
-    let mut text = io::large_buffer();
-    let n = io::read_full(0, &mut text);
-    run_all(&text[..n]);
+fn main(rt: HostRuntime) -> io::Result<()> {
+    let mut text = [0u8; 65536];
+    let n = read_full(&mut rt.reader(), &mut text)?;
+    run_all(&rt, &text[..n])
 }

@@ -15,10 +15,17 @@ ghost use Rattle.protocol.specs.Limits.{answer_buffer_length, table_min_entries}
 use crate::record::{behind_record, run};
 use octets::part;
 use protocol::{ANSWER_BUFFER_LEN, TABLE_MIN_ENTRIES};
-use test_support::{COUNT_LINE_MAX_LEN, Counts, count_line, counted, value};
+use std::io;
+use test_support::{COUNT_LINE_MAX_LEN, Counts, count_line, counted, read_full, value};
 use text::{LINE_END, find, head, tail};
 
-fn run_all(records: &[u8], store: &mut [u8], table: &mut [u32], answer: &mut [u8]) -> Counts {
+fn run_all(
+    rt: &impl Print,
+    records: &[u8],
+    store: &mut [u8],
+    table: &mut [u32],
+    answer: &mut [u8],
+) -> io::Result<Counts> {
     let mut rest = records;
     let mut counts = Counts {
         passed: 0,
@@ -27,11 +34,12 @@ fn run_all(records: &[u8], store: &mut [u8], table: &mut [u32], answer: &mut [u8
     loop {
         let e = find(rest, LINE_END);
         if e == rest.len() {
-            return counts;
+            return Ok(counts);
         }
         let len = value(head(rest, e)) as usize;
         let text = tail(rest, e);
-        let after = counted(counts, run(text, len, store, table, answer));
+        let passed = run(rt, text, len, store, table, answer)?;
+        let after = counted(counts, passed);
         counts = after;
         let next = behind_record(text, len);
         rest = next;
@@ -58,14 +66,14 @@ fn words() -> [u32; TABLE_MIN_ENTRIES]
     [0; TABLE_MIN_ENTRIES]
 }
 
-fn main() {
+fn main(rt: HostRuntime) -> io::Result<()> {
     let mut text = records();
-    let n = io::read_full(0, &mut text);
+    let n = read_full(&mut rt.reader(), &mut text)?;
     let mut store = bytes();
     let mut table = words();
     let mut answer = bytes();
-    let counts = run_all(&text[..n], &mut store, &mut table, &mut answer);
+    let counts = run_all(&rt, &text[..n], &mut store, &mut table, &mut answer)?;
     let mut line = [0u8; COUNT_LINE_MAX_LEN];
     let len = count_line(counts, &mut line);
-    io::write_all(1, part(&line, 0, len));
+    rt.write_all(part(&line, 0, len))
 }

@@ -5,6 +5,7 @@ use account_lock::{LockAnswer, lock};
 use octets::{part, rest, same_bytes};
 use protocol::{Check, check_number};
 use scene_reader::read_scene;
+use std::io;
 use test_support::{field, fields_after, value};
 use text::{Decimal, LINE_END, decode, find, head, read_decimal, tail};
 
@@ -67,18 +68,19 @@ fn passes(
 
 // Whether the record that begins with a scene of that length passes; a line that fails is written.
 pub(crate) fn run(
+    rt: &impl Print,
     text: &[u8],
     len: usize,
     store: &mut [u8],
     table: &mut [u32],
     answer: &mut [u8],
-) -> bool {
+) -> io::Result<bool> {
     let behind_scene = rest(text, len);
     let line = head(behind_scene, find(behind_scene, LINE_END));
     let passed = passes(part(text, 0, len), line, store, table, answer);
     if !passed {
-        io::write_all(1, line);
-        io::write_all(1, b"\n");
+        rt.write_all(line)?;
+        println!(rt)?;
     }
-    passed
+    Ok(passed)
 }

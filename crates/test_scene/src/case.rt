@@ -1,9 +1,10 @@
 // One case: a scene that is put together, read, and counted.
-ghost use Rattle.std.specs.Prelude.{◌≤◌, length};
+ghost use Rattle.std.specs.Prelude.{◌≤◌, length, IfOk};
 
 use octets::store_bytes;
 use protocol::{Check, error_number};
 use scene_reader::read_scene;
+use std::io;
 use test_support::{Counts, counted, field, fields_after, value, wide};
 use text::{all_between, head, tail};
 
@@ -24,22 +25,22 @@ fn at_most(n: usize, most: usize) -> usize
 }
 
 // A case of these fields; its name is written.
-pub(crate) fn begin(case: Case, fields: &[u8]) -> Case
-    ensures { result.at ≤ 0 }
+pub(crate) fn begin(rt: &impl Print, case: Case, fields: &[u8]) -> io::Result<Case>
+    ensures { IfOk result (λ begun. begun.at ≤ 0) }
 {
     let counts = case.counts;
-    io::write_all(1, field(fields));
-    io::write_all(1, b": ");
+    rt.write_all(field(fields))?;
+    print!(rt; ": ")?;
     let expected = fields_after(fields);
     let store = fields_after(expected);
     let table = fields_after(store);
-    Case {
+    Ok(Case {
         expected: value(field(expected)),
         store: value(field(store)) as usize,
         table: value(field(table)) as usize,
         at: 0,
         counts,
-    }
+    })
 }
 
 // The scene's length after text, as far as there is room for it whole.
@@ -137,9 +138,15 @@ fn number(scene: &[u8], store: &mut [u8], table: &mut [u32]) -> u64 {
 }
 
 // Reads the case's scene, writes its number and counts it.
-pub(crate) fn run(case: Case, scene: &[u8], store: &mut [u8], table: &mut [u32]) -> Case
+pub(crate) fn run(
+    rt: &impl Print,
+    case: Case,
+    scene: &[u8],
+    store: &mut [u8],
+    table: &mut [u32],
+) -> io::Result<Case>
     requires { case.at ≤ length scene.now }
-    ensures { result.at ≤ length scene.now }
+    ensures { IfOk result (λ after. after.at ≤ length scene.now) }
 {
     let store_len = at_most(case.store, store.len());
     let table_len = at_most(case.table, table.len());
@@ -148,15 +155,14 @@ pub(crate) fn run(case: Case, scene: &[u8], store: &mut [u8], table: &mut [u32])
         &mut store[..store_len],
         &mut table[..table_len],
     );
-    io::print_decimal(1, found);
-    io::write_all(1, b"\n");
+    println!(rt; "{found}")?;
     let before = case.counts;
     let counts = counted(before, found == case.expected);
-    Case {
+    Ok(Case {
         expected: case.expected,
         store: case.store,
         table: case.table,
         at: case.at,
         counts,
-    }
+    })
 }

@@ -9,31 +9,45 @@
 
 mod case; // case.rt
 
-ghost use Rattle.std.specs.Prelude.{◌≡◌, ◌+◌, ◌≤◌, length};
+ghost use Rattle.std.specs.Prelude.{◌≡◌, ◌+◌, ◌≤◌, length, IfOk};
 ghost use Rattle.protocol.specs.Limits.{scene_max_length, table_min_entries};
 
 use crate::case::{Case, add, begin, run};
 use octets::{part, u8_at};
 use protocol::{SCENE_MAX_LEN, TABLE_MIN_ENTRIES};
-use test_support::{COUNT_LINE_MAX_LEN, Counts, count_line};
+use std::io;
+use test_support::{COUNT_LINE_MAX_LEN, Counts, count_line, read_full};
 use text::{COMMA, LINE_END, find, head, tail};
 
 // What a line of the list, told by its first letter, makes of the case.
-fn step(case: Case, line: &[u8], scene: &mut [u8], store: &mut [u8], table: &mut [u32]) -> Case
+fn step(
+    rt: &impl Print,
+    case: Case,
+    line: &[u8],
+    scene: &mut [u8],
+    store: &mut [u8],
+    table: &mut [u32],
+) -> io::Result<Case>
     requires { case.at ≤ length scene.old }
-    ensures { result.at ≤ length scene.old }
+    ensures { IfOk result (λ after. after.at ≤ length scene.old) }
 {
     let fields = tail(line, find(line, COMMA));
     match u8_at(line, 0) {
-        99 => begin(case, fields),
-        97 => add(case, fields, b"", scene),
-        108 => add(case, fields, b"\n", scene),
-        114 => run(case, scene, store, table),
-        _ => case,
+        99 => begin(rt, case, fields),
+        97 => Ok(add(case, fields, b"", scene)),
+        108 => Ok(add(case, fields, b"\n", scene)),
+        114 => run(rt, case, scene, store, table),
+        _ => Ok(case),
     }
 }
 
-fn run_all(list: &[u8], scene: &mut [u8], store: &mut [u8], table: &mut [u32]) -> Case {
+fn run_all(
+    rt: &impl Print,
+    list: &[u8],
+    scene: &mut [u8],
+    store: &mut [u8],
+    table: &mut [u32],
+) -> io::Result<Case> {
     let mut rest = list;
     let mut case = Case {
         expected: 0,
@@ -48,9 +62,9 @@ fn run_all(list: &[u8], scene: &mut [u8], store: &mut [u8], table: &mut [u32]) -
     loop {
         let e = find(rest, LINE_END);
         if e == rest.len() {
-            return case;
+            return Ok(case);
         }
-        let after = step(case, head(rest, e), scene, store, table);
+        let after = step(rt, case, head(rest, e), scene, store, table)?;
         case = after;
         let next = tail(rest, e);
         rest = next;
@@ -70,15 +84,15 @@ fn words() -> [u32; TABLE_MIN_ENTRIES]
     [1; TABLE_MIN_ENTRIES]
 }
 
-fn main() {
-    let mut text = io::large_buffer();
-    let n = io::read_full(0, &mut text);
+fn main(rt: HostRuntime) -> io::Result<()> {
+    let mut text = [0u8; 65536];
+    let n = read_full(&mut rt.reader(), &mut text)?;
     let mut scene = long_buffer();
     let mut store = long_buffer();
     let mut table = words();
-    let case = run_all(&text[..n], &mut scene, &mut store, &mut table);
+    let case = run_all(&rt, &text[..n], &mut scene, &mut store, &mut table)?;
     let mut line = [0u8; COUNT_LINE_MAX_LEN];
     let counts = case.counts;
     let len = count_line(counts, &mut line);
-    io::write_all(1, part(&line, 0, len));
+    rt.write_all(part(&line, 0, len))
 }

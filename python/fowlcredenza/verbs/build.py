@@ -17,8 +17,8 @@ from ..files import read_text
 from ..outcome import DONE, REFUSED, Outcome
 from ..paths import CRATES, LIBRARY, MAKER, ROOT, short
 
-# The toolchain's lines that say that a crate is proved.
-PROVED = re.compile(r"rt: (?:target/staticlib/lib(\w+)\.a has|(\w+) proved\b)")
+# The lines of tools/library that say that a crate is proved.
+PROVED = re.compile(r"library: (\w+) proved$")
 
 
 def arguments(_options) -> None:
@@ -26,10 +26,10 @@ def arguments(_options) -> None:
 
 
 def _listed() -> dict[str, list[str]]:
-    """The repository's crates, each with those that it is built on."""
+    """The repository's crates, each with those that it is built on; behind a static library's name its line says so."""
     lines = read_text(str(CRATES)).splitlines()
     named = (line.split(":") for line in lines if ":" in line and not line.startswith("#"))
-    crates = {name.strip(): rest.split() for name, rest in named}
+    crates = {name.split()[0]: rest.split() for name, rest in named}
     return {name: [other for other in others if other in crates] for name, others in crates.items()}
 
 
@@ -51,7 +51,7 @@ def _follow(lines: Iterable[str], crates: set[str]) -> list[str]:
     for line in lines:
         said.append(line.rstrip("\n"))
         if found := PROVED.match(line):
-            name = found[1] or found[2]
+            name = found[1]
             if name in crates and name not in proved:
                 proved.add(name)
                 print(f"{len(proved)} of {len(crates)} crates proved: {name}", file=sys.stderr, flush=True)

@@ -1,6 +1,6 @@
 -- `test_blake2b::splits::count_ends` meets its contract.
 -- Assumes nothing.
-use Rattle.std.proofs.Common.{suc, ◌-◌, ◌≤◌, length, arith, rules}
+use Rattle.std.proofs.Common.{arith}
 use Rattle.test_blake2b.proofs.splits.count_ends.Goals as goal
 
 pub loop-b-init : goal.loop-b-init

@@ -1,6 +1,6 @@
 -- `test_blake2b::splits::count_ends` meets its contract.
 -- Assumes nothing.
-use Rattle.std.proofs.Common.{suc, ◌-◌, ◌≤◌, length, arith, rules}
+use Rattle.std.proofs.Common.{suc, ◌-◌, ◌≤◌, length}
 use Rattle.test_blake2b.proofs.splits.count_ends.Given as goal
 
 abbrev pub invariant-loop-b : goal.invariant-loop-b

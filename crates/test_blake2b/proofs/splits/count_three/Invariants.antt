@@ -1,6 +1,6 @@
 -- `test_blake2b::splits::count_three` meets its contract.
 -- Assumes nothing.
-use Rattle.std.proofs.Common.{suc, ◌-◌, ◌≤◌, length, arith, rules}
+use Rattle.std.proofs.Common.{suc, ◌-◌, ◌≤◌, length}
 use Rattle.test_blake2b.proofs.splits.count_three.Given as goal
 
 abbrev pub invariant-loop-a : goal.invariant-loop-a

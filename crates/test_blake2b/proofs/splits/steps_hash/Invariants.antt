@@ -1,6 +1,6 @@
 -- `test_blake2b::splits::steps_hash` meets its contract.
 -- Assumes nothing.
-use Rattle.std.proofs.Common.{◌-◌, ◌≤◌, length, arith, rules}
+use Rattle.std.proofs.Common.{◌-◌, ◌≤◌, length}
 use Rattle.test_blake2b.proofs.splits.steps_hash.Given as goal
 
 abbrev pub invariant-loop-at : goal.invariant-loop-at

@@ -1,7 +1,6 @@
 -- `test_scene::case::zero_from` is safe and ends. Assumes nothing.
 use Prim.Native.Nat.{◌-◌}
 use lib.ListN.{length}
-use borrow.Author.Rules.{rules}
 use Rattle.test_scene.proofs.case.zero_from.Given as goal
 
 abbrev pub invariant-loop-i : goal.invariant-loop-i

@@ -1,5 +1,5 @@
 -- `test_support::counts::count_line` meets its contract. Assumes nothing.
-use Rattle.std.proofs.Common.{◌+◌, refl, ◌∙◌, arith, rules}
+use Rattle.std.proofs.Common.{◌+◌, refl, ◌∙◌, arith}
 use Rattle.text.specs.Print.{number_text}
 use Rattle.test_support.specs.Counts.{passed_word, failed_word, count_text}
 use Rattle.test_support.proofs.FourTexts.{four-long, four-stored}

@@ -1,5 +1,4 @@
 -- `test_support::counts::counted` meets its contract. Assumes nothing.
-use Rattle.std.proofs.Common.{rules}
 use Rattle.test_support.proofs.counts.counted.Goals as goal
 
 pub returns-then-passes : goal.returns-then-passes

@@ -1,5 +1,4 @@
 -- `test_support::fields::fields_after` meets its contract. Assumes nothing.
-use Rattle.std.proofs.Common.{rules}
 use Rattle.text.specs.Text.{comma}
 use Rattle.text.proofs.Pieces.{cut-place}
 use Rattle.test_support.specs.Fields.{first_field, fields_after}

@@ -1,5 +1,5 @@
 -- `test_support::fields::value` meets its contract. Assumes nothing.
-use Rattle.std.proofs.Common.{sym, ◌∙◌, rules}
+use Rattle.std.proofs.Common.{sym, ◌∙◌}
 use Rattle.test_support.proofs.fields.value.Goals as goal
 
 pub returns-in-Value : goal.returns-in-Value
