@@ -1,6 +1,6 @@
 -- The reading of a witness lock, every field but fixed bytes, lengths and counts, its written form, and what the readers hand out
 -- of it.
-use Rattle.std.specs.Prelude.{◌≡◌, ℕ, zero, suc, ◌+◌, ◌^◌, ◌<◌, List, [], ◌∷◌, ◌++◌, map, length, take, drop, get_or}
+use Rattle.std.specs.Prelude.{◌≡◌, ℕ, zero, suc, ◌^◌, ◌<◌, List, [], ◌∷◌, ◌++◌, map, length, take, drop, get_or}
 use Rattle.octets.specs.Lists.{joined}
 use Rattle.octets.specs.Layout.{Field, layout_bytes}
 use Rattle.account_witness.specs.Fields.{operation_of, proof_count_of, witness_sequence_of, witness_header_length, proof_end_at}

@@ -101,7 +101,7 @@ rounds (suc i) m v = rounds i m v ▸ round m (row_of i)
 unfoldable pub xor_at : ℕ → ℕ → List ℕ → List ℕ
 xor_at i x v = slice_set v i (bit_xor (slice_index v i) x)
 
--- 3.2  IF f = TRUE THEN v[14] := v[14] ^ 0x_ff..FF
+-- 3.2  IF f = TRUE THEN v[14] := v[14] ^ 0xFF..FF
 unfoldable pub flagged : Bool → List ℕ → List ℕ
 flagged true v = xor_at 14 0xffffffffffffffff v
 flagged false v = v

@@ -1,5 +1,4 @@
 -- `account_witness::fields::proof_reserved_at` meets its contract. Assumes nothing.
-use borrow.Author.Rules.{rules}
 use Rattle.account_witness.proofs.fields.proof_reserved_at.Goals as goal
 
 pub returns : goal.returns

@@ -1,5 +1,4 @@
 -- `account_witness::fields::witness_sequence_of` meets its contract. Assumes nothing.
-use borrow.Author.Rules.{rules}
 use Rattle.account_witness.proofs.fields.witness_sequence_of.Goals as goal
 
 pub returns : goal.returns

@@ -1,7 +1,6 @@
 -- `account_witness::header::check_witness_header` meets its contract: the rows, last to first. Assumes nothing.
 use Rattle.protocol.specs.Rows.{decide}
 use Rattle.account_witness.specs.Header.{witness_header_rows}
-use borrow.Author.Rules.{rules}
 use Rattle.account_witness.proofs.header.check_witness_header.Goals as goal
 
 pub returns : goal.returns

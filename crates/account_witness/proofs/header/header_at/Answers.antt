@@ -1,6 +1,5 @@
 -- `account_witness::header::header_at` meets its contract: each call gives its field. Assumes nothing.
 use Rattle.account_witness.specs.Header.{witness_header_of}
-use borrow.Author.Rules.{rules}
 use Rattle.account_witness.proofs.header.header_at.Goals as goal
 
 pub returns : goal.returns

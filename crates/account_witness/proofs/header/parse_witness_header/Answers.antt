@@ -1,7 +1,6 @@
 -- `account_witness::header::parse_witness_header` meets its contract, by what the checks find. Assumes nothing.
 use mathlib.Core.Path.{sym, ◌∙◌}
 use Rattle.account_witness.specs.Header.{witness_header_answer, read_witness_header}
-use borrow.Author.Rules.{rules}
 use Rattle.account_witness.proofs.header.parse_witness_header.Goals as goal
 
 pub returns-in-Failed : goal.returns-in-Failed

@@ -3,7 +3,6 @@ use Rattle.protocol.specs.Rows.{decide}
 use borrow.Author.Tests.{le-leb}
 use Rattle.account_witness.specs.Walk.{proof_layout_rows}
 use Rattle.account_witness.proofs.WalkLaws.{row-passed}
-use borrow.Author.Rules.{rules}
 use Rattle.account_witness.proofs.walk.check_proof.Goals as goal
 
 pub returns : goal.returns

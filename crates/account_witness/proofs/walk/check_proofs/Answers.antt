@@ -1,11 +1,7 @@
 -- `account_witness::walk::check_proofs` meets its contract: the rows that are left, from where the walk stands, give the whole. Assumes nothing.
-use mathlib.Core.Path.{◌≡◌, sym, ◌∙◌}
+use mathlib.Core.Path.{sym, ◌∙◌}
 use native.Mathlib.Omega.{arith}
-use Rattle.protocol.specs.Rows.{decide}
-use Rattle.protocol.specs.declared.check.Check.TheVariants.{Passed}
-use Rattle.account_witness.specs.Walk.{proofs_layout_rows}
 use Rattle.account_witness.proofs.WalkLaws.{walk-next, walk_refused, walk_none}
-use borrow.Author.Rules.{rules}
 use Rattle.account_witness.proofs.walk.check_proofs.Goals as goal
 
 pub loop-left-init : goal.loop-left-init

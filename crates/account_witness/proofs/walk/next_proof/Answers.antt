@@ -3,7 +3,6 @@ use mathlib.Core.Path.{sym, ◌∙◌}
 use borrow.Author.Tests.{leb-true}
 use Rattle.protocol.specs.Rows.{◌▷◌, decide}
 use Rattle.account_witness.specs.Walk.{proof_layout_rows, proof_step_answer, proof_step}
-use borrow.Author.Rules.{rules}
 use Rattle.account_witness.proofs.walk.next_proof.Goals as goal
 
 pub step_at-requires : goal.step_at-requires

@@ -6,7 +6,6 @@ use Rattle.protocol.specs.declared.check.Check.TheVariants.{Passed}
 use Rattle.protocol.proofs.AllPass.{passed-all-pass}
 use Rattle.account_witness.specs.Walk.{proof_layout_rows, proof_at, proof_cursor_behind, proof_step_answer, proof_step}
 use Rattle.account_witness.proofs.WalkLaws.{ProofHolds, proof-holds}
-use borrow.Author.Rules.{rules}
 use Rattle.account_witness.proofs.walk.step_at.Goals as goal
 
 passed : (c : goal.After-proof_length_at-len) → let a = c.args in decide Passed (proof_layout_rows a.witness.now a.offset a.least) ≡ Passed

@@ -1,6 +1,5 @@
 -- `account_witness::witness::check_witness` meets its contract: the header, the count, the proofs. Assumes nothing.
 use Rattle.account_witness.proofs.WitnessParts.{witness-parts}
-use borrow.Author.Rules.{rules}
 use Rattle.account_witness.proofs.witness.check_witness.Goals as goal
 
 pub returns : goal.returns

@@ -1,7 +1,6 @@
 -- `account_witness::witness::validate_witness` meets its contract, by what the checks find. Assumes nothing.
 use mathlib.Core.Path.{sym, ◌∙◌}
 use Rattle.account_witness.specs.Witness.{witness_answer, read_witness}
-use borrow.Author.Rules.{rules}
 use Rattle.account_witness.proofs.witness.validate_witness.Goals as goal
 
 pub returns-in-Failed : goal.returns-in-Failed

@@ -1,7 +1,6 @@
 -- `export_answers::lent::check_sizes` meets its contract: the rows, last to first. Assumes nothing.
 use Rattle.protocol.specs.Rows.{decide}
 use Rattle.export_answers.specs.Lent.{sizes_fault}
-use borrow.Author.Rules.{rules}
 use Rattle.export_answers.proofs.lent.check_sizes.Goals as goal
 
 pub returns : goal.returns

@@ -1,6 +1,5 @@
 -- `export_answers::numbers::written` meets its contract, by cases of the answer. Assumes nothing.
 use Rattle.export_answers.specs.Stored.{length_after}
-use borrow.Author.Rules.{rules}
 use Rattle.export_answers.proofs.numbers.written.Goals as goal
 
 pub returns-in-Refused : goal.returns-in-Refused

@@ -1,7 +1,6 @@
 -- `export_answers::stored::store_front` meets its contract, by whether there is room. Assumes nothing.
 use mathlib.Core.Path.{◌∙◌}
 use Rattle.export_answers.proofs.Fits.{bytes_fit, bytes-short}
-use borrow.Author.Rules.{rules}
 use Rattle.export_answers.proofs.stored.store_front.Goals as goal
 
 pub returns-then-bytes-out : goal.returns-then-bytes-out

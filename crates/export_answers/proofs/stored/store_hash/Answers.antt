@@ -1,6 +1,5 @@
 -- `export_answers::stored::store_hash` meets its contract, by what was found. Assumes nothing.
 use Rattle.export_answers.proofs.Fits.{bytes-refused}
-use borrow.Author.Rules.{rules}
 use Rattle.export_answers.proofs.stored.store_hash.Goals as goal
 
 pub returns-in-Failed : goal.returns-in-Failed

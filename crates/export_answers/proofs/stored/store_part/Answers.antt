@@ -1,6 +1,5 @@
 -- `export_answers::stored::store_part` meets its contract: by the refusal, then by what is stored. Assumes nothing.
 use Rattle.export_answers.proofs.Fits.{part-refused, length-stored, length-kept}
-use borrow.Author.Rules.{rules}
 use Rattle.export_answers.proofs.stored.store_part.Goals as goal
 
 pub returns-then-refusal-ne0 : goal.returns-then-refusal-ne0

@@ -1,12 +1,9 @@
 -- `export_answers::words::store_each` meets its contract: what is left to store, stored, is the whole. Assumes nothing.
-use mathlib.Core.Path.{◌≡◌, refl, sym, ap, ◌∙◌}
+use mathlib.Core.Path.{◌≡◌}
 use Prim.Native.Nat.{◌*◌, ◌-◌, ◌≤◌}
-use native.Mathlib.Omega.{arith}
 use lib.ListN.{length, drop}
-use lib.Seq.{sets, length-sets}
+use lib.Seq.{sets}
 use Rattle.export_answers.specs.Words.{word_bytes}
-use Rattle.export_answers.proofs.Table64.{word-stored, words-stored}
-use borrow.Author.Rules.{rules}
 use Rattle.export_answers.proofs.words.store_each.Given as goal
 
 abbrev pub invariant-loop-i : goal.invariant-loop-i

@@ -4,7 +4,6 @@ use Prim.Native.Nat.{◌*◌, ◌≤◌, ◌<◌}
 use native.Mathlib.Omega.{arith}
 use lib.ListN.{length}
 use Rattle.export_answers.proofs.Table64.{words-front, words-fit, words-short}
-use borrow.Author.Rules.{rules}
 use Rattle.export_answers.proofs.words.store_words.Goals as goal
 
 pub returns-then-end-out : goal.returns-then-end-out

@@ -1,7 +1,6 @@
 -- `molecule::bytes::check_bytes` meets its contract: the rows, last to first. Assumes nothing.
 use Rattle.protocol.specs.Rows.{decide}
 use Rattle.molecule.specs.Bytes.{bytes_rows}
-use borrow.Author.Rules.{rules}
 use Rattle.molecule.proofs.bytes.check_bytes.Goals as goal
 
 pub returns : goal.returns

@@ -5,7 +5,6 @@ use Rattle.protocol.specs.declared.check.Check.TheVariants.{Passed}
 use Rattle.protocol.proofs.AllPass.{decide-append, decide-then}
 use Rattle.molecule.specs.Table3.{table_rows}
 use Rattle.molecule.specs.Bytes.{witness_lock_rows, bytes_rows}
-use borrow.Author.Rules.{rules}
 use Rattle.molecule.proofs.bytes.check_witness_lock.Goals as goal
 
 pub returns : goal.returns

@@ -1,5 +1,4 @@
 -- `molecule::bytes::lock_of` meets its contract. Assumes nothing.
-use borrow.Author.Rules.{rules}
 use Rattle.molecule.proofs.bytes.lock_of.Goals as goal
 
 pub returns : goal.returns

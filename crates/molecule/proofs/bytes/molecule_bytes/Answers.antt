@@ -1,6 +1,5 @@
 -- `molecule::bytes::molecule_bytes` meets its contract. Assumes nothing.
 use Rattle.molecule.specs.Bytes.{read_bytes}
-use borrow.Author.Rules.{rules}
 use Rattle.molecule.proofs.bytes.molecule_bytes.Goals as goal
 
 pub returns : goal.returns

@@ -1,6 +1,5 @@
 -- `molecule::bytes::place_answer` meets its contract, by what was found. Assumes nothing.
 use Rattle.molecule.specs.Bytes.{place_answer}
-use borrow.Author.Rules.{rules}
 use Rattle.molecule.proofs.bytes.place_answer.Goals as goal
 
 pub returns-in-Failed : goal.returns-in-Failed

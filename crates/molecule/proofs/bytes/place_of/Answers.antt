@@ -1,6 +1,5 @@
 -- `molecule::bytes::place_of` meets its contract. Assumes nothing.
 use Rattle.molecule.specs.Bytes.{bytes_place_from}
-use borrow.Author.Rules.{rules}
 use Rattle.molecule.proofs.bytes.place_of.Goals as goal
 
 pub returns : goal.returns

@@ -1,6 +1,5 @@
 -- `molecule::bytes::script_args` meets its contract. Assumes nothing.
 use Rattle.molecule.specs.Bytes.{read_script_args}
-use borrow.Author.Rules.{rules}
 use Rattle.molecule.proofs.bytes.script_args.Goals as goal
 
 pub returns : goal.returns

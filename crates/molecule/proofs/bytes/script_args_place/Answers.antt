@@ -1,5 +1,4 @@
 -- `molecule::bytes::script_args_place` meets its contract. Assumes nothing.
-use borrow.Author.Rules.{rules}
 use Rattle.molecule.proofs.bytes.script_args_place.Goals as goal
 
 pub returns : goal.returns

@@ -1,6 +1,5 @@
 -- `molecule::bytes::witness_lock` meets its contract. Assumes nothing.
 use Rattle.molecule.specs.Bytes.{read_witness_lock}
-use borrow.Author.Rules.{rules}
 use Rattle.molecule.proofs.bytes.witness_lock.Goals as goal
 
 pub returns : goal.returns

@@ -1,5 +1,4 @@
 -- `molecule::bytes::witness_lock_place` meets its contract. Assumes nothing.
-use borrow.Author.Rules.{rules}
 use Rattle.molecule.proofs.bytes.witness_lock_place.Goals as goal
 
 pub returns : goal.returns

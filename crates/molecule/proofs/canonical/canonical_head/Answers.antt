@@ -4,7 +4,6 @@ use native.Mathlib.Omega.{arith}
 use lib.ListN.{length}
 use Rattle.molecule.specs.Table3.{field2, field3}
 use Rattle.molecule.proofs.CanonicalForm.{canonical-first, fields_within}
-use borrow.Author.Rules.{rules}
 use Rattle.molecule.proofs.canonical.canonical_head.Goals as goal
 
 pub overflow_add-third-2 : goal.overflow_add-third-2

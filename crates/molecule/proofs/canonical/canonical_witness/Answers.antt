@@ -10,7 +10,6 @@ use Rattle.molecule.specs.Table3.{table_rows}
 use Rattle.molecule.specs.Canonical.{canonical_of, canonical_room, canonical_written, canonical_stored}
 use Rattle.molecule.proofs.Form.{TablePasses, table-passes}
 use Rattle.molecule.proofs.CanonicalForm.{length-from-second, parts-stored, room-found}
-use borrow.Author.Rules.{rules}
 use Rattle.molecule.proofs.canonical.canonical_witness.Goals as goal
 
 pub returns-in-Failed : goal.returns-in-Failed

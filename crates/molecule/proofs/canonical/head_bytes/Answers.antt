@@ -9,7 +9,6 @@ use Rattle.octets.proofs.Stores.{sets_over}
 use Rattle.octets.proofs.LayoutLaws.{store_numbers, numbers-stored, length-numbers}
 use lib.Seq.{take_all}
 use Rattle.molecule.specs.Canonical.{canonical_head}
-use borrow.Author.Rules.{rules}
 use Rattle.molecule.proofs.canonical.head_bytes.Goals as goal
 
 pub returns : goal.returns

@@ -3,7 +3,6 @@ use mathlib.Core.Path.{◌≡◌}
 use Prim.Native.Nat.{◌-◌}
 use native.Mathlib.Omega.{arith}
 use Rattle.molecule.specs.Table3.{between}
-use borrow.Author.Rules.{rules}
 use Rattle.molecule.proofs.fields.bytes_between.Goals as goal
 
 pub returns-then-end-start : goal.returns-then-end-start

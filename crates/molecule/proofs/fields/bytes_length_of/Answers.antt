@@ -1,5 +1,4 @@
 -- `molecule::fields::bytes_length_of` meets its contract. Assumes nothing.
-use borrow.Author.Rules.{rules}
 use Rattle.molecule.proofs.fields.bytes_length_of.Goals as goal
 
 pub returns : goal.returns

@@ -1,6 +1,5 @@
 -- `molecule::fields::first_field` meets its contract. Assumes nothing.
 use Rattle.molecule.specs.Table3.{field1}
-use borrow.Author.Rules.{rules}
 use Rattle.molecule.proofs.fields.first_field.Goals as goal
 
 pub returns : goal.returns

@@ -1,6 +1,5 @@
 -- `molecule::fields::second_field` meets its contract. Assumes nothing.
 use Rattle.molecule.specs.Table3.{field2}
-use borrow.Author.Rules.{rules}
 use Rattle.molecule.proofs.fields.second_field.Goals as goal
 
 pub returns : goal.returns

@@ -1,5 +1,4 @@
 -- `molecule::fields::second_offset_of` meets its contract. Assumes nothing.
-use borrow.Author.Rules.{rules}
 use Rattle.molecule.proofs.fields.second_offset_of.Goals as goal
 
 pub returns : goal.returns

@@ -1,5 +1,4 @@
 -- `molecule::fields::table_total_of` meets its contract. Assumes nothing.
-use borrow.Author.Rules.{rules}
 use Rattle.molecule.proofs.fields.table_total_of.Goals as goal
 
 pub returns : goal.returns

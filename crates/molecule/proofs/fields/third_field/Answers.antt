@@ -1,6 +1,5 @@
 -- `molecule::fields::third_field` meets its contract. Assumes nothing.
 use Rattle.molecule.specs.Table3.{field3}
-use borrow.Author.Rules.{rules}
 use Rattle.molecule.proofs.fields.third_field.Goals as goal
 
 pub returns : goal.returns

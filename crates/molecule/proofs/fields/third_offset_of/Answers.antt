@@ -1,5 +1,4 @@
 -- `molecule::fields::third_offset_of` meets its contract. Assumes nothing.
-use borrow.Author.Rules.{rules}
 use Rattle.molecule.proofs.fields.third_offset_of.Goals as goal
 
 pub returns : goal.returns

@@ -1,7 +1,6 @@
 -- `molecule::table::check_table` meets its contract: the rows, last to first. Assumes nothing.
 use Rattle.protocol.specs.Rows.{decide}
 use Rattle.molecule.specs.Table3.{table_rows}
-use borrow.Author.Rules.{rules}
 use Rattle.molecule.proofs.table.check_table.Goals as goal
 
 pub returns : goal.returns

@@ -1,6 +1,5 @@
 -- `molecule::table::fields_at` meets its contract: each field is its read. Assumes nothing.
 use Rattle.molecule.specs.Table3.{table_fields_of}
-use borrow.Author.Rules.{rules}
 use Rattle.molecule.proofs.table.fields_at.Goals as goal
 
 pub returns : goal.returns

@@ -1,7 +1,6 @@
 -- `molecule::table::table3_fields` meets its contract, by what the checks find. Assumes nothing.
 use mathlib.Core.Path.{sym, ◌∙◌}
 use Rattle.molecule.specs.Table3.{read_table, table_answer}
-use borrow.Author.Rules.{rules}
 use Rattle.molecule.proofs.table.table3_fields.Goals as goal
 
 pub returns-in-Failed : goal.returns-in-Failed

@@ -1,5 +1,4 @@
 -- `public_key_proof::fields::public_key_length_of` meets its contract. Assumes nothing.
-use borrow.Author.Rules.{rules}
 use Rattle.public_key_proof.proofs.fields.public_key_length_of.Goals as goal
 
 pub returns : goal.returns

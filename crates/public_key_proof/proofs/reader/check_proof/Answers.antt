@@ -1,7 +1,6 @@
 -- `public_key_proof::reader::check_proof` meets its contract: the rows, last to first. Assumes nothing.
 use Rattle.protocol.specs.Rows.{decide}
 use Rattle.public_key_proof.specs.Reader.{public_key_proof_rows, public_key_proof_fault}
-use borrow.Author.Rules.{rules}
 use Rattle.public_key_proof.proofs.reader.check_proof.Goals as goal
 
 pub returns : goal.returns

@@ -1,7 +1,6 @@
 -- `public_key_proof::reader::parse_public_key_proof` meets its contract, by what the checks find. Assumes nothing.
 use mathlib.Core.Path.{sym, ◌∙◌}
 use Rattle.public_key_proof.specs.Reader.{read_public_key_proof, public_key_proof_answer}
-use borrow.Author.Rules.{rules}
 use Rattle.public_key_proof.proofs.reader.parse_public_key_proof.Goals as goal
 
 pub returns-in-Failed : goal.returns-in-Failed

@@ -1,6 +1,5 @@
 -- `public_key_proof::reader::places_at` meets its contract: each length is its read. Assumes nothing.
 use Rattle.public_key_proof.specs.Reader.{public_key_proof_places}
-use borrow.Author.Rules.{rules}
 use Rattle.public_key_proof.proofs.reader.places_at.Goals as goal
 
 pub returns : goal.returns

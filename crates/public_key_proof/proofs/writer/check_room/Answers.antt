@@ -2,7 +2,6 @@
 use Rattle.protocol.specs.Rows.{decide}
 use Rattle.protocol.specs.Write.{write_fault}
 use Rattle.public_key_proof.specs.Writer.{public_key_proof_writer_rows, public_key_proof_total, public_key_proof_writer_fault}
-use borrow.Author.Rules.{rules}
 use Rattle.public_key_proof.proofs.writer.check_room.Goals as goal
 
 pub returns : goal.returns

@@ -4,7 +4,6 @@ use Rattle.public_key_proof.specs.Reading.{PublicKeyProofReading, public_key_pro
 use Rattle.public_key_proof.specs.Writer.{public_key_proof_writer_rows, public_key_proof_total, public_key_proof_writer_fault, public_key_proof_written, public_key_proof_stored}
 use Rattle.public_key_proof.proofs.Form.{length-public-key-proof}
 use Rattle.protocol.proofs.Outcome.{write-refused, write-fits, write_done}
-use borrow.Author.Rules.{rules}
 use Rattle.public_key_proof.proofs.writer.encode_public_key_proof.Goals as goal
 
 pub overflow_add-result-in-Passed : goal.overflow_add-result-in-Passed

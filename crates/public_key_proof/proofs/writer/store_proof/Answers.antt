@@ -2,7 +2,6 @@
 use Rattle.octets.proofs.LayoutLaws.{store_numbers}
 use Rattle.public_key_proof.specs.Reading.{public_key_proof_head}
 use Rattle.public_key_proof.proofs.Form.{public-key-proof-parts-stored}
-use borrow.Author.Rules.{rules}
 use Rattle.public_key_proof.proofs.writer.store_proof.Goals as goal
 
 pub returns : goal.returns

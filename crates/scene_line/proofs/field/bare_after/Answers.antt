@@ -1,5 +1,4 @@
 -- `scene_line::field::bare_after` meets its contract. Assumes nothing.
-use borrow.Author.Rules.{rules}
 use Rattle.scene_line.proofs.field.bare_after.Goals as goal
 
 pub returns-in-TypeHash : goal.returns-in-TypeHash

@@ -1,5 +1,4 @@
 -- `scene_line::field::field_ok` meets its contract. Assumes nothing.
-use borrow.Author.Rules.{rules}
 use borrow.Author.Tests.{eq-eqb, ne_eqb, le-leb, lt-leb}
 use Rattle.scene_line.proofs.field.field_ok.Goals as goal
 

@@ -1,5 +1,4 @@
 -- `scene_line::field::hash_ok` meets its contract. Assumes nothing.
-use borrow.Author.Rules.{rules}
 use borrow.Author.Tests.{eq-eqb, ne_eqb}
 use Rattle.scene_line.proofs.field.hash_ok.Goals as goal
 

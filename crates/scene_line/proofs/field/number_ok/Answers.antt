@@ -1,6 +1,5 @@
 -- `scene_line::field::number_ok` meets its contract. Assumes nothing.
 use mathlib.Core.Path.{sym, ap, ◌∙◌}
-use borrow.Author.Rules.{rules}
 use Rattle.scene_line.specs.Line.{is_number}
 use Rattle.scene_line.proofs.field.number_ok.Goals as goal
 

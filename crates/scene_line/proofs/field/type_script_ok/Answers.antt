@@ -1,7 +1,6 @@
 -- `scene_line::field::type_script_ok` meets its contract. Assumes nothing.
 use native.Mathlib.Omega.{arith}
 use lib.ListN.{length}
-use borrow.Author.Rules.{rules}
 use borrow.Author.Tests.{lt-ltb, le-ltb}
 use Rattle.scene_line.proofs.field.type_script_ok.Goals as goal
 

@@ -1,6 +1,6 @@
 -- `scene_line::fields::check_fields` meets its contract: what the fields so far and the rest give is what all give. Assumes
 -- nothing.
-use Prim.Native.Nat.{◌+◌, ◌≤◌}
+use Prim.Native.Nat.{◌+◌}
 use mathlib.Core.Bool.{true, ◌&&◌, and-true}
 use mathlib.Core.Path.{◌≡◌, refl, ◌∙◌}
 use mathlib.Core.List.{[]}

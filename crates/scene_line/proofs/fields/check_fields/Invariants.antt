@@ -1,15 +1,11 @@
 -- `scene_line::fields::check_fields` meets its contract: what the fields so far and the rest give is what all give. Assumes
 -- nothing.
 use Prim.Native.Nat.{◌+◌, ◌≤◌}
-use mathlib.Core.Bool.{true, ◌&&◌, and-true}
-use mathlib.Core.Path.{◌≡◌, refl, ◌∙◌}
-use mathlib.Core.List.{[]}
-use native.Mathlib.Omega.{arith}
-use borrow.Author.Rules.{rules}
-use lib.ListN.{length, take}
+use mathlib.Core.Bool.{true, ◌&&◌}
+use mathlib.Core.Path.{◌≡◌}
+use lib.ListN.{length}
 use Rattle.text.specs.Text.{pieces, comma}
-use Rattle.scene_line.specs.Line.{field_ok, bare_after, forms_ok, field_bytes, line_bytes, fields_found}
-use Rattle.scene_line.proofs.FieldLaws.{forms-next, fields-length, bytes_on}
+use Rattle.scene_line.specs.Line.{forms_ok, line_bytes}
 use Rattle.scene_line.proofs.fields.check_fields.Given as goal
 
 abbrev pub invariant-loop-rest : goal.invariant-loop-rest

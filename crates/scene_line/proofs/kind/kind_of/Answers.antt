@@ -1,5 +1,4 @@
 -- `scene_line::kind::kind_of` meets its contract. Assumes nothing.
-use borrow.Author.Rules.{rules}
 use Rattle.scene_line.specs.Kind.{kind_of}
 use Rattle.scene_line.proofs.kind.kind_of.Goals as goal
 

@@ -1,6 +1,5 @@
 -- `scene_line::kind::line_kind` meets its contract. Assumes nothing.
 use mathlib.Core.Path.{◌≡◌, sym, ◌∙◌}
-use borrow.Author.Rules.{rules}
 use mathlib.Core.Bool.{true, false}
 use borrow.Author.Tests.{eq-eqb, ne_eqb, not-true, not-false}
 use Rattle.scene_line.specs.Kind.{rank, kind_of, follows, field_count, line_kind}

@@ -1,5 +1,4 @@
 -- `scene_line::kind::may_follow` meets its contract. Assumes nothing.
-use borrow.Author.Rules.{rules}
 use borrow.Author.Tests.{lt-ltb, le-ltb, le-leb, lt-leb}
 use Rattle.scene_line.specs.Kind.{follows}
 use Rattle.scene_line.proofs.kind.may_follow.Goals as goal

@@ -1,5 +1,4 @@
 -- `scene_table::places::bytes_place` meets its contract. Assumes nothing.
-use borrow.Author.Rules.{rules}
 use Rattle.scene_table.specs.Lent.{bytes_place}
 use Rattle.scene_table.proofs.places.bytes_place.Goals as goal
 

@@ -1,5 +1,4 @@
 -- `scene_table::places::cell_places` meets its contract. Assumes nothing.
-use borrow.Author.Rules.{rules}
 use Rattle.scene_table.specs.Lent.{cell_field_places}
 use Rattle.scene_table.proofs.places.cell_places.Goals as goal
 

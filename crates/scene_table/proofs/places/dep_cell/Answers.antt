@@ -1,6 +1,5 @@
 -- `scene_table::places::dep_cell` meets its contract. Assumes nothing.
 use Rattle.scene_table.specs.Places.{dep_places}
-use borrow.Author.Rules.{rules}
 use Rattle.scene_table.proofs.places.dep_cell.Goals as goal
 
 pub returns : goal.returns

@@ -1,7 +1,6 @@
 -- `scene_table::places::deps_at` meets its contract. Assumes nothing.
 use native.Mathlib.Omega.{arith}
 use Rattle.scene_table.specs.Lent.{deps_at}
-use borrow.Author.Rules.{rules}
 use Rattle.scene_table.proofs.places.deps_at.Goals as goal
 
 pub returns : goal.returns

@@ -1,5 +1,4 @@
 -- `scene_table::places::digit_count` meets its contract. Assumes nothing.
-use borrow.Author.Rules.{rules}
 use Rattle.scene_table.specs.Lent.{digit_count}
 use Rattle.scene_table.proofs.places.digit_count.Goals as goal
 

@@ -1,7 +1,6 @@
 -- `scene_table::places::input_cell` meets its contract. Assumes nothing.
 use Rattle.scene_table.specs.Lent.{inputs_at, input_record_places}
 use Rattle.scene_table.specs.Places.{input_at, input_places}
-use borrow.Author.Rules.{rules}
 use Rattle.scene_table.proofs.places.input_cell.Goals as goal
 
 pub returns : goal.returns

@@ -1,6 +1,5 @@
 -- `scene_table::places::output_capacity` meets its contract. Assumes nothing.
 use Rattle.scene_table.specs.Places.{output_at, output_capacity}
-use borrow.Author.Rules.{rules}
 use Rattle.scene_table.proofs.places.output_capacity.Goals as goal
 
 pub returns : goal.returns

@@ -1,6 +1,5 @@
 -- `scene_table::places::output_cell` meets its contract. Assumes nothing.
 use Rattle.scene_table.specs.Places.{output_at, output_places}
-use borrow.Author.Rules.{rules}
 use Rattle.scene_table.proofs.places.output_cell.Goals as goal
 
 pub returns : goal.returns

@@ -1,7 +1,6 @@
 -- `scene_table::places::outputs_at` meets its contract. Assumes nothing.
 use native.Mathlib.Omega.{arith}
 use Rattle.scene_table.specs.Lent.{inputs_at, outputs_at}
-use borrow.Author.Rules.{rules}
 use Rattle.scene_table.proofs.places.outputs_at.Goals as goal
 
 pub returns : goal.returns

@@ -1,5 +1,4 @@
 -- `scene_table::places::record_places` meets its contract. Assumes nothing.
-use borrow.Author.Rules.{rules}
 use Rattle.scene_table.specs.Lent.{cell_record_places}
 use Rattle.scene_table.proofs.places.record_places.Goals as goal
 

@@ -1,5 +1,4 @@
 -- `scene_table::places::script` meets its contract. Assumes nothing.
-use borrow.Author.Rules.{rules}
 use Rattle.scene_table.specs.Lent.{script_place}
 use Rattle.scene_table.proofs.places.script.Goals as goal
 

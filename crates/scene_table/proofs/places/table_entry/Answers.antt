@@ -2,7 +2,6 @@
 use mathlib.Core.Path.{refl, sym}
 use lib.ListN.{get_or-eq_default}
 use Rattle.scene_table.specs.Lent.{table_entry}
-use borrow.Author.Rules.{rules}
 use Rattle.scene_table.proofs.places.table_entry.Goals as goal
 
 pub returns-then-at-table : goal.returns-then-at-table

@@ -1,5 +1,4 @@
 -- `scene_table::places::transaction_hash` meets its contract. Assumes nothing.
-use borrow.Author.Rules.{rules}
 use Rattle.scene_table.specs.Lent.{transaction_place}
 use Rattle.scene_table.proofs.places.transaction_hash.Goals as goal
 

@@ -5,7 +5,6 @@ use native.Mathlib.Omega.{arith}
 use Rattle.scene_table.specs.Lent.{table_entry, verdicts_at, scene_from, blank_scene, digit_count, bytes_place, script_place, transaction_place}
 use Rattle.scene_table.specs.Places.{verdict_at, verdict_of}
 use Rattle.scene_table.proofs.Records.{record-nth, record-past}
-use borrow.Author.Rules.{rules}
 use Rattle.scene_table.proofs.places.verdict.Goals as goal
 
 pub returns-then-i-digit_count : goal.returns-then-i-digit_count

@@ -1,6 +1,5 @@
 -- `scene_table::places::witness` meets its contract. Assumes nothing.
 use Rattle.scene_table.specs.Places.{witness_place}
-use borrow.Author.Rules.{rules}
 use Rattle.scene_table.proofs.places.witness.Goals as goal
 
 pub returns : goal.returns

@@ -1,7 +1,6 @@
 -- `scene_table::places::witnesses_at` meets its contract. Assumes nothing.
 use native.Mathlib.Omega.{arith}
 use Rattle.scene_table.specs.Lent.{witnesses_at}
-use borrow.Author.Rules.{rules}
 use Rattle.scene_table.proofs.places.witnesses_at.Goals as goal
 
 pub returns : goal.returns

@@ -1,7 +1,6 @@
 -- `scene_table::validity::bytes_record` meets its contract. Assumes nothing.
 use Rattle.scene_table.specs.RecordsWalk.{record_step, any_record, bytes_size}
 use Rattle.scene_table.proofs.WalkLaws.{required-true}
-use borrow.Author.Rules.{rules}
 use Rattle.scene_table.proofs.validity.bytes_record.Goals as goal
 
 pub returns : goal.returns

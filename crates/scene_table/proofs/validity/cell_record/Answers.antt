@@ -1,7 +1,6 @@
 -- `scene_table::validity::cell_record` meets its contract. Assumes nothing.
 use Rattle.scene_table.specs.RecordsWalk.{record_step, any_record, cell_record_size}
 use Rattle.scene_table.proofs.WalkLaws.{required-true}
-use borrow.Author.Rules.{rules}
 use Rattle.scene_table.proofs.validity.cell_record.Goals as goal
 
 pub returns : goal.returns

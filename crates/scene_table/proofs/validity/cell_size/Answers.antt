@@ -1,7 +1,6 @@
 -- `scene_table::validity::cell_size` meets its contract. Assumes nothing.
 use native.Mathlib.Omega.{arith}
 use Rattle.scene_table.specs.RecordsWalk.{cell_size}
-use borrow.Author.Rules.{rules}
 use Rattle.scene_table.proofs.validity.cell_size.Goals as goal
 
 pub returns : goal.returns

@@ -1,6 +1,5 @@
 -- `scene_table::validity::counts_valid` meets its contract. Assumes nothing.
 use Rattle.scene_table.specs.RecordsWalk.{required, counts_ok}
-use borrow.Author.Rules.{rules}
 use Rattle.scene_table.proofs.validity.counts_valid.Goals as goal
 
 pub returns : goal.returns

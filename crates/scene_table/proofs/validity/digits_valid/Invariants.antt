@@ -1,15 +1,10 @@
 -- `scene_table::validity::digits_valid` meets its contract: the digits passed are good, so the rest decides. Assumes nothing.
-use mathlib.Core.Path.{◌≡◌, sym, ◌∙◌}
+use mathlib.Core.Path.{◌≡◌}
 use mathlib.Core.Bool.{Bool}
-use Prim.Native.Nat.{ℕ, ◌+◌, ◌-◌, ◌≤◌, ◌<◌}
-use native.Mathlib.Nat.{sub-zero, add-zero}
-use native.Mathlib.Omega.{arith}
-use borrow.Author.Tests.{le-ltb, lt-ltb}
+use Prim.Native.Nat.{ℕ, ◌+◌, ◌-◌, ◌≤◌}
 use lib.Dec.{ltb}
 use Rattle.octets.specs.Lists.{every}
 use Rattle.scene_table.specs.Lent.{table_entry, records_at}
-use Rattle.scene_table.proofs.WalkLaws.{digits-turn, digits-end}
-use borrow.Author.Rules.{rules}
 use Rattle.scene_table.proofs.validity.digits_valid.Given as goal
 
 abbrev pub good : ℕ → Bool

@@ -1,6 +1,5 @@
 -- `scene_table::validity::input_record` meets its contract. Assumes nothing.
 use Rattle.scene_table.specs.RecordsWalk.{record_step, group_ok, input_size}
-use borrow.Author.Rules.{rules}
 use Rattle.scene_table.proofs.validity.input_record.Goals as goal
 
 pub returns : goal.returns

@@ -1,5 +1,4 @@
 -- `scene_table::validity::record_of` meets its contract, by the form. Assumes nothing.
-use borrow.Author.Rules.{rules}
 use Rattle.scene_table.proofs.validity.record_of.Goals as goal
 
 pub returns-in-Bytes : goal.returns-in-Bytes

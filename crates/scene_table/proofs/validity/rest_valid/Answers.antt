@@ -1,7 +1,6 @@
 -- `scene_table::validity::rest_valid` meets its contract. Assumes nothing.
 use Rattle.scene_table.specs.Lent.{scene_from, blank_scene, digit_count, bytes_place, script_place, transaction_place}
 use Rattle.scene_table.specs.RecordsWalk.{required, zeros_behind, rest_ok}
-use borrow.Author.Rules.{rules}
 use Rattle.scene_table.proofs.validity.rest_valid.Goals as goal
 
 pub returns : goal.returns

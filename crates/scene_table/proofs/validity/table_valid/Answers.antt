@@ -4,7 +4,6 @@ use mathlib.Core.Bool.{true, false}
 use Rattle.scene_table.specs.Lent.{table_entry}
 use Rattle.scene_table.specs.RecordsWalk.{counts_ok}
 use Rattle.scene_table.proofs.WalkDecides.{decides}
-use borrow.Author.Rules.{rules}
 use Rattle.scene_table.proofs.validity.table_valid.Goals as goal
 
 pub returns-then-counts_valid : goal.returns-then-counts_valid

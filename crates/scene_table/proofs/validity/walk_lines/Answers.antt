@@ -1,7 +1,6 @@
 -- `scene_table::validity::walk_lines` meets its contract. Assumes nothing.
 use Rattle.scene_table.specs.Lent.{inputs_at}
 use Rattle.scene_table.specs.RecordsWalk.{records_start, walk_head, walk_inputs, walk_outputs, walk_deps, walk_witnesses, walk_lines}
-use borrow.Author.Rules.{rules}
 use Rattle.scene_table.proofs.validity.walk_lines.Goals as goal
 
 pub returns : goal.returns

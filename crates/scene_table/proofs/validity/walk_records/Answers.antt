@@ -1,11 +1,9 @@
 -- `scene_table::validity::walk_records` meets its contract: what is left to walk gives the whole. Assumes nothing.
-use mathlib.Core.Path.{◌≡◌, sym, ◌∙◌}
-use Prim.Native.Nat.{◌+◌, ◌-◌, ◌*◌, ◌≤◌}
+use mathlib.Core.Path.{sym, ◌∙◌}
 use native.Mathlib.Nat.{sub-zero}
 use native.Mathlib.Omega.{arith}
-use Rattle.scene_table.specs.RecordsWalk.{walk_records, record_ok, record_size}
+use Rattle.scene_table.specs.RecordsWalk.{record_ok, record_size}
 use Rattle.scene_table.proofs.WalkLaws.{walk_turn, walk_end}
-use borrow.Author.Rules.{rules}
 use Rattle.scene_table.proofs.validity.walk_records.Goals as goal
 
 pub loop-i-preserved : goal.loop-i-preserved

@@ -1,11 +1,7 @@
 -- `scene_table::validity::walk_records` meets its contract: what is left to walk gives the whole. Assumes nothing.
-use mathlib.Core.Path.{◌≡◌, sym, ◌∙◌}
+use mathlib.Core.Path.{◌≡◌}
 use Prim.Native.Nat.{◌+◌, ◌-◌, ◌*◌, ◌≤◌}
-use native.Mathlib.Nat.{sub-zero}
-use native.Mathlib.Omega.{arith}
 use Rattle.scene_table.specs.RecordsWalk.{walk_records, record_ok, record_size}
-use Rattle.scene_table.proofs.WalkLaws.{walk_turn, walk_end}
-use borrow.Author.Rules.{rules}
 use Rattle.scene_table.proofs.validity.walk_records.Given as goal
 
 abbrev pub invariant-loop-i : goal.invariant-loop-i

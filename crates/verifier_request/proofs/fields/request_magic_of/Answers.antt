@@ -1,5 +1,4 @@
 -- `verifier_request::fields::request_magic_of` meets its contract. Assumes nothing.
-use borrow.Author.Rules.{rules}
 use Rattle.verifier_request.proofs.fields.request_magic_of.Goals as goal
 
 pub returns : goal.returns

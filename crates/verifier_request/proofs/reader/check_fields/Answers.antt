@@ -1,7 +1,6 @@
 -- `verifier_request::reader::check_fields` meets its contract: the rows, last to first. Assumes nothing.
 use Rattle.protocol.specs.Rows.{decide}
 use Rattle.verifier_request.specs.Reader.{request_field_rows}
-use borrow.Author.Rules.{rules}
 use Rattle.verifier_request.proofs.reader.check_fields.Goals as goal
 
 pub returns : goal.returns

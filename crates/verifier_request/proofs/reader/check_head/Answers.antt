@@ -1,7 +1,6 @@
 -- `verifier_request::reader::check_head` meets its contract: the rows, last to first. Assumes nothing.
 use Rattle.protocol.specs.Rows.{decide}
 use Rattle.verifier_request.specs.Reader.{request_header_rows}
-use borrow.Author.Rules.{rules}
 use Rattle.verifier_request.proofs.reader.check_head.Goals as goal
 
 pub returns : goal.returns

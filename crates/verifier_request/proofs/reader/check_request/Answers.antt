@@ -4,7 +4,6 @@ use Rattle.protocol.specs.Rows.{decide}
 use Rattle.protocol.specs.declared.check.Check.TheVariants.{Passed}
 use Rattle.protocol.proofs.AllPass.{decide-append, decide-then}
 use Rattle.verifier_request.specs.Reader.{request_header_rows, request_field_rows, request_rows, request_fault}
-use borrow.Author.Rules.{rules}
 use Rattle.verifier_request.proofs.reader.check_request.Goals as goal
 
 pub returns : goal.returns

@@ -1,6 +1,5 @@
 -- `verifier_request::reader::fields_at` meets its contract: each field is its read. Assumes nothing.
 use Rattle.verifier_request.specs.Reader.{request_fields_of}
-use borrow.Author.Rules.{rules}
 use Rattle.verifier_request.proofs.reader.fields_at.Goals as goal
 
 pub returns : goal.returns

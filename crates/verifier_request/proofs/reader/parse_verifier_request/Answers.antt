@@ -1,7 +1,6 @@
 -- `verifier_request::reader::parse_verifier_request` meets its contract, by what the checks find. Assumes nothing.
 use mathlib.Core.Path.{sym, ◌∙◌}
 use Rattle.verifier_request.specs.Reader.{read_request, request_answer}
-use borrow.Author.Rules.{rules}
 use Rattle.verifier_request.proofs.reader.parse_verifier_request.Goals as goal
 
 pub returns-in-Failed : goal.returns-in-Failed

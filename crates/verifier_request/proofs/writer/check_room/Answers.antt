@@ -2,7 +2,6 @@
 use Rattle.protocol.specs.Rows.{decide}
 use Rattle.protocol.specs.Write.{write_fault}
 use Rattle.verifier_request.specs.Writer.{request_writer_limit_rows}
-use borrow.Author.Rules.{rules}
 use Rattle.verifier_request.proofs.writer.check_room.Goals as goal
 
 pub returns : goal.returns

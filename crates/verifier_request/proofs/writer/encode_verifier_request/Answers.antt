@@ -4,7 +4,6 @@ use Rattle.verifier_request.specs.Reading.{RequestReading, request_with, request
 use Rattle.verifier_request.specs.Writer.{request_writer_rows, request_total, request_writer_fault, request_written, request_stored}
 use Rattle.verifier_request.proofs.Form.{RequestSized, length-request}
 use Rattle.protocol.proofs.Outcome.{write-refused, write-fits, write_done}
-use borrow.Author.Rules.{rules}
 use Rattle.verifier_request.proofs.writer.encode_verifier_request.Goals as goal
 
 pub overflow_add-result-in-Passed : goal.overflow_add-result-in-Passed

@@ -2,7 +2,6 @@
 use native.Mathlib.Omega.{arith}
 use Rattle.octets.proofs.LayoutLaws.{store_numbers, numbers-stored}
 use Rattle.verifier_request.specs.Reading.{request_head}
-use borrow.Author.Rules.{rules}
 use Rattle.verifier_request.proofs.writer.store_head.Goals as goal
 
 pub shape_of-out : goal.shape_of-out

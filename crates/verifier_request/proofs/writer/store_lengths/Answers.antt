@@ -1,7 +1,6 @@
 -- `verifier_request::writer::store_lengths` meets its contract: the numbers of a table stored one behind another. Assumes nothing.
 use Rattle.octets.proofs.LayoutLaws.{store_numbers, numbers-stored}
 use Rattle.verifier_request.specs.Reading.{request_lengths}
-use borrow.Author.Rules.{rules}
 use Rattle.verifier_request.proofs.writer.store_lengths.Goals as goal
 
 pub returns : goal.returns

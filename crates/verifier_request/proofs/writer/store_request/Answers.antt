@@ -2,7 +2,6 @@
 use native.Mathlib.Omega.{arith}
 use Rattle.verifier_request.specs.Reading.{RequestReading, request_with}
 use Rattle.verifier_request.proofs.Form.{RequestSized, request-parts-stored}
-use borrow.Author.Rules.{rules}
 use Rattle.verifier_request.proofs.writer.store_request.Goals as goal
 
 pub overflow_add-aux : goal.overflow_add-aux

@@ -1,6 +1,5 @@
 -- `scene_table::validity::RecordsWalk::next_record` meets its contract. Assumes nothing.
 use Rattle.scene_table.specs.RecordsWalk.{required, with_record}
-use borrow.Author.Rules.{rules}
 use Rattle.scene_table.proofs.validity.RecordsWalk.next_record.Goals as goal
 
 pub returns : goal.returns
