@@ -14,7 +14,6 @@ use Rattle.account_state.specs.Fields.{entry_length_of, entry_slot_of}
 use Rattle.account_state.specs.Reading.{entry_of, entries_of, state_entries}
 use Rattle.quorum.specs.Slots.{known_slot, entry_for, no_entry}
 use Rattle.quorum.specs.Places.{place_from, entry_place, is_known, entry_in}
-use Rattle.quorum.specs.declared.slot.EntryPlace.{EntryPlace}
 use Rattle.quorum.specs.declared.slot.EntryPlace.TheVariants.{At, Missing}
 
 -- no bytes read as no entry

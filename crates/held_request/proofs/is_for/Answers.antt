@@ -3,7 +3,6 @@
 use mathlib.Core.Path.{sym}
 use borrow.Author.Tests.{eq-eqb, ne_eqb}
 use Rattle.held_request.specs.Held.{is_for}
-use borrow.Author.Rules.{rules}
 use Rattle.held_request.proofs.is_for.Goals as goal
 
 pub returns-then-request_refusal_of-eq0 : goal.returns-then-request_refusal_of-eq0

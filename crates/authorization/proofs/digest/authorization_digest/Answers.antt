@@ -7,7 +7,6 @@ use Rattle.protocol.specs.Rows.{decide}
 use Rattle.protocol.specs.declared.check.Check.TheVariants.{Passed}
 use Rattle.authorization.specs.declared.digest.AuthorizationDigest.{AuthorizationDigest}
 use Rattle.authorization.specs.Digest.{digest_answer, authorization_of}
-use borrow.Author.Rules.{rules}
 use Rattle.authorization.proofs.digest.authorization_digest.Goals as goal
 
 -- equal but for how the digest is written

@@ -3,7 +3,6 @@ use Rattle.octets.specs.Le.{to_le}
 use Rattle.blake2b.proofs.Chain.{fed-none, fed-more}
 use Rattle.authorization.specs.Digest.{auth_domain, digest_head}
 use mathlib.Core.List.{[], ◌∷◌}
-use borrow.Author.Rules.{rules}
 use Rattle.authorization.proofs.digest.feed_head.Goals as goal
 
 pub returns : goal.returns

@@ -8,7 +8,6 @@ use native.Mathlib.Omega.{arith}
 use Rattle.octets.specs.Le.{to_le}
 use Rattle.octets.proofs.LeLaws.{length_to}
 use Rattle.octets.proofs.Stores.{sets_over}
-use borrow.Author.Rules.{rules}
 use Rattle.authorization.proofs.number.u64_bytes.Goals as goal
 
 pub returns : goal.returns

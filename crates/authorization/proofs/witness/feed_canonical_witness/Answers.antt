@@ -5,7 +5,6 @@ use lib.ListN.{length}
 use Rattle.molecule.specs.Table3.{field2, field3}
 use Rattle.molecule.proofs.CanonicalForm.{fields_within}
 use Rattle.authorization.proofs.Feeding.{parts-fed}
-use borrow.Author.Rules.{rules}
 use Rattle.authorization.proofs.witness.feed_canonical_witness.Goals as goal
 
 pub overflow_add-second-2 : goal.overflow_add-second-2

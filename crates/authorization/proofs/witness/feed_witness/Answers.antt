@@ -2,7 +2,6 @@
 use Rattle.octets.specs.Le.{to_le}
 use Rattle.blake2b.proofs.Feed.{fed-append}
 use Rattle.authorization.specs.Hashed.{hashed_witness}
-use borrow.Author.Rules.{rules}
 use Rattle.authorization.proofs.witness.feed_witness.Goals as goal
 
 pub returns : goal.returns

@@ -1,7 +1,6 @@
 -- `held_request::places::read_places` meets its contract, by the reader's answer. Assumes nothing.
 use mathlib.Core.Path.{sym, ◌∙◌}
 use Rattle.held_request.specs.Held.{request_places_of}
-use borrow.Author.Rules.{rules}
 use Rattle.held_request.proofs.places.read_places.Goals as goal
 
 pub returns-in-Refused : goal.returns-in-Refused

@@ -5,7 +5,6 @@ use Rattle.protocol.specs.Policy.{has_capability}
 use Rattle.protocol.specs.declared.policy.OperationCapability.{OperationCapability}
 use Rattle.quorum.specs.Operation.{has_bit, capable}
 use Rattle.quorum.proofs.OperationLaws.{bit-above}
-use borrow.Author.Rules.{rules}
 use Rattle.quorum.proofs.operation.is_capable.Goals as goal
 
 pub nonzero_div-result : goal.nonzero_div-result

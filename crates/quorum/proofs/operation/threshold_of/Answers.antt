@@ -1,7 +1,6 @@
 -- `quorum::operation::threshold_of` meets its contract, by the operation. Assumes nothing.
 use borrow.Author.Tests.{ne_eqb}
 use Rattle.quorum.specs.Operation.{threshold_of}
-use borrow.Author.Rules.{rules}
 use Rattle.quorum.proofs.operation.threshold_of.Goals as goal
 
 pub returns-in-1 : goal.returns-in-1

@@ -1,5 +1,4 @@
 -- `quorum::slot::entry_in` meets its contract, by whether there is an entry. Assumes nothing.
-use borrow.Author.Rules.{rules}
 use Rattle.quorum.proofs.slot.entry_in.Goals as goal
 
 pub returns-in-At : goal.returns-in-At

@@ -1,9 +1,8 @@
 -- `quorum::slot::find_authenticator` meets its contract: what is left to look at gives the whole. Assumes nothing.
 use mathlib.Core.Path.{sym, ◌∙◌}
 use native.Mathlib.Omega.{arith}
-use Rattle.quorum.proofs.PlaceLaws.{Seeking, seek_hit, seek-next, seek-none}
+use Rattle.quorum.proofs.PlaceLaws.{seek_hit, seek-next, seek-none}
 use Rattle.quorum.specs.Places.{entry_place}
-use borrow.Author.Rules.{rules}
 use Rattle.quorum.proofs.slot.find_authenticator.Goals as goal
 
 pub loop-left-init : goal.loop-left-init
