@@ -2,7 +2,6 @@
 use Rattle.account_lock.specs.Lock.{answer_of}
 use Rattle.exports_lock.specs.Stored.{room_number, room_after}
 use Rattle.exports_lock.proofs.Room.{room-yes, room-no}
-use borrow.Author.Rules.{rules}
 use Rattle.exports_lock.proofs.fowlcredenza_decide_scene.Goals as goal
 
 pub returns-then-out-lt-ANSWER_LEN : goal.returns-then-out-lt-ANSWER_LEN

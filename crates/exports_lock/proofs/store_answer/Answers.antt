@@ -4,7 +4,6 @@ use mathlib.Core.Bool.{Bool, true, false, cond}
 use mir.Val.{bool_byte}
 use Rattle.exports_lock.specs.Stored.{answer_words}
 use Rattle.exports_lock.proofs.Room.{stored-behind}
-use borrow.Author.Rules.{rules}
 use Rattle.exports_lock.proofs.store_answer.Goals as goal
 
 -- the number of a test

@@ -13,20 +13,21 @@ use Rattle.account_state_writer.proofs.check.lent_within.Goals as goal
 pub loop-i-init : goal.loop-i-init
 loop-i-init c = (omega arith, rw sub-zero)
 
+-- an aux within the limit leaves it to the rest
+pub loop-i-preserved : goal.loop-i-preserved
+loop-i-preserved c =
+    let l = c.loop-i in
+    let a = c.args in
+    let t = within-turn a.fields.now a.count l.i (omega arith) in
+    (omega arith, sym (rw (le-leb (lent_aux_length_at a.fields.now l.i) aux_max_length (omega arith)) at t) ∙ l.invariant.1)
+
 -- an aux above the limit decides
 pub returns-then-aux-gt-ACCOUNT_STATE_MAX_AUX_LEN : goal.returns-then-aux-gt-ACCOUNT_STATE_MAX_AUX_LEN
 returns-then-aux-gt-ACCOUNT_STATE_MAX_AUX_LEN c =
     let l = c.loop-i in
     let a = c.args in
     let t = within-turn a.fields.now a.count l.i (omega arith) in
-    sym (rw (lt-leb (lent_aux_length_at a.fields.now l.i) aux_max_length c.if-aux-gt-ACCOUNT_STATE_MAX_AUX_LEN.true) at t) ∙ l.invariant.1
-
-pub loop-i-preserved : goal.loop-i-preserved
-loop-i-preserved c =
-    let l = c.loop-i in
-    let a = c.args in
-    let t = within-turn a.fields.now a.count l.i (omega arith) in
-    (omega arith, sym (rw (le-leb (lent_aux_length_at a.fields.now l.i) aux_max_length c.if-aux-gt-ACCOUNT_STATE_MAX_AUX_LEN.false) at t) ∙ l.invariant.1)
+    sym (rw (lt-leb (lent_aux_length_at a.fields.now l.i) aux_max_length (omega arith)) at t) ∙ l.invariant.1
 
 pub returns : goal.returns
 returns c =
