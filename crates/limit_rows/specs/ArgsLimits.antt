@@ -28,18 +28,3 @@ pub record ArgsLimits : Type 0 where
   pub rotate : capability_for 2 ≡ Capability 2
   pub recovery : capability_for 3 ≡ Capability 4
   pub others : map needed_number (0 ∷ 4 ∷ []) ≡ 37 ∷ 37 ∷ []
-
-pub args-limits : ArgsLimits
-unfolding from_le number_at tabulate ◌▷◌ decide args_rows args_answer read_args account_of is_operation operation_rows capability_for has_capability
-args-limits =
-    record {
-      of-33 = λ id h. rw h;
-      of-34 = λ s h. rw h;
-      first-byte-0 = λ id h. rw h;
-      account = refl;
-      operations = refl;
-      spend = refl;
-      rotate = refl;
-      recovery = refl;
-      others = refl;
-    }

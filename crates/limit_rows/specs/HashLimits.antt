@@ -40,16 +40,3 @@ pub record HashLimits : Type 0 where
   -- "Each witness is preceded by its length as u64."
   pub sighash-input : sighash_input (1 ∷ []) (2 ∷ 3 ∷ []) ((4 ∷ []) ∷ [] ∷ []) ≡
       1 ∷ 2 ∷ 0 ∷ 0 ∷ 0 ∷ 0 ∷ 0 ∷ 0 ∷ 0 ∷ 2 ∷ 3 ∷ 1 ∷ 0 ∷ 0 ∷ 0 ∷ 0 ∷ 0 ∷ 0 ∷ 0 ∷ 4 ∷ replicate 8 0
-
-pub hash-limits : HashLimits
-unfolding to_le from_le number_at same tabulate joined ◌▷◌ decide rotr words_of bytes_of IV SIGMA add turn G mixed round row_of rounds xor_at flagged work_vector halves F start_words zero_padded block_of chained last_of hash_words hash_of ckb_parameters ckb_hash auth_domain digest_head digest_input hashed_witness hashed_witnesses sighash_input hash_agrees cell_hash_rows empty_hash
-hash-limits =
-    record {
-      ckb-empty = refl;
-      ckb-129 = refl;
-      no-data = refl;
-      type-differs = refl;
-      data-differs = refl;
-      digest-input = refl;
-      sighash-input = refl;
-    }

@@ -33,16 +33,3 @@ pub record LockLimits : Type 0 where
   pub accepted : line_of 0 1 98 true (0x0a ∷ 0xbc ∷ []) 7 ≡ 97 ∷ 110 ∷ 115 ∷ 119 ∷ 101 ∷ 114 ∷ 44 ∷ 48 ∷ 44 ∷ 49 ∷ 44 ∷ 57 ∷ 56 ∷ 44 ∷ 48 ∷ 97 ∷ 98 ∷ 99 ∷ 44 ∷ 55 ∷ 10 ∷ []
   pub unsatisfied : line_of 28 0 0 true (0x0a ∷ 0xbc ∷ []) 0 ≡ 97 ∷ 110 ∷ 115 ∷ 119 ∷ 101 ∷ 114 ∷ 44 ∷ 50 ∷ 56 ∷ 44 ∷ 48 ∷ 44 ∷ 48 ∷ 44 ∷ 48 ∷ 97 ∷ 98 ∷ 99 ∷ 44 ∷ 10 ∷ []
   pub unreached : line_of 22 0 0 false (0x0a ∷ 0xbc ∷ []) 0 ≡ 97 ∷ 110 ∷ 115 ∷ 119 ∷ 101 ∷ 114 ∷ 44 ∷ 50 ∷ 50 ∷ 44 ∷ 48 ∷ 44 ∷ 48 ∷ 44 ∷ 44 ∷ 10 ∷ []
-
-pub lock-limits : LockLimits
-unfolding to_le from_le number_at bytes_at ◌▷◌ decide args_rows account_of table_rows between field3 bytes_rows bytes_place_from place_answer script_args_rows read_script_args bytes_in parted_by line_text digit_text hex_text decimal_text args_in account_in script_rows answer_word number_text digest_text fee_text line_of program_decides table_with script_with
-lock-limits =
-    record {
-      scripts = refl;
-      account = refl;
-      program-65536 = λ scene h. rw h;
-      program-65537 = λ scene h. rw h;
-      accepted = refl;
-      unsatisfied = refl;
-      unreached = refl;
-    }

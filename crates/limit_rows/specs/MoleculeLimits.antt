@@ -59,21 +59,3 @@ pub record MoleculeLimits : Type 0 where
   pub args-length : args_field_number [] ∷ args_field_number (0 ∷ 0 ∷ 0 ∷ 0 ∷ 7 ∷ []) ∷ args_field_number (1 ∷ 0 ∷ 0 ∷ 0 ∷ 7 ∷ []) ∷ args_field_number (2 ∷ 0 ∷ 0 ∷ 0 ∷ 7 ∷ []) ∷ [] ≡ 20 ∷ 20 ∷ 0 ∷ 20 ∷ []
   -- "the lock field becomes an empty Bytes, fields 2 and 3 are copied"
   pub canonical : canonical_of three_fields ≡ table_with 33 16 20 26 ((0 ∷ 0 ∷ 0 ∷ 0 ∷ []) ++ (2 ∷ 0 ∷ 0 ∷ 0 ∷ 8 ∷ 9 ∷ []) ++ (3 ∷ 0 ∷ 0 ∷ 0 ∷ 10 ∷ 11 ∷ 12 ∷ []))
-
-pub molecule-limits : MoleculeLimits
-unfolding to_le from_le number_at joined layout_bytes bytes_at ◌▷◌ decide bytes_vector offsets_from head_size table_head table_bytes table_rows table_fields_of table_answer read_table between field1 field2 field3 bytes_rows bytes_place_from place_answer read_bytes witness_lock_rows read_witness_lock script_args_rows read_script_args bytes_in canonical_of table_with three_fields
-molecule-limits =
-    record {
-      of-15 = λ s h. rw h;
-      total = refl;
-      first = refl;
-      offsets = refl;
-      places = refl;
-      fields = refl;
-      lock = refl;
-      args = refl;
-      locks = refl;
-      lock-length = refl;
-      args-length = refl;
-      canonical = refl;
-    }

@@ -105,36 +105,3 @@ pub record RequestLimits : Type 0 where
   pub parts-65535 : (key signature : List ℕ) → length key ≡ 65535 → length signature ≡ 65535 → key_writer_number key signature ≡ 0
   pub key-65536 : (key : List ℕ) → length key ≡ 65536 → key_writer_number key (1 ∷ []) ≡ 39
   pub signature-65536 : (signature : List ℕ) → length signature ≡ 65536 → key_writer_number (1 ∷ []) signature ≡ 39
-
-pub request-limits : RequestLimits
-unfolding to_le from_le number_at tabulate ◌▷◌ decide is_operation request_header_rows request_field_rows request_rows request_fault request_fields_of request_answer read_request request_given request_reading request_writer_limit_rows public_key_proof_rows public_key_proof_fault public_key_proof_places public_key_proof_answer read_public_key_proof public_key_proof_given public_key_proof_reading public_key_proof_writer_rows request_front request_places
-request-limits =
-    record {
-      of-95 = λ s h. rw h;
-      of-96 = refl;
-      of-69728 = λ rest h. rw h;
-      of-69729 = λ s h. rw h;
-      aux-4096 = λ rest h. rw h;
-      aux-4097 = λ rest h. rw h;
-      proof-65536 = λ rest h. rw h;
-      proof-65537 = λ rest h. rw h;
-      totals = refl;
-      letters = refl;
-      abi = refl;
-      byte-5 = refl;
-      header-length = refl;
-      operations = refl;
-      zeros = refl;
-      places-read = refl;
-      places = refl;
-      written-operations = refl;
-      written-lengths = refl;
-      key-version = refl;
-      key-empty = refl;
-      key_more = refl;
-      key-high = refl;
-      key-places = refl;
-      parts-65535 = λ key signature h k. rw (h, k);
-      key-65536 = λ key h. rw h;
-      signature-65536 = λ signature h. rw h;
-    }

@@ -45,23 +45,3 @@ pub record SinceLimits : Type 0 where
   pub numbers : wait_number (in_epoch 5 0 1) (in_epoch 4 9 10) ∷ wait_number (in_epoch 4 9 10) (in_epoch 5 0 1) ∷ [] ≡ 34 ∷ 0 ∷ []
   pub fractions : wait_number (in_epoch 5 1 2) (in_epoch 5 2 4) ∷ wait_number (in_epoch 5 2 4) (in_epoch 5 1 2) ∷ wait_number (in_epoch 5 1 2) (in_epoch 5 2 5) ∷ wait_number (in_epoch 5 1 2) (in_epoch 5 3 5) ∷ [] ≡ 0 ∷ 0 ∷ 34 ∷ 0 ∷ []
   pub zero : wait_number (in_epoch 5 0 0) (in_epoch 5 0 7) ∷ wait_number (in_epoch 5 0 7) (in_epoch 5 0 0) ∷ wait_number (in_epoch 5 1 7) (in_epoch 5 0 0) ∷ wait_number (in_epoch 5 0 0) (in_epoch 4 6 7) ∷ [] ≡ 0 ∷ 0 ∷ 34 ∷ 34 ∷ []
-
-pub since-limits : SinceLimits
-unfolding ◌▷◌ decide epoch_of epoch_well_formed divisor parts epoch_leb since_fields in_epochs well_formed value_leb reached wait_rows
-since-limits =
-    record {
-      fields = refl;
-      epoch = refl;
-      reserved = refl;
-      highest = refl;
-      metrics = refl;
-      indices = refl;
-      either = refl;
-      no-wait = refl;
-      disagree = refl;
-      blocks = refl;
-      seconds = refl;
-      numbers = refl;
-      fractions = refl;
-      zero = refl;
-    }

@@ -127,27 +127,3 @@ pub record TransitionLimits : Type 0 where
   -- "recovery off; since too low", 29; 34: flag 1, and recovery_since of the current state
   pub recovery : by_recovery 0 0 0 0 ∷ by_recovery 2 0 0 0 ∷ by_recovery 1 1 0 0 ∷ by_recovery 3 1 0 0 ∷ [] ≡ 29 ∷ 29 ∷ 0 ∷ 0 ∷ []
   pub waits : by_recovery 1 1 10 9 ∷ by_recovery 1 1 10 10 ∷ by_recovery 1 1 (2 ^ 56) 10 ∷ [] ≡ 34 ∷ 0 ∷ 42 ∷ []
-
-pub transition-limits : TransitionLimits
-unfolding to_le from_le number_at same every ◌▷◌ decide is_supported_algorithm has_capability entry_of entries_of state_reading capable_share capable_weight state_header_rows entry_layout_rows entry_field_rows original_entry_rows entry_rows entries_rows behind_entries recovery_threshold_rows threshold_rows state_end_rows summary_of state_tail_rows state_rows cells_of cell_hash matching matches search_of cell_search no_cell cell_at epoch_of epoch_well_formed divisor parts epoch_leb since_fields in_epochs well_formed value_leb reached state_indices state_index state_cell spend_rows type_rows change_rows resolve_rows state_source current_state successor_state no_input state_since session_free data_rows current_rows successor_rows wait_rows recovery_rows succession_rows transition_rows entry_with state_at
-transition-limits =
-    record {
-      spends = refl;
-      rotations = refl;
-      recoveries = refl;
-      current = refl;
-      successor = refl;
-      input-since = refl;
-      type-512 = refl;
-      type-513 = λ script h. rw h;
-      type-differs = refl;
-      data-16384 = λ state h. rw h;
-      data-16385 = λ state h. rw h;
-      successor-16385 = λ state h. rw h;
-      witness-sequence = refl;
-      successor-sequence = refl;
-      last-sequence = refl;
-      sessions = refl;
-      recovery = refl;
-      waits = refl;
-    }

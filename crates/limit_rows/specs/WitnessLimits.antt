@@ -86,26 +86,3 @@ pub record WitnessLimits : Type 0 where
   -- each field at its place, the sequence at bytes 8 to 15
   pub places-read : read_number witness_places ≡ 0
   pub places : witness_reading witness_places ≡ record { operation = 3; sequence = 0x0807060504030201; proofs = record { slot = 0x0a09; bytes = 11 ∷ [] } ∷ record { slot = 0x0d0c; bytes = 14 ∷ 15 ∷ [] } ∷ [] }
-
-pub witness-limits : WitnessLimits
-unfolding from_le number_at tabulate ◌▷◌ decide is_operation witness_header_rows witness_header_of witness_header_answer read_witness_header proof_given proofs_of witness_reading proof_layout_rows proof_at proofs_layout_rows witness_rows witness_fault witness_answer read_witness witness_front proof_with proofs_up_to witness_places
-witness-limits =
-    record {
-      of-15 = λ s h. rw h;
-      of-16 = refl;
-      of-131072 = λ rest h. rw h;
-      of-131073 = λ rest h. rw h;
-      letters = refl;
-      versions = refl;
-      operations = refl;
-      byte-7 = refl;
-      header-counts = refl;
-      counts = refl;
-      zeros = refl;
-      empty = refl;
-      high-length = refl;
-      slots = refl;
-      byte-behind = refl;
-      places-read = refl;
-      places = refl;
-    }

@@ -36,9 +36,12 @@ one-of-member (m ∷ ms) n h = go (eqb n m) refl (one-of-member ms n) h
     go true e later t = Memᴰ.head (eqb-true n m e)
     go false e later t = Memᴰ.tail (later t)
 
+one-of-of-member : (n : ℕ) (ns : List ℕ) → Memᴰ n ns → one_of ns n ≡ true
+one-of-of-member n ns (Memᴰ.head {x} {xs} e) = or_left (eqb n x) (one_of xs n) (eq-eqb n x e)
+one-of-of-member n ns (Memᴰ.tail {x} {xs} m) = or_right (eqb n x) (one_of xs n) (one-of-of-member n xs m)
+
 pub member-one-of : (ns : List ℕ) (n : ℕ) → Memᴰ n ns → one_of ns n ≡ true
-member-one-of ns n (Memᴰ.head {x} {xs} e) = or_left (eqb n x) (one_of xs n) (eq-eqb n x e)
-member-one-of ns n (Memᴰ.tail {x} {xs} m) = or_right (eqb n x) (one_of xs n) (member-one-of xs n m)
+member-one-of ns n m = one-of-of-member n ns m
 
 -- a number of the list is none that is not
 pub not-one-of : (ns : List ℕ) (m n : ℕ) → one_of ns m ≡ true → one_of ns n ≡ false → m ≢ n

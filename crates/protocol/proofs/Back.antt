@@ -11,7 +11,6 @@ use Rattle.protocol.specs.Rows.{Row, row, ◌▷◌, decide, AllPass}
 use Rattle.protocol.specs.Write.{write_fault, write_answer, after_write}
 use Rattle.protocol.specs.Reading.{WritesBack}
 use Rattle.protocol.specs.declared.error.ProtocolError.TheVariants.{BufferTooShort}
-use Rattle.protocol.specs.declared.check.Check.{Check}
 use Rattle.protocol.specs.declared.check.Check.TheVariants.{Passed, Failed}
 use Rattle.protocol.proofs.AllPass.{decide-append, all-pass-passed, passed-all-pass, all-pass-split}
 

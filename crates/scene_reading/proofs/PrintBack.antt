@@ -46,6 +46,7 @@ record Parted (ls : List (List ℕ)) (ks js : List Kind) : Type 0 where
 
 parted : (ls : List (List ℕ)) (ks js : List Kind) → EachPasses ls (ks ++ js) → Parted ls ks js
 parted ls [] js p = record { first = []; rest = ls; whole = refl; firsts = none; rests = p }
+parted [] (k ∷ ks) js p = elim p [ ]
 parted (l ∷ ls) (k ∷ ks) js (more a p) =
     let q = parted ls ks js p in
     record { first = l ∷ q.first; rest = q.rest; whole = ap (λ (r : List (List ℕ)). l ∷ r) q.whole; firsts = more a q.firsts; rests = q.rests }

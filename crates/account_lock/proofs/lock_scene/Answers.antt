@@ -16,31 +16,28 @@ use Rattle.account_lock.proofs.LockLaws.{script-account, scene-refused, scene-la
 use borrow.Author.Rules.{rules}
 use Rattle.account_lock.proofs.lock_scene.Goals as goal
 
--- where the function begins, and the scene that is lent
-abbrev begun : tie.After-and2 → tie.Start
-begun c = c.before.before.before.before.before.before.before.before.before.before.before
+-- the scene that is lent
+abbrev scene-1 : (c : goal.After-refused) → Scene
+scene-1 c = scene_in c.args.table.now c.args.store.now
 
-scene-1 : (c : goal.After-refused) → Scene
-scene-1 c = scene_in (begun-1 c).args.table.now (begun-1 c).args.store.now
+abbrev scene-2 : (c : goal.After-lock_account-arg-1) → Scene
+scene-2 c = scene_in c.args.table.now c.args.store.now
 
-scene-2 : (c : goal.After-lock_account-arg-1) → Scene
-scene-2 c = scene_in (begun-2 c).args.table.now (begun-2 c).args.store.now
-
-scene-3 : (c : goal.After-slice_known-in-Passed-1) → Scene
-scene-3 c = scene_in (begun-3 c).args.table.now (begun-3 c).args.store.now
+abbrev scene-3 : (c : goal.After-slice_known-in-Passed-1) → Scene
+scene-3 c = scene_in c.args.table.now c.args.store.now
 
 -- the script is the scene's
 own-1 : (c : goal.After-refused) → c.part_at-script.result.now ≡ (scene-1 c).script
 own-1 c =
-    rw c.script.ensures at c.part_at-script.ensures ∙ sym (lent-given (begun-1 c).args.table.now (begun-1 c).args.store.now).script
+    rw c.script.ensures at c.part_at-script.ensures ∙ sym (lent-given c.args.table.now c.args.store.now).script
 
 own-2 : (c : goal.After-lock_account-arg-1) → c.part_at-script.result.now ≡ (scene-2 c).script
 own-2 c =
-    rw c.script.ensures at c.part_at-script.ensures ∙ sym (lent-given (begun-2 c).args.table.now (begun-2 c).args.store.now).script
+    rw c.script.ensures at c.part_at-script.ensures ∙ sym (lent-given c.args.table.now c.args.store.now).script
 
 own-3 : (c : goal.After-slice_known-in-Passed-1) → c.part_at-script.result.now ≡ (scene-3 c).script
 own-3 c =
-    rw c.script.ensures at c.part_at-script.ensures ∙ sym (lent-given (begun-3 c).args.table.now (begun-3 c).args.store.now).script
+    rw c.script.ensures at c.part_at-script.ensures ∙ sym (lent-given c.args.table.now c.args.store.now).script
 
 -- what the rows of the hashes, the script and the group find
 hashes-found-1 : (c : goal.After-refused) → c.check_hashes.result ≡ decide Passed (hash_rows (scene-1 c))
@@ -106,7 +103,7 @@ lock_account-requires c =
 pub returns-in-Failed : goal.returns-in-Failed
 unfolding answered refused
 returns-in-Failed c =
-    let before = (begun-1 c).args.answer.now in
+    let before = c.args.answer.now in
     let went =
     scene-refused (scene-1 c) (length before) _ (hashes-found-1 c) (script-found-1 c) (group-found-1 c) (sym (all_found-1 c) ∙ c.in-Failed.is)
     in
@@ -114,7 +111,7 @@ returns-in-Failed c =
 
 pub returns-in-Passed : goal.returns-in-Passed
 returns-in-Passed c =
-    let before = (begun-3 c).args.answer.now in
+    let before = c.args.answer.now in
     let passed = c.in-Passed.is in
     let went = scene-late (scene-3 c) (length before) (hashes-found-2 c) (script-found-3 c) (group-found-3 c) (sym (all_found-3 c) ∙ passed) in
     record { returns_result = c.lock_account.ensures.returns_result ∙ ap answer_of (sym went); stores_requests = c.lock_account.ensures.stores_requests ∙ ap (λ (x : Result). answered before x.made) (sym went) }

@@ -5,7 +5,6 @@ use Rattle.protocol.proofs.AllPass.{decide-then}
 use Rattle.account_state.specs.Fields.{flags_of, recovery_since_of, recovery_threshold_of, rotate_threshold_of, spend_threshold_of}
 use Rattle.account_state.specs.State.{threshold_rows, state_end_rows}
 use Rattle.account_state.specs.EntriesWalk.{end_fault}
-use borrow.Author.Rules.{rules}
 use Rattle.account_state.proofs.check_end.Goals as goal
 
 pub returns : goal.returns

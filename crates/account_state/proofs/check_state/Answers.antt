@@ -3,7 +3,6 @@ use mathlib.Core.Path.{sym, ◌∙◌}
 use Rattle.account_state.specs.State.{state_fault}
 use Rattle.account_state.proofs.AuxLimit.{check-promised}
 use Rattle.account_state.proofs.Accepted.{valid-fault, refused-fault}
-use borrow.Author.Rules.{rules}
 use Rattle.account_state.proofs.check_state.Goals as goal
 
 pub returns-in-Valid : goal.returns-in-Valid

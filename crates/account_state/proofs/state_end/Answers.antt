@@ -1,7 +1,6 @@
 -- `account_state::state_end` meets its contract: by what the last checks find. Assumes nothing.
 use mathlib.Core.Path.{sym, ◌∙◌}
 use Rattle.account_state.specs.State.{state_answer}
-use borrow.Author.Rules.{rules}
 use Rattle.account_state.proofs.state_end.Goals as goal
 
 pub returns-in-Failed : goal.returns-in-Failed

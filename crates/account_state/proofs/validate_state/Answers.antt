@@ -5,7 +5,6 @@ use Rattle.protocol.specs.declared.check.Check.TheVariants.{Passed}
 use Rattle.account_state.specs.State.{state_header_rows, state_answer, read_state}
 use Rattle.account_state.proofs.AuxLimit.{state-promised}
 use Rattle.account_state.proofs.StateLaws.{head-room, fault-head, fault-entries, fault-end}
-use borrow.Author.Rules.{rules}
 use Rattle.account_state.proofs.validate_state.Goals as goal
 
 -- the header passed

@@ -9,7 +9,6 @@ use Rattle.account_state.specs.Reading.{state_bytes}
 use Rattle.account_state_writer.specs.Slices.{lent_count}
 use Rattle.account_state_writer.specs.Writer.{state_total, written_rows, state_from, valid_written, valid_stored}
 use Rattle.account_state_writer.proofs.Agreed.{agreed, length-state, checks-found}
-use borrow.Author.Rules.{rules}
 use Rattle.account_state_writer.proofs.encode_agreed.Goals as goal
 
 pub overflow_add-total-2 : goal.overflow_add-total-2
@@ -74,13 +73,15 @@ store_state-requires c =
 pub returns-in-Failed : goal.returns-in-Failed
 unfolding valid_written valid_stored
 returns-in-Failed c =
-    let w = let z = found-1 c in
-    rw z.0 (write-refused _ _ _ _ z.1 _ _ c.in-Failed.is) in record { value = w.0; out_after = w.1 }
+    let z = found-1 c in
+    let w = write-refused _ _ _ _ z.1 _ _ c.in-Failed.is in
+    record { value = rw z.0 w.0; out_after = rw z.0 w.1 }
 
 pub returns-in-Passed : goal.returns-in-Passed
 unfolding valid_written valid_stored lent_count state_total
 returns-in-Passed c =
-    let w = let a = c.args in
+    let a = c.args in
     let s = state_bytes (state_from a.flags a.sequence a.spend a.rotate a.recovery a.since a.fields.now a.bytes.now) in
     let z = found-3 c in
-    rw z.0 (write_done _ _ a.out.now _ z.1 s _ c.in-Passed.is z.0 c.store_state.ensures) in record { value = w.0; out_after = w.1 }
+    let w = write_done _ _ a.out.now _ z.1 s _ c.in-Passed.is z.0 c.store_state.ensures in
+    record { value = rw z.0 w.0; out_after = rw z.0 w.1 }

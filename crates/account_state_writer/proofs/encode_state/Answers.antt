@@ -3,7 +3,6 @@ use mathlib.Core.Path.{sym, ◌∙◌}
 use Rattle.protocol.proofs.AllPass.{passed-all-pass}
 use Rattle.account_state_writer.specs.Writer.{state_from}
 use Rattle.account_state_writer.proofs.Agreed.{agreed, length-state, agreed-written, refused-written}
-use borrow.Author.Rules.{rules}
 use Rattle.account_state_writer.proofs.encode_state.Goals as goal
 
 pub encode_agreed-requires : goal.encode_agreed-requires

@@ -2,7 +2,6 @@
 -- Assumes nothing.
 use Rattle.blake2b.specs.State.{ckb_hash}
 use Rattle.blake2b.proofs.Chain.{fed-none, fed-more, fed-hash}
-use Rattle.std.proofs.Common.{rules}
 use Rattle.blake2b.proofs.ckb_hash.Goals as goal
 
 pub returns : goal.returns

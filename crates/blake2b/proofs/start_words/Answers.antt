@@ -1,9 +1,8 @@
 -- `blake2b::start_words` meets its contract: word i is stored in turn i.
 -- Assumes nothing.
-use Rattle.std.proofs.Common.{◌≡◌, ℕ, ◌-◌, ◌*◌, List, length, get_or, refl, ap, arith, rules}
+use Rattle.std.proofs.Common.{get_or, refl, ap, rules}
 use lib.Bits.{bit_xor}
-use Rattle.octets.specs.Le.{number_at}
-use Rattle.octets.proofs.Filled.{Filled, filled_none, filled_more, filled-all}
+use Rattle.octets.proofs.Filled.{filled_none, filled_more, filled-all}
 use Rattle.blake2b_compression.specs.Compression.{IV}
 use Rattle.blake2b.specs.Rfc7693.{start_words}
 use Rattle.blake2b.proofs.start_words.Invariants.{word}

@@ -1,14 +1,13 @@
 -- `blake2b::start_words` meets its contract: word i is stored in turn i.
 -- Assumes nothing.
-use Rattle.std.proofs.Common.{◌≡◌, ℕ, ◌-◌, ◌*◌, List, length, get_or, refl, ap, arith, rules}
+use Rattle.std.proofs.Common.{◌≡◌, ℕ, ◌-◌, ◌*◌, List, length, get_or}
 use lib.Bits.{bit_xor}
 use Rattle.octets.specs.Le.{number_at}
-use Rattle.octets.proofs.Filled.{Filled, filled_none, filled_more, filled-all}
+use Rattle.octets.proofs.Filled.{Filled}
 use Rattle.blake2b_compression.specs.Compression.{IV}
-use Rattle.blake2b.specs.Rfc7693.{start_words}
 use Rattle.blake2b.proofs.start_words.Given as goal
 
-pub word : List ℕ → ℕ → ℕ
+unfoldable pub word : List ℕ → ℕ → ℕ
 word p i = bit_xor (get_or IV i 0) (number_at p (8 * i) 8)
 
 abbrev pub invariant-loop-i : goal.invariant-loop-i

@@ -1,6 +1,6 @@
 -- `blake2b::store_words` meets its contract: what is left to store, stored, is the whole.
 -- Assumes nothing.
-use Rattle.std.proofs.Common.{◌≡◌, ◌+◌, ◌-◌, ◌*◌, ◌≤◌, length, get_or, drop, sym, refl, ap, ◌∙◌, arith, drop_of_length-le, rules}
+use Rattle.std.proofs.Common.{◌≡◌, ◌+◌, ◌*◌, ◌≤◌, length, get_or, drop, sym, refl, ap, ◌∙◌, arith, drop_of_length-le, rules}
 use lib.Seq.{sets, length-sets}
 use Rattle.octets.specs.Le.{to_le}
 use Rattle.octets.proofs.LeLaws.{length_to}

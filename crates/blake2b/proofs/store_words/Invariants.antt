@@ -1,12 +1,8 @@
 -- `blake2b::store_words` meets its contract: what is left to store, stored, is the whole.
 -- Assumes nothing.
-use Rattle.std.proofs.Common.{◌≡◌, ◌+◌, ◌-◌, ◌*◌, ◌≤◌, length, get_or, drop, sym, refl, ap, ◌∙◌, arith, drop_of_length-le, rules}
-use lib.Seq.{sets, length-sets}
-use Rattle.octets.specs.Le.{to_le}
-use Rattle.octets.proofs.LeLaws.{length_to}
-use Rattle.octets.proofs.Stores.{sets-append}
+use Rattle.std.proofs.Common.{◌≡◌, ◌-◌, ◌*◌, ◌≤◌, length, drop}
+use lib.Seq.{sets}
 use Rattle.blake2b.specs.Rfc7693.{bytes_of}
-use Rattle.blake2b.proofs.Bytes.{bytes_next}
 use Rattle.blake2b.proofs.store_words.Given as goal
 
 abbrev pub invariant-loop-i : goal.invariant-loop-i

@@ -2,7 +2,6 @@
 -- Assumes nothing.
 use native.Mathlib.Nat.{mod-add-mod}
 use Rattle.blake2b_compression.specs.Compression.{add}
-use Rattle.std.proofs.Common.{rules}
 use Rattle.blake2b_compression.proofs.add_to.Goals as goal
 
 pub returns : goal.returns

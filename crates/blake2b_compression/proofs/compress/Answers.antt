@@ -1,7 +1,6 @@
 -- `blake2b::compression::compress` meets its contract.
 -- Assumes nothing.
 use Rattle.blake2b_compression.specs.Compression.{F}
-use Rattle.std.proofs.Common.{rules}
 use Rattle.blake2b_compression.proofs.compress.Goals as goal
 
 pub returns : goal.returns

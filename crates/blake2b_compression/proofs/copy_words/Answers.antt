@@ -1,7 +1,6 @@
 -- `blake2b::compression::copy_words` meets its contract: what is left to store, stored, is the whole.
 -- Assumes nothing.
-use Rattle.std.proofs.Common.{◌≡◌, ◌+◌, ◌-◌, ◌≤◌, ◌∷◌, length, get_or, drop, ◌∙◌, add-zero, add-one, arith, drop_of_length-le, drop-cons, rules}
-use lib.Seq.{sets}
+use Rattle.std.proofs.Common.{◌≡◌, ◌+◌, ◌≤◌, ◌∷◌, length, get_or, drop, ◌∙◌, add-zero, add-one, arith, drop_of_length-le, drop-cons, rules}
 use Rattle.octets.proofs.Stores.{sets-cons}
 use Rattle.blake2b_compression.proofs.copy_words.Goals as goal
 

@@ -1,8 +1,7 @@
 -- `blake2b::compression::copy_words` meets its contract: what is left to store, stored, is the whole.
 -- Assumes nothing.
-use Rattle.std.proofs.Common.{◌≡◌, ◌+◌, ◌-◌, ◌≤◌, ◌∷◌, length, get_or, drop, ◌∙◌, add-zero, add-one, arith, drop_of_length-le, drop-cons, rules}
+use Rattle.std.proofs.Common.{◌≡◌, ◌+◌, ◌-◌, ◌≤◌, length, drop}
 use lib.Seq.{sets}
-use Rattle.octets.proofs.Stores.{sets-cons}
 use Rattle.blake2b_compression.proofs.copy_words.Given as goal
 
 abbrev pub invariant-loop-i : goal.invariant-loop-i

@@ -1,6 +1,6 @@
 -- `blake2b::compression::message` meets its contract: a place that a row names is below 16.
 -- Assumes nothing.
-use Rattle.std.proofs.Common.{◌<◌, get_or, arith, rules}
+use Rattle.std.proofs.Common.{arith}
 use Rattle.blake2b_compression.proofs.Table.{in_row}
 use Rattle.blake2b_compression.proofs.message.Goals as goal
 

@@ -1,8 +1,7 @@
 -- `blake2b::compression::message_words` meets its contract: word i is stored in turn i.
 -- Assumes nothing.
-use Rattle.std.proofs.Common.{ℕ, ◌-◌, ◌*◌, List, refl, arith, rules}
-use Rattle.octets.specs.Le.{number_at}
-use Rattle.octets.proofs.Filled.{Filled, filled_none, filled_more, filled-all}
+use Rattle.std.proofs.Common.{refl}
+use Rattle.octets.proofs.Filled.{filled_none, filled_more, filled-all}
 use Rattle.blake2b_compression.specs.Compression.{words_of}
 use Rattle.blake2b_compression.proofs.message_words.Invariants.{word}
 use Rattle.blake2b_compression.proofs.message_words.Goals as goal

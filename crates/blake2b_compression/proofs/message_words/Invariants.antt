@@ -1,9 +1,8 @@
 -- `blake2b::compression::message_words` meets its contract: word i is stored in turn i.
 -- Assumes nothing.
-use Rattle.std.proofs.Common.{ℕ, ◌-◌, ◌*◌, List, refl, arith, rules}
+use Rattle.std.proofs.Common.{ℕ, ◌-◌, ◌*◌, List}
 use Rattle.octets.specs.Le.{number_at}
-use Rattle.octets.proofs.Filled.{Filled, filled_none, filled_more, filled-all}
-use Rattle.blake2b_compression.specs.Compression.{words_of}
+use Rattle.octets.proofs.Filled.{Filled}
 use Rattle.blake2b_compression.proofs.message_words.Given as goal
 
 unfoldable pub word : List ℕ → ℕ → ℕ

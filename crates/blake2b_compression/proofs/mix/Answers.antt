@@ -1,7 +1,6 @@
 -- `blake2b::compression::mix` meets its contract: the eight lines of G, from the last one back.
 -- Assumes nothing.
 use Rattle.blake2b_compression.specs.Compression.{G}
-use Rattle.std.proofs.Common.{rules}
 use Rattle.blake2b_compression.proofs.mix.Goals as goal
 
 pub returns : goal.returns

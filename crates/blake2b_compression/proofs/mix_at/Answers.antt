@@ -1,7 +1,6 @@
 -- `blake2b::compression::mix_at` meets its contract.
 -- Assumes nothing.
 use Rattle.blake2b_compression.specs.Compression.{mixed}
-use Rattle.std.proofs.Common.{rules}
 use Rattle.blake2b_compression.proofs.mix_at.Goals as goal
 
 pub returns : goal.returns

@@ -1,7 +1,6 @@
 -- `blake2b::compression::mix_round` meets its contract: the eight lines of a round, from the last one back.
 -- Assumes nothing.
 use Rattle.blake2b_compression.specs.Compression.{round}
-use Rattle.std.proofs.Common.{rules}
 use Rattle.blake2b_compression.proofs.mix_round.Goals as goal
 
 pub returns : goal.returns

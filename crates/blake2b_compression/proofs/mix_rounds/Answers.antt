@@ -1,6 +1,6 @@
 -- `blake2b::compression::mix_rounds` meets its contract: i rounds are done, and the next one goes by row i mod 10.
 -- Assumes nothing.
-use Rattle.std.proofs.Common.{◌≡◌, ◌-◌, ◌%◌, ◌≤◌, refl, add-one, arith}
+use Rattle.std.proofs.Common.{◌≡◌, refl, add-one, arith}
 use Rattle.blake2b_compression.specs.Compression.{rounds, row_of, SIGMA}
 use Rattle.blake2b_compression.proofs.Table.{row-rule}
 use Rattle.blake2b_compression.proofs.mix_rounds.Goals as goal

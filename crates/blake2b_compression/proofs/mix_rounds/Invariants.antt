@@ -1,8 +1,7 @@
 -- `blake2b::compression::mix_rounds` meets its contract: i rounds are done, and the next one goes by row i mod 10.
 -- Assumes nothing.
-use Rattle.std.proofs.Common.{◌≡◌, ◌-◌, ◌%◌, ◌≤◌, refl, add-one, arith}
-use Rattle.blake2b_compression.specs.Compression.{rounds, row_of, SIGMA}
-use Rattle.blake2b_compression.proofs.Table.{row-rule}
+use Rattle.std.proofs.Common.{◌≡◌, ◌-◌, ◌%◌, ◌≤◌}
+use Rattle.blake2b_compression.specs.Compression.{rounds}
 use Rattle.blake2b_compression.proofs.mix_rounds.Given as goal
 
 abbrev pub invariant-loop-i : goal.invariant-loop-i

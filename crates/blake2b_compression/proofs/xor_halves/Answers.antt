@@ -1,8 +1,7 @@
 -- `blake2b::compression::xor_halves` meets its contract: word i is stored in turn i.
 -- Assumes nothing.
-use Rattle.std.proofs.Common.{ℕ, ◌+◌, ◌-◌, List, get_or, refl, arith}
-use lib.Bits.{bit_xor}
-use Rattle.octets.proofs.Filled.{Filled, filled_none, filled_more, filled-all}
+use Rattle.std.proofs.Common.{refl}
+use Rattle.octets.proofs.Filled.{filled_none, filled_more, filled-all}
 use Rattle.blake2b_compression.specs.Compression.{halves}
 use Rattle.blake2b_compression.proofs.xor_halves.Invariants.{word}
 use Rattle.blake2b_compression.proofs.xor_halves.Goals as goal

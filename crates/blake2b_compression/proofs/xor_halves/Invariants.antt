@@ -1,9 +1,8 @@
 -- `blake2b::compression::xor_halves` meets its contract: word i is stored in turn i.
 -- Assumes nothing.
-use Rattle.std.proofs.Common.{ℕ, ◌+◌, ◌-◌, List, get_or, refl, arith}
+use Rattle.std.proofs.Common.{ℕ, ◌+◌, ◌-◌, List, get_or}
 use lib.Bits.{bit_xor}
-use Rattle.octets.proofs.Filled.{Filled, filled_none, filled_more, filled-all}
-use Rattle.blake2b_compression.specs.Compression.{halves}
+use Rattle.octets.proofs.Filled.{Filled}
 use Rattle.blake2b_compression.proofs.xor_halves.Given as goal
 
 unfoldable pub word : List ℕ → List ℕ → ℕ → ℕ

@@ -1,7 +1,6 @@
 -- `blake2b::compression::xor_rotate` meets its contract.
 -- Assumes nothing.
 use Rattle.blake2b_compression.specs.Compression.{turn}
-use Rattle.std.proofs.Common.{rules}
 use Rattle.blake2b_compression.proofs.xor_rotate.Goals as goal
 
 pub returns : goal.returns

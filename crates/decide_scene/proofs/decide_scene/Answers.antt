@@ -22,6 +22,12 @@ pub returns-in-Passed : goal.returns-in-Passed
 unfolding decided
 returns-in-Passed c =
     let a = c.args in
-    let e = read.read-scene.ensures in
+    let e = c.read_scene.ensures in
     let o = read_of a.scene.now (length a.store.now) (length a.table.now) in
-    let d = held-decides o (length a.store.now) (length a.table.now) (length a.answer.now) (sym e.0 ∙ locked.before.before.before.before.enum_told.given.1) in record { value = rw (d, ← e.1.0, ← e.1.1) c.lock.ensures.outcome; store_after = e.1.0; table_after = e.1.1; answer_after = rw (d, ← e.1.0, ← e.1.1) c.lock.ensures.requests }
+    let d = held-decides o (length a.store.now) (length a.table.now) (length a.answer.now) (sym e.value ∙ c.in-Passed.is) in
+    record {
+      value = rw (d, ← e.store_after, ← e.table_after) c.lock.ensures.outcome;
+      store_after = e.store_after;
+      table_after = e.table_after;
+      answer_after = rw (d, ← e.store_after, ← e.table_after) c.lock.ensures.requests;
+    }

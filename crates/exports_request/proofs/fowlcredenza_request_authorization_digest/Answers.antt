@@ -1,6 +1,5 @@
 -- `exports_request::fowlcredenza_request_authorization_digest` meets its contract: what is handed out is the reading's.
 -- Assumes nothing.
-use borrow.Author.Rules.{rules}
 use Rattle.verifier_request.specs.Reading.{RequestReading}
 use Rattle.held_request.specs.Held.{held_reading}
 use Rattle.exports_request.proofs.Parts.{handed}

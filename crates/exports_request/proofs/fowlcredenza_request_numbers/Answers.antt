@@ -1,5 +1,4 @@
 -- `exports_request::fowlcredenza_request_numbers` meets its contract: what is handed out is the reading's. Assumes nothing.
-use borrow.Author.Rules.{rules}
 use Rattle.exports_request.specs.Parts.{number_words}
 use Rattle.exports_request.proofs.Parts.{handed}
 use Rattle.exports_request.proofs.fowlcredenza_request_numbers.Goals as goal

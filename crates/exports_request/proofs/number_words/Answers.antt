@@ -1,6 +1,5 @@
 -- `exports_request::number_words` meets its contract: the words fill the array. Assumes nothing.
 use mathlib.Core.Path.{refl, sym, ◌∙◌}
-use borrow.Author.Rules.{rules}
 use Rattle.held_request.specs.Held.{held_reading}
 use Rattle.exports_request.specs.Parts.{number_words}
 use Rattle.exports_request.proofs.Parts.{words-fill}

@@ -1,6 +1,5 @@
 -- `exports_scene::fowlcredenza_table_valid` meets its contract, by cases of the test. Assumes nothing.
 use mathlib.Core.Path.{sym, ◌∙◌}
-use borrow.Author.Rules.{rules}
 use Rattle.exports_scene.proofs.fowlcredenza_table_valid.Goals as goal
 
 pub returns-then-table_valid : goal.returns-then-table_valid

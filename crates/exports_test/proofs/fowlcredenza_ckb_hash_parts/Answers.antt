@@ -10,7 +10,6 @@ use Rattle.protocol.specs.declared.error.ProtocolError.TheVariants.{SlicesDisagr
 use Rattle.protocol.specs.declared.check.Check.TheVariants.{Passed, Failed}
 use Rattle.export_answers.proofs.Fits.{bytes-refused}
 use Rattle.exports_test.specs.Parts.{parts_fault}
-use borrow.Author.Rules.{rules}
 use Rattle.exports_test.proofs.fowlcredenza_ckb_hash_parts.Goals as goal
 
 parts-agree : (bytes : List ℕ) (first : ℕ) → first ≤ length bytes → parts_fault bytes first ≡ Passed

@@ -1,12 +1,11 @@
 -- `exports_test::parts_hash` meets its contract: the bytes before `at` were fed to the state.
 -- Assumes nothing.
-use Prim.Native.Nat.{◌≤◌, ◌-◌, zero-le}
+use Prim.Native.Nat.{◌≤◌, zero-le}
 use native.Mathlib.Omega.{arith}
-use lib.ListN.{length, take}
+use lib.ListN.{length}
 use lib.Seq.{take_all}
-use Rattle.blake2b.specs.State.{ckb_parameters, ckb_hash}
-use Rattle.blake2b.proofs.Chain.{Fed, fed-none, fed-part, fed-hash}
-use borrow.Author.Rules.{rules}
+use Rattle.blake2b.specs.State.{ckb_hash}
+use Rattle.blake2b.proofs.Chain.{fed-none, fed-part, fed-hash}
 use Rattle.exports_test.proofs.parts_hash.Goals as goal
 
 pub loop-at-init : goal.loop-at-init

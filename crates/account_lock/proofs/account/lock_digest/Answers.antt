@@ -17,7 +17,7 @@ returns c =
       c.sequence_of.ensures,
       c.sighash_with-sighash.ensures,
       c.array_32-account.ensures,
-      array_whole 32 c.args.account-id.now (pass-whole _ _ s n),
+      array_whole 32 c.args.account_id.now (pass-whole _ _ s n),
       c.requires.operation,
       n.account,
       n.first,

@@ -3,7 +3,6 @@ use borrow.Author.Tests.{lt-leb}
 use Rattle.protocol.specs.Rows.{◌▷◌, decide}
 use Rattle.protocol.proofs.AllPass.{decide-append}
 use Rattle.account_state.specs.State.{entry_layout_rows, entry_field_rows, original_entry_rows, entry_rows}
-use borrow.Author.Rules.{rules}
 use Rattle.account_state.proofs.entry.check_entry.Goals as goal
 
 pub returns-then-entry-lt48 : goal.returns-then-entry-lt48

@@ -4,7 +4,6 @@ use mathlib.Core.Path.{◌≡◌, ◌∙◌}
 use lib.ListN.{take}
 use Rattle.protocol.specs.Rows.{◌▷◌, decide}
 use Rattle.account_state.specs.State.{entry_field_rows}
-use borrow.Author.Rules.{rules}
 use Rattle.account_state.proofs.entry.check_entry_fields.Goals as goal
 
 -- the first four rows

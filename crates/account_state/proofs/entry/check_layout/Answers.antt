@@ -2,7 +2,6 @@
 use borrow.Author.Tests.{le-leb}
 use Rattle.account_state.specs.State.{entry_layout_rows}
 use Rattle.protocol.specs.Rows.{◌▷◌, decide}
-use borrow.Author.Rules.{rules}
 use Rattle.account_state.proofs.entry.check_layout.Goals as goal
 
 pub returns : goal.returns

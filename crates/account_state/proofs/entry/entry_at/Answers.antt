@@ -4,7 +4,6 @@ use native.Mathlib.Omega.{arith}
 use lib.ListN.{length}
 use Rattle.octets.proofs.Parts.{part-clip}
 use Rattle.account_state.specs.State.{entry_at}
-use borrow.Author.Rules.{rules}
 use Rattle.account_state.proofs.entry.entry_at.Goals as goal
 
 pub returns : goal.returns

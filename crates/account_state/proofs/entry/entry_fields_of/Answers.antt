@@ -1,5 +1,4 @@
 -- `account_state::entry::entry_fields_of` meets its contract: each field as it is read. Assumes nothing.
-use borrow.Author.Rules.{rules}
 use Rattle.account_state.proofs.entry.entry_fields_of.Goals as goal
 
 pub returns : goal.returns

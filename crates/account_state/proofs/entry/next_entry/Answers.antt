@@ -6,7 +6,6 @@ use Rattle.protocol.specs.declared.check.Check.TheVariants.{Passed}
 use Rattle.account_state.specs.State.{entry_rows, entry_step_answer, entry_step}
 use Rattle.account_state.proofs.AuxLimit.{step-promised}
 use Rattle.account_state.proofs.EntriesWalkLaws.{entry-room}
-use borrow.Author.Rules.{rules}
 use Rattle.account_state.proofs.entry.next_entry.Goals as goal
 
 -- the checks passed

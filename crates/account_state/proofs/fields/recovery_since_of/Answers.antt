@@ -1,5 +1,4 @@
 -- `account_state::fields::recovery_since_of` meets its contract. Assumes nothing.
-use borrow.Author.Rules.{rules}
 use Rattle.account_state.proofs.fields.recovery_since_of.Goals as goal
 
 pub returns : goal.returns

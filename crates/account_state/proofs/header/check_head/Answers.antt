@@ -2,7 +2,6 @@
 use borrow.Author.Tests.{le-leb, lt-leb}
 use Rattle.account_state.specs.State.{state_header_rows}
 use Rattle.protocol.specs.Rows.{◌▷◌, decide}
-use borrow.Author.Rules.{rules}
 use Rattle.account_state.proofs.header.check_head.Goals as goal
 
 pub returns-then-state-lt-ACCOUNT_STATE_HEADER_LEN : goal.returns-then-state-lt-ACCOUNT_STATE_HEADER_LEN

@@ -3,7 +3,6 @@ use mathlib.Core.Path.{◌∙◌}
 use native.Mathlib.Omega.{arith}
 use Rattle.account_state.specs.State.{state_header_of}
 use Rattle.account_state.proofs.StateLaws.{front-number}
-use borrow.Author.Rules.{rules}
 use Rattle.account_state.proofs.header.header_at.Goals as goal
 
 pub returns : goal.returns

@@ -2,7 +2,6 @@
 use mathlib.Core.Path.{sym, ◌∙◌}
 use Rattle.protocol.specs.Rows.{decide}
 use Rattle.account_state.specs.State.{recovery_threshold_rows}
-use borrow.Author.Rules.{rules}
 use Rattle.account_state.proofs.thresholds.check_recovery.Goals as goal
 
 pub returns-then-recovery_enabled : goal.returns-then-recovery_enabled

@@ -1,7 +1,6 @@
 -- `account_state::thresholds::check_thresholds` meets its contract: the rows, last to first. Assumes nothing.
 use Rattle.protocol.specs.Rows.{decide}
 use Rattle.account_state.specs.State.{threshold_rows}
-use borrow.Author.Rules.{rules}
 use Rattle.account_state.proofs.thresholds.check_thresholds.Goals as goal
 
 pub returns : goal.returns

@@ -7,7 +7,6 @@ use native.Mathlib.Omega.{arith}
 use lib.Dec.{eqb}
 use Rattle.protocol.specs.Policy.{has_capability}
 use Rattle.account_state.specs.Reading.{capable_share}
-use borrow.Author.Rules.{rules}
 use Rattle.account_state.proofs.walk.capable_share.Goals as goal
 
 -- a bit times a number

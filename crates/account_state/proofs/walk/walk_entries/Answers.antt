@@ -4,7 +4,6 @@ use mathlib.Core.Path.{◌≡◌, sym, ◌∙◌}
 use Prim.Native.Nat.{◌-◌, ◌≤◌}
 use native.Mathlib.Omega.{arith}
 use lib.ListN.{length}
-use borrow.Author.Rules.{rules}
 use Rattle.octets.proofs.Parts.{part-clip}
 use Rattle.protocol.specs.Rows.{decide}
 use Rattle.protocol.specs.declared.check.Check.TheVariants.{Passed}
@@ -12,7 +11,7 @@ use Rattle.protocol.proofs.AllPass.{passed-all-pass}
 use Rattle.account_state.specs.State.{entry_rows}
 use Rattle.account_state.specs.EntriesWalk.{entries_walk_answer, entries_walk_of, walk_entries}
 use Rattle.account_state.proofs.Passed.{entry-passed}
-use Rattle.account_state.proofs.EntriesWalkLaws.{Walking, walking-first, walking-next, walking-failed, walking-done}
+use Rattle.account_state.proofs.EntriesWalkLaws.{walking-first, walking-next, walking-failed, walking-done}
 use Rattle.account_state.proofs.walk.walk_entries.Goals as goal
 
 pub loop-left-init : goal.loop-left-init

@@ -1,6 +1,5 @@
 -- `account_state::walk::with_entry` meets its contract: each weight by its share. Assumes nothing.
 use Rattle.account_state.specs.EntriesWalk.{with_entry}
-use borrow.Author.Rules.{rules}
 use Rattle.account_state.proofs.walk.with_entry.Goals as goal
 
 pub returns : goal.returns

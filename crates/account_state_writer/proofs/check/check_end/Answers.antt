@@ -1,5 +1,4 @@
 -- `account_state_writer::check::check_end` meets its contract: the weights are those that the fields say. Assumes nothing.
-use borrow.Author.Rules.{rules}
 use Rattle.account_state_writer.proofs.check.check_end.Goals as goal
 
 pub returns : goal.returns

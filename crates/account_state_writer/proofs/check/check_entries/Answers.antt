@@ -6,13 +6,8 @@ use native.Mathlib.Nat.{sub-zero}
 use native.Mathlib.Omega.{arith}
 use lib.ListN.{length, take, drop, length-drop}
 use lib.Seq.{get_or-drop}
-use borrow.Author.Rules.{rules}
 use Rattle.octets.proofs.Parts.{part-clip}
-use Rattle.protocol.specs.Rows.{decide}
-use Rattle.protocol.specs.declared.check.Check.TheVariants.{Passed}
 use Rattle.account_state_writer.specs.Slices.{lent_aux_length, lent_width}
-use Rattle.account_state_writer.specs.Writer.{entries_from, needed_bytes}
-use Rattle.account_state_writer.specs.Checks.{entries_checks}
 use Rattle.account_state_writer.proofs.Lent.{needed-turn, checks-failed, checks-next, checks-none, lent_aux_length_at}
 use Rattle.account_state_writer.proofs.check.check_entries.Goals as goal
 

@@ -1,19 +1,13 @@
 -- `account_state_writer::check::check_entries` meets its contract: what is left to check gives the whole.
 -- Assumes nothing.
-use mathlib.Core.Path.{◌≡◌, sym, ◌∙◌}
+use mathlib.Core.Path.{◌≡◌}
 use Prim.Native.Nat.{◌+◌, ◌-◌, ◌*◌, ◌≤◌}
-use native.Mathlib.Nat.{sub-zero}
-use native.Mathlib.Omega.{arith}
-use lib.ListN.{length, take, drop, length-drop}
-use lib.Seq.{get_or-drop}
-use borrow.Author.Rules.{rules}
-use Rattle.octets.proofs.Parts.{part-clip}
+use lib.ListN.{length, drop}
 use Rattle.protocol.specs.Rows.{decide}
 use Rattle.protocol.specs.declared.check.Check.TheVariants.{Passed}
-use Rattle.account_state_writer.specs.Slices.{lent_aux_length, lent_width}
+use Rattle.account_state_writer.specs.Slices.{lent_width}
 use Rattle.account_state_writer.specs.Writer.{entries_from, needed_bytes}
 use Rattle.account_state_writer.specs.Checks.{entries_checks}
-use Rattle.account_state_writer.proofs.Lent.{needed-turn, checks-failed, checks-next, checks-none, lent_aux_length_at}
 use Rattle.account_state_writer.proofs.check.check_entries.Given as goal
 
 abbrev pub invariant-loop-i : goal.invariant-loop-i

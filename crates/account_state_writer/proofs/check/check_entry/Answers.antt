@@ -6,7 +6,6 @@ use Rattle.protocol.specs.Rows.{decide}
 use Rattle.account_state_writer.specs.Slices.{lent_aux_length}
 use Rattle.account_state_writer.specs.Writer.{entry_from}
 use Rattle.account_state_writer.specs.Checks.{entry_checks}
-use borrow.Author.Rules.{rules}
 use Rattle.account_state_writer.proofs.check.check_entry.Goals as goal
 
 pub overflow_cast-fields : goal.overflow_cast-fields

@@ -1,7 +1,6 @@
 -- `account_state_writer::check::check_head` meets its contract: the rows, last to first. Assumes nothing.
 use Rattle.protocol.specs.Rows.{decide}
 use Rattle.account_state_writer.specs.Checks.{head_checks}
-use borrow.Author.Rules.{rules}
 use Rattle.account_state_writer.proofs.check.check_head.Goals as goal
 
 pub returns : goal.returns

@@ -5,7 +5,6 @@ use native.Mathlib.Omega.{arith}
 use lib.ListN.{length}
 use Rattle.account_state_writer.specs.Slices.{lent_count, lent_width}
 use Rattle.account_state_writer.proofs.Checked.{head-limit, head-failed, head_passed}
-use borrow.Author.Rules.{rules}
 use Rattle.account_state_writer.proofs.check.check_state.Goals as goal
 
 pub check_entries-requires : goal.check_entries-requires

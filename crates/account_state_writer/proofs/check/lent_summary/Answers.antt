@@ -6,7 +6,6 @@ use Prim.Native.Nat.{ℕ, ◌+◌, ◌-◌, ◌*◌, ◌≤◌, ◌<◌}
 use native.Mathlib.Nat.{sub-zero, zero-add}
 use native.Mathlib.Omega.{arith}
 use lib.ListN.{drop, get_or}
-use borrow.Author.Rules.{rules}
 use Rattle.account_state.specs.Reading.{capable_share}
 use Rattle.account_state_writer.specs.Slices.{lent_width}
 use Rattle.account_state_writer.specs.Checks.{lent_capable_weight, lent_summary}
@@ -43,9 +42,9 @@ loop-i-preserved c =
     let f = c.args.fields.now in
     let h = c.loop-i-test.true in (
       omega arith,
-      adding-next 1 f a.count l.i l.spend-weight _ h l.invariant.1 c.capable_share-spend_weight.ensures,
-      adding-next 2 f a.count l.i l.rotate-weight _ h l.invariant.2 c.capable_share-rotate_weight.ensures,
-      adding-next 4 f a.count l.i l.recovery-weight _ h l.invariant.3 c.capable_share-recovery_weight.ensures,
+      adding-next 1 f a.count l.i l.spend_weight _ h l.invariant.1 c.capable_share-spend_weight.ensures,
+      adding-next 2 f a.count l.i l.rotate_weight _ h l.invariant.2 c.capable_share-rotate_weight.ensures,
+      adding-next 4 f a.count l.i l.recovery_weight _ h l.invariant.3 c.capable_share-recovery_weight.ensures,
     )
 
 pub returns : goal.returns
@@ -55,9 +54,9 @@ returns c =
     let a = c.args in
     let f = c.args.fields.now in
     rw (
-      adding-done 1 f a.count l.i l.spend-weight (omega arith) l.invariant.1,
-      adding-done 2 f a.count l.i l.rotate-weight (omega arith) l.invariant.2,
-      adding-done 4 f a.count l.i l.recovery-weight (omega arith) l.invariant.3,
+      adding-done 1 f a.count l.i l.spend_weight (omega arith) l.invariant.1,
+      adding-done 2 f a.count l.i l.rotate_weight (omega arith) l.invariant.2,
+      adding-done 4 f a.count l.i l.recovery_weight (omega arith) l.invariant.3,
     )
 
 pub overflow_add-spend_weight : goal.overflow_add-spend_weight

@@ -1,22 +1,17 @@
 -- `account_state_writer::check::lent_within` meets its contract: what is left decides. Assumes nothing.
-use mathlib.Core.Path.{◌≡◌, sym, ◌∙◌}
-use Prim.Native.Nat.{◌-◌, ◌*◌, ◌≤◌, ◌<◌}
+use mathlib.Core.Path.{sym, ◌∙◌}
+use Prim.Native.Nat.{◌-◌, ◌*◌, ◌<◌}
 use native.Mathlib.Nat.{sub-zero}
 use native.Mathlib.Omega.{arith}
 use borrow.Author.Tests.{le-leb, lt-leb}
 use lib.ListN.{drop}
 use Rattle.account_state.specs.Fields.{aux_max_length}
 use Rattle.account_state_writer.specs.Slices.{lent_width}
-use Rattle.account_state_writer.specs.Checks.{lent_within}
 use Rattle.account_state_writer.proofs.Lent.{within-turn, within_none, lent_aux_length_at}
 use Rattle.account_state_writer.proofs.check.lent_within.Goals as goal
 
 pub loop-i-init : goal.loop-i-init
 loop-i-init c = (omega arith, rw sub-zero)
-
--- the length of this entry's aux
-small : (c : goal.After-shared_slice_known-1) → lent_aux_length_at c.args.fields.now c.loop-i.i < 65536
-small c = (c.type_inv.fields _).fits
 
 -- an aux above the limit decides
 pub returns-then-aux-gt-ACCOUNT_STATE_MAX_AUX_LEN : goal.returns-then-aux-gt-ACCOUNT_STATE_MAX_AUX_LEN
@@ -40,4 +35,6 @@ returns c =
     sym (within_none (a.count - l.i) (drop (lent_width * l.i) a.fields.now) (omega arith)) ∙ l.invariant.1
 
 pub overflow_cast-aux : goal.overflow_cast-aux
-overflow_cast-aux c = omega (arith, small c)
+overflow_cast-aux c =
+    let small : lent_aux_length_at c.args.fields.now c.loop-i.i < 65536 = (c.type_inv.fields _).fits in
+    omega (arith, small)

@@ -1,14 +1,9 @@
 -- `account_state_writer::check::lent_within` meets its contract: what is left decides. Assumes nothing.
-use mathlib.Core.Path.{◌≡◌, sym, ◌∙◌}
-use Prim.Native.Nat.{◌-◌, ◌*◌, ◌≤◌, ◌<◌}
-use native.Mathlib.Nat.{sub-zero}
-use native.Mathlib.Omega.{arith}
-use borrow.Author.Tests.{le-leb, lt-leb}
+use mathlib.Core.Path.{◌≡◌}
+use Prim.Native.Nat.{◌-◌, ◌*◌, ◌≤◌}
 use lib.ListN.{drop}
-use Rattle.account_state.specs.Fields.{aux_max_length}
 use Rattle.account_state_writer.specs.Slices.{lent_width}
 use Rattle.account_state_writer.specs.Checks.{lent_within}
-use Rattle.account_state_writer.proofs.Lent.{within-turn, within_none, lent_aux_length_at}
 use Rattle.account_state_writer.proofs.check.lent_within.Given as goal
 
 abbrev pub invariant-loop-i : goal.invariant-loop-i

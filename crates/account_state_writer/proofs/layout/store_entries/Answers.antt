@@ -5,12 +5,9 @@ use Prim.Native.Nat.{◌+◌, ◌-◌, ◌*◌, ◌≤◌, ◌<◌}
 use native.Mathlib.Nat.{sub-zero}
 use native.Mathlib.Omega.{arith}
 use lib.ListN.{length, take, drop, length-drop}
-use lib.Seq.{sets, length-sets, get_or-drop}
-use borrow.Author.Rules.{rules}
+use lib.Seq.{length-sets, get_or-drop}
 use Rattle.octets.proofs.Parts.{part-clip}
-use Rattle.account_state.specs.Reading.{entries_bytes}
 use Rattle.account_state_writer.specs.Slices.{lent_aux_length, lent_width}
-use Rattle.account_state_writer.specs.Writer.{entries_from, needed_bytes}
 use Rattle.account_state_writer.proofs.Lent.{needed-turn, entries_none, entries_next, lent_aux_length_at}
 use Rattle.account_state_writer.proofs.layout.store_entries.Goals as goal
 
@@ -19,13 +16,9 @@ loop-i-init c =
     (omega arith, refl, rw sub-zero (omega arith), omega arith, rw sub-zero)
 
 -- the length of this entry's aux
-small-1 : (c : goal.After-shared_slice_known-in-loop-i-1)
+small : (c : goal.After-slice_known-in-loop-i-1)
     → lent_aux_length_at c.args.fields.now c.loop-i.i < 65536
-small-1 c = (c.type_inv.fields _).fits
-
-small-2 : (c : goal.After-slice_known-in-loop-i-1)
-    → lent_aux_length_at c.args.fields.now c.loop-i.i < 65536
-small-2 c = (c.type_inv.fields _).fits
+small c = (c.type_inv.fields _).fits
 
 -- this entry's bytes are there
 room-1 : (c : goal.After-rest)
@@ -89,16 +82,18 @@ returns c =
     rw (entries_none (a.count - l.i) (drop (lent_width * l.i) a.fields.now) (drop l.from a.bytes.now) (omega arith)) at l.invariant.4
 
 pub overflow_cast-aux : goal.overflow_cast-aux
-overflow_cast-aux c = omega (arith, small-1 c)
+overflow_cast-aux c =
+    let small : lent_aux_length_at c.args.fields.now c.loop-i.i < 65536 = (c.type_inv.fields _).fits in
+    omega (arith, small)
 
 pub overflow_add-at : goal.overflow_add-at
-overflow_add-at c = omega (arith, small-2 c)
+overflow_add-at c = omega (arith, small c)
 
 pub overflow_add-at-in-loop-i : goal.overflow_add-at-in-loop-i
-overflow_add-at-in-loop-i c = omega (arith, small-2 c, room-2 c)
+overflow_add-at-in-loop-i c = omega (arith, small c, room-2 c)
 
 pub overflow_add-from : goal.overflow_add-from
-overflow_add-from c = omega (arith, small-2 c)
+overflow_add-from c = omega (arith, small c)
 
 pub overflow_add-from-in-loop-i : goal.overflow_add-from-in-loop-i
 overflow_add-from-in-loop-i c = omega (arith, room-2 c)

@@ -1,17 +1,12 @@
 -- `account_state_writer::layout::store_entries` meets its contract: what is left to store, stored, is the whole.
 -- Assumes nothing.
-use mathlib.Core.Path.{◌≡◌, refl, ap, ◌∙◌}
-use Prim.Native.Nat.{◌+◌, ◌-◌, ◌*◌, ◌≤◌, ◌<◌}
-use native.Mathlib.Nat.{sub-zero}
-use native.Mathlib.Omega.{arith}
-use lib.ListN.{length, take, drop, length-drop}
-use lib.Seq.{sets, length-sets, get_or-drop}
-use borrow.Author.Rules.{rules}
-use Rattle.octets.proofs.Parts.{part-clip}
+use mathlib.Core.Path.{◌≡◌}
+use Prim.Native.Nat.{◌+◌, ◌-◌, ◌*◌, ◌≤◌}
+use lib.ListN.{length, drop}
+use lib.Seq.{sets}
 use Rattle.account_state.specs.Reading.{entries_bytes}
-use Rattle.account_state_writer.specs.Slices.{lent_aux_length, lent_width}
+use Rattle.account_state_writer.specs.Slices.{lent_width}
 use Rattle.account_state_writer.specs.Writer.{entries_from, needed_bytes}
-use Rattle.account_state_writer.proofs.Lent.{needed-turn, entries_none, entries_next, lent_aux_length_at}
 use Rattle.account_state_writer.proofs.layout.store_entries.Given as goal
 
 abbrev pub invariant-loop-i : goal.invariant-loop-i

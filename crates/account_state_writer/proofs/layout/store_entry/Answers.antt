@@ -3,7 +3,6 @@ use Prim.Native.Nat.{◌+◌, ◌-◌}
 use lib.ListN.{get_or}
 use native.Mathlib.Omega.{arith}
 use Rattle.account_state_writer.proofs.Lent.{entry-stored}
-use borrow.Author.Rules.{rules}
 use Rattle.account_state_writer.proofs.layout.store_entry.Goals as goal
 
 pub returns : goal.returns

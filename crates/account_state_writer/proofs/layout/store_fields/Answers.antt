@@ -2,7 +2,6 @@
 use native.Mathlib.Omega.{arith}
 use Rattle.octets.proofs.LayoutLaws.{store_numbers, numbers-stored}
 use Rattle.account_state_writer.specs.Writer.{entry_field_numbers}
-use borrow.Author.Rules.{rules}
 use Rattle.account_state_writer.proofs.layout.store_fields.Goals as goal
 
 pub overflow_cast-fields : goal.overflow_cast-fields

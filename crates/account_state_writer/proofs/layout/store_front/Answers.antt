@@ -1,7 +1,6 @@
 -- `account_state_writer::layout::store_front` meets its contract: the numbers, the verifier and the lengths, one behind another. Assumes nothing.
 use native.Mathlib.Omega.{arith}
 use Rattle.account_state_writer.proofs.Lent.{front-stored}
-use borrow.Author.Rules.{rules}
 use Rattle.account_state_writer.proofs.layout.store_front.Goals as goal
 
 pub overflow_cast-fields : goal.overflow_cast-fields

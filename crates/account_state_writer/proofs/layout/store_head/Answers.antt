@@ -4,7 +4,6 @@ use lib.ListN.{length}
 use lib.Seq.{length-sets}
 use Rattle.octets.proofs.LayoutLaws.{store_numbers, numbers-stored}
 use Rattle.account_state.specs.Reading.{state_header_fields}
-use borrow.Author.Rules.{rules}
 use Rattle.account_state_writer.proofs.layout.store_head.Goals as goal
 
 pub returns : goal.returns

@@ -9,7 +9,6 @@ use Rattle.account_state.specs.Reading.{state_header_fields, state_head, state_b
 use Rattle.account_state_writer.specs.Slices.{lent_count, lent_width}
 use Rattle.account_state_writer.specs.Writer.{state_from}
 use Rattle.account_state_writer.proofs.Lent.{length-entries-from, length-head}
-use borrow.Author.Rules.{rules}
 use Rattle.account_state_writer.proofs.layout.store_state.Goals as goal
 
 pub overflow_cast-count : goal.overflow_cast-count

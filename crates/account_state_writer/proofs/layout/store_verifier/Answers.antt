@@ -1,6 +1,5 @@
 -- `account_state_writer::layout::store_verifier` meets its contract: five numbers are the 34 bytes. Assumes nothing.
 use Rattle.account_state_writer.proofs.Lent.{verifier-stored}
-use borrow.Author.Rules.{rules}
 use Rattle.account_state_writer.proofs.layout.store_verifier.Goals as goal
 
 pub returns : goal.returns

@@ -1,10 +1,9 @@
 -- `account_state_writer::slices::bytes_agree` meets its contract: what is left decides.
 -- Assumes nothing.
 use mathlib.Core.Path.{◌≡◌, refl, ◌∙◌}
-use Prim.Native.Nat.{◌-◌, ◌*◌, ◌/◌, ◌≤◌, ◌<◌}
+use Prim.Native.Nat.{◌-◌, ◌*◌, ◌/◌, ◌<◌}
 use native.Mathlib.Nat.{sub-zero}
 use native.Mathlib.Omega.{arith}
-use lib.Dec.{eqb}
 use lib.ListN.{length, drop}
 use Rattle.account_state_writer.specs.Slices.{lent_count, lent_width}
 use Rattle.account_state_writer.specs.Writer.{needed_bytes}

@@ -1,14 +1,11 @@
 -- `account_state_writer::slices::bytes_agree` meets its contract: what is left decides.
 -- Assumes nothing.
-use mathlib.Core.Path.{◌≡◌, refl, ◌∙◌}
-use Prim.Native.Nat.{◌-◌, ◌*◌, ◌/◌, ◌≤◌, ◌<◌}
-use native.Mathlib.Nat.{sub-zero}
-use native.Mathlib.Omega.{arith}
+use mathlib.Core.Path.{◌≡◌}
+use Prim.Native.Nat.{◌-◌, ◌*◌, ◌/◌, ◌≤◌}
 use lib.Dec.{eqb}
 use lib.ListN.{length, drop}
-use Rattle.account_state_writer.specs.Slices.{lent_count, lent_width}
+use Rattle.account_state_writer.specs.Slices.{lent_width}
 use Rattle.account_state_writer.specs.Writer.{needed_bytes}
-use Rattle.account_state_writer.proofs.Lent.{eqb-turn, left-turn, left-short, needed-none, lent_aux_length_at}
 use Rattle.account_state_writer.proofs.slices.bytes_agree.Given as goal
 
 abbrev pub invariant-loop-i : goal.invariant-loop-i

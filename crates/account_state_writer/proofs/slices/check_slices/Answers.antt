@@ -2,7 +2,6 @@
 use Rattle.protocol.specs.Rows.{decide}
 use Rattle.account_state_writer.specs.Slices.{lent_count}
 use Rattle.account_state_writer.specs.Writer.{state_total, slice_rows}
-use borrow.Author.Rules.{rules}
 use Rattle.account_state_writer.proofs.slices.check_slices.Goals as goal
 
 pub returns : goal.returns

@@ -1,12 +1,9 @@
 -- `account_witness_writer::check::adds_up` meets its contract: what is left of the total is what the rest of the lengths has to add up to. Assumes nothing.
-use mathlib.Core.Path.{◌≡◌, refl, sym}
-use Prim.Native.Nat.{◌+◌, ◌-◌, ◌≤◌}
+use mathlib.Core.Path.{refl, sym}
 use borrow.Author.Tests.{ne_eqb}
-use lib.ListN.{length, drop}
 use Rattle.octets.specs.Lists.{sum}
 use Rattle.octets.proofs.Sums.{sum-turn, sum-end}
 use Rattle.account_witness_writer.proofs.WriterLaws.{eqb_same}
-use borrow.Author.Rules.{rules}
 use native.Mathlib.Omega.{arith}
 use Rattle.account_witness_writer.proofs.check.adds_up.Goals as goal
 

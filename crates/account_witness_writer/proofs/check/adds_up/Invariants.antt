@@ -1,13 +1,8 @@
 -- `account_witness_writer::check::adds_up` meets its contract: what is left of the total is what the rest of the lengths has to add up to. Assumes nothing.
-use mathlib.Core.Path.{◌≡◌, refl, sym}
+use mathlib.Core.Path.{◌≡◌}
 use Prim.Native.Nat.{◌+◌, ◌-◌, ◌≤◌}
-use borrow.Author.Tests.{ne_eqb}
 use lib.ListN.{length, drop}
 use Rattle.octets.specs.Lists.{sum}
-use Rattle.octets.proofs.Sums.{sum-turn, sum-end}
-use Rattle.account_witness_writer.proofs.WriterLaws.{eqb_same}
-use borrow.Author.Rules.{rules}
-use native.Mathlib.Omega.{arith}
 use Rattle.account_witness_writer.proofs.check.adds_up.Given as goal
 
 abbrev pub invariant-loop-i : goal.invariant-loop-i

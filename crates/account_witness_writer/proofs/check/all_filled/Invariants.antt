@@ -1,13 +1,9 @@
 -- `account_witness_writer::check::all_filled` meets its contract: no length passed is zero, so the rest decides. Assumes nothing.
-use mathlib.Core.Path.{◌≡◌, refl, sym, ◌∙◌}
+use mathlib.Core.Path.{◌≡◌}
 use Prim.Native.Nat.{◌-◌, ◌≤◌}
-use borrow.Author.Tests.{le-leb, lt-leb}
 use lib.Dec.{leb}
-use lib.ListN.{length, drop, get_or}
+use lib.ListN.{length, drop}
 use Rattle.octets.specs.Lists.{every}
-use Rattle.account_witness_writer.proofs.WriterLaws.{filled-turn, filled-end}
-use borrow.Author.Rules.{rules}
-use native.Mathlib.Omega.{arith}
 use Rattle.account_witness_writer.proofs.check.all_filled.Given as goal
 
 abbrev pub invariant-loop-i : goal.invariant-loop-i

@@ -2,7 +2,6 @@
 use Rattle.protocol.specs.Rows.{decide}
 use Rattle.protocol.specs.Write.{write_fault}
 use Rattle.account_witness_writer.specs.Writer.{lent_proof_rows, witness_writer_rows, witness_writer_fault}
-use borrow.Author.Rules.{rules}
 use Rattle.account_witness_writer.proofs.check.check_encode.Goals as goal
 
 pub returns : goal.returns

@@ -1,7 +1,6 @@
 -- `account_witness_writer::check::check_lent` meets its contract: the rows, last to first. Assumes nothing.
 use Rattle.protocol.specs.Rows.{decide}
 use Rattle.account_witness_writer.specs.Writer.{lent_proof_rows}
-use borrow.Author.Rules.{rules}
 use Rattle.account_witness_writer.proofs.check.check_lent.Goals as goal
 
 pub returns : goal.returns

@@ -3,7 +3,6 @@ use mathlib.Core.Path.{sym, ◌∙◌}
 use Prim.Native.Nat.{◌+◌, ◌*◌}
 use borrow.Author.Tests.{lt-leb}
 use Rattle.octets.proofs.Parts.{leb-rest}
-use borrow.Author.Rules.{rules}
 use native.Mathlib.Omega.{arith}
 use Rattle.account_witness_writer.proofs.check.total_within.Goals as goal
 

@@ -5,7 +5,6 @@ use Rattle.protocol.specs.Write.{write_answer, after_write}
 use Rattle.protocol.specs.declared.check.Check.TheVariants.{Passed}
 use Rattle.account_witness_writer.specs.Writer.{witness_writer_fault, witness_written, witness_stored}
 use Rattle.account_witness_writer.proofs.WriterLaws.{WitnessWriterHolds, witness-writer-holds, witness-stored}
-use borrow.Author.Rules.{rules}
 use native.Mathlib.Omega.{arith}
 use Rattle.account_witness_writer.proofs.encode.encode_witness.Goals as goal
 

@@ -1,7 +1,6 @@
 -- `account_witness_writer::store::store_header` meets its contract: the numbers of its table, one behind another. Assumes nothing.
 use Rattle.octets.proofs.LayoutLaws.{store_numbers, numbers-stored}
 use Rattle.account_witness.specs.Header.{witness_header_fields}
-use borrow.Author.Rules.{rules}
 use Rattle.account_witness_writer.proofs.store.store_header.Goals as goal
 
 pub returns : goal.returns

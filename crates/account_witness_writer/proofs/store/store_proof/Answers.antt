@@ -1,6 +1,5 @@
 -- `account_witness_writer::store::store_proof` meets its contract: its table, and its bytes behind it. Assumes nothing.
 use Rattle.account_witness_writer.proofs.WriterLaws.{proof-stored}
-use borrow.Author.Rules.{rules}
 use Rattle.account_witness_writer.proofs.store.store_proof.Goals as goal
 
 pub returns : goal.returns

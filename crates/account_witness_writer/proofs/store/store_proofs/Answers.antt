@@ -1,14 +1,10 @@
 -- `account_witness_writer::store::store_proofs` meets its contract: what is left to store, stored from here, is the whole. Assumes nothing.
-use mathlib.Core.Path.{◌≡◌, refl, ◌∙◌}
-use Prim.Native.Nat.{◌+◌, ◌*◌, ◌-◌, ◌≤◌, ◌<◌}
-use lib.ListN.{length, drop, get_or}
-use lib.Seq.{sets, length-sets}
-use Rattle.account_witness.specs.Reading.{proofs_bytes}
-use Rattle.octets.specs.Lists.{sum}
+use mathlib.Core.Path.{refl, ◌∙◌}
+use Prim.Native.Nat.{◌+◌, ◌≤◌, ◌<◌}
+use lib.ListN.{length, get_or}
+use lib.Seq.{length-sets}
 use Rattle.octets.proofs.Sums.{sum-turn}
-use Rattle.account_witness_writer.specs.Writer.{lent_proofs}
 use Rattle.account_witness_writer.proofs.WriterLaws.{store-turn, store-end}
-use borrow.Author.Rules.{rules}
 use native.Mathlib.Omega.{arith}
 use Rattle.account_witness_writer.proofs.store.store_proofs.Goals as goal
 
@@ -20,7 +16,7 @@ overflow_cast-len c = omega (arith, c.type_inv.lengths c.loop-i.i)
 
 -- the bytes of this turn's proof are there
 room : (c : goal.After-slice_known-in-loop-i-1)
-    → 
+    →
     let a = c.args in
     c.loop-i.from + get_or a.lengths.now c.loop-i.i 0 ≤ length a.bytes.now
 room c =

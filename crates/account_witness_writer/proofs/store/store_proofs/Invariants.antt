@@ -1,15 +1,11 @@
 -- `account_witness_writer::store::store_proofs` meets its contract: what is left to store, stored from here, is the whole. Assumes nothing.
-use mathlib.Core.Path.{◌≡◌, refl, ◌∙◌}
-use Prim.Native.Nat.{◌+◌, ◌*◌, ◌-◌, ◌≤◌, ◌<◌}
-use lib.ListN.{length, drop, get_or}
-use lib.Seq.{sets, length-sets}
+use mathlib.Core.Path.{◌≡◌}
+use Prim.Native.Nat.{◌+◌, ◌*◌, ◌-◌, ◌≤◌}
+use lib.ListN.{length, drop}
+use lib.Seq.{sets}
 use Rattle.account_witness.specs.Reading.{proofs_bytes}
 use Rattle.octets.specs.Lists.{sum}
-use Rattle.octets.proofs.Sums.{sum-turn}
 use Rattle.account_witness_writer.specs.Writer.{lent_proofs}
-use Rattle.account_witness_writer.proofs.WriterLaws.{store-turn, store-end}
-use borrow.Author.Rules.{rules}
-use native.Mathlib.Omega.{arith}
 use Rattle.account_witness_writer.proofs.store.store_proofs.Given as goal
 
 abbrev pub invariant-loop-i : goal.invariant-loop-i

@@ -1,7 +1,6 @@
 -- `blake2b::Blake2b::finish` meets its contract.
 -- Assumes nothing.
 use Rattle.blake2b.specs.State.{finished}
-use Rattle.std.proofs.Common.{rules}
 use Rattle.blake2b.proofs.Blake2b.finish.Goals as goal
 
 pub returns : goal.returns

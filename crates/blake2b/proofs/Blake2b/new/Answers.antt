@@ -1,6 +1,6 @@
 -- `blake2b::Blake2b::new` meets its contract: the parameter block after the stores is CKB's.
 -- Assumes nothing.
-use Rattle.std.proofs.Common.{ap, ◌∙◌, rules}
+use Rattle.std.proofs.Common.{ap, ◌∙◌}
 use Rattle.blake2b.specs.State.{begun, ckb_parameters}
 use Rattle.blake2b.proofs.Blake2b.new.Goals as goal
 

@@ -1,12 +1,13 @@
 -- `blake2b::Blake2b::update` meets its contract: the waiting part is filled up, and then the locals stand where a block ends.
 -- Assumes nothing.
-use Rattle.std.proofs.Common.{◌≡◌, ◌+◌, ◌-◌, ◌<◌, ◌≤◌, length, take, refl, ◌∙◌, ⊎_elim, arith, take_all, rules}
+use Rattle.std.proofs.Common.{◌≡◌, ◌+◌, ◌≤◌, length, take, refl, ◌∙◌, arith, take_all, rules}
 use native.Mathlib.Nat.{sub-zero}
 use Rattle.blake2b.specs.declared.Blake2b.{Blake2b}
 use Rattle.blake2b.specs.State.{fed_all}
 use Rattle.blake2b.proofs.Feed.{feed-fill}
-use Rattle.blake2b.proofs.WholeBlocks.{WholeBlocks, blocks-first, blocks-next, blocks-rest}
+use Rattle.blake2b.proofs.WholeBlocks.{blocks-first, blocks-next, blocks-rest}
 use Rattle.blake2b.proofs.Blake2b.update.Goals as goal
+use Rattle.blake2b.proofs.Blake2b.update.Goals.{then-at-data+else-loop-at-test, else-at-data}
 
 pub loop-at-init : goal.loop-at-init
 loop-at-init c =
@@ -15,9 +16,9 @@ loop-at-init c =
     let n = c.fill_bytes-at in
     let a = c.args in
     let xs = a.«data».now in
-    let s : Blake2b = record { h = a.self.h; block = w.new.0; fed = u.result } in
+    let s : Blake2b = record { h = a.self.h; block = w.new.out; fed = u.result } in
     let f : s ≡ fed_all a.self (take n.result xs) =
-    rw (u.ensures, w.ensures, c.next_place.ensures, sub-zero)
+    rw (u.ensures.value, w.ensures, c.next_place.ensures, sub-zero)
     (feed-fill a.self xs n.result (search rules) (omega arith) (omega arith)) in (
       omega arith,
       rw c.flush-first.ensures (blocks-first a.self s xs n.result (omega arith) (omega arith) f),
@@ -39,13 +40,13 @@ returns c =
     let n = c.fill_bytes-at in
     let a = c.args in
     let xs = a.«data».now in
-    ⊎_elim
-    (λ w.
-    let l = w.3 in
-    rw (w.10, w.11, w.12, w.9.ensures, w.7.ensures)
-    (blocks-rest a.self xs l.at l.h l.fed l.inv.1 l.inv.0 (omega (arith, w.4.left))))
-    (λ w.
-    let e : length xs ≤ n.result = omega (arith, w.0.left) in
-    rw (w.1, w.2, w.3, u.ensures, q.ensures, c.next_place.ensures, sub-zero)
-    (feed-fill a.self xs n.result (search rules) (omega arith) (omega arith) ∙ rw (take_all n.result xs e)))
-    c.if-at-data.branch
+    elim c.if-at-data.branch [
+      | then-at-data+else-loop-at-test w ↦
+          let l = w.loop-at in
+          rw (w.h-is, w.block-is, w.fed-is, w.wrapping_add_u64-fed-then-at-data.ensures.value, w.store_bytes-then-at-data.ensures)
+          (blocks-rest a.self xs l.at l.h l.fed l.invariant.1 l.invariant.0 (omega (arith, w.loop-at-test.false)))
+      | else-at-data w ↦
+          let e : length xs ≤ n.result = omega (arith, w.if-at-data.false) in
+          rw (w.h-is, w.block-is, w.fed-is, u.ensures.value, q.ensures, c.next_place.ensures, sub-zero)
+          (feed-fill a.self xs n.result (search rules) (omega arith) (omega arith) ∙ rw (take_all n.result xs e))
+    ]

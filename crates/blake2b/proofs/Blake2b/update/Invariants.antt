@@ -1,11 +1,7 @@
 -- `blake2b::Blake2b::update` meets its contract: the waiting part is filled up, and then the locals stand where a block ends.
 -- Assumes nothing.
-use Rattle.std.proofs.Common.{◌≡◌, ◌+◌, ◌-◌, ◌<◌, ◌≤◌, length, take, refl, ◌∙◌, ⊎_elim, arith, take_all, rules}
-use native.Mathlib.Nat.{sub-zero}
-use Rattle.blake2b.specs.declared.Blake2b.{Blake2b}
-use Rattle.blake2b.specs.State.{fed_all}
-use Rattle.blake2b.proofs.Feed.{feed-fill}
-use Rattle.blake2b.proofs.WholeBlocks.{WholeBlocks, blocks-first, blocks-next, blocks-rest}
+use Rattle.std.proofs.Common.{◌-◌, ◌<◌, length}
+use Rattle.blake2b.proofs.WholeBlocks.{WholeBlocks}
 use Rattle.blake2b.proofs.Blake2b.update.Given as goal
 
 abbrev pub invariant-loop-at : goal.invariant-loop-at

@@ -1,6 +1,6 @@
 -- `blake2b::block::flush` meets its contract.
 -- Assumes nothing.
-use Rattle.std.proofs.Common.{◌≡◌, ◌∙◌, arith, rules, eq-eqb, ne_eqb}
+use Rattle.std.proofs.Common.{◌≡◌, ◌∙◌, arith, eq-eqb, ne_eqb}
 use Rattle.blake2b.specs.State.{waiting, flushed_words}
 use Rattle.blake2b.proofs.block.flush.Goals as goal
 

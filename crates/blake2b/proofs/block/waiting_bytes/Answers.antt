@@ -1,6 +1,6 @@
 -- `blake2b::block::waiting_bytes` meets its contract.
 -- Assumes nothing.
-use Rattle.std.proofs.Common.{arith, rules}
+use Rattle.std.proofs.Common.{arith}
 use Rattle.blake2b.specs.State.{waiting}
 use Rattle.blake2b.proofs.block.waiting_bytes.Goals as goal
 

@@ -10,7 +10,7 @@ use Rattle.cell_search.specs.Search.{cells_of, matches, search_of, cell_search}
 use Rattle.cell_search.specs.Cells.{cell_count}
 use Rattle.cell_search.proofs.CellLaws.{cells-listed, match_from, match-yes, match-no, match-end, places_of, found-places, second-match}
 use Rattle.cell_search.proofs.search.search_cells.Goals as goal
-use Rattle.cell_search.proofs.search.search_cells.Goals.{then-same_bytes, else-same_bytes}
+use Rattle.cell_search.proofs.search.search_cells.Goals.{then-same_bytes+in-Missing, else-same_bytes}
 
 pub loop-i-init : goal.loop-i-init
 unfolding cell_search matches match_from places_of
@@ -24,7 +24,7 @@ loop-i-preserved c =
     let more = rw c.loop-i.invariant.0 at c.loop-i-test.true in (
       c.loop-i.invariant.0,
       elim c.if-same_bytes.branch [
-        | then-same_bytes w ↦ c.loop-i.invariant.1 ∙ rw (w.in-Missing.is, w.found-is, match-yes a.field a.hash.now cells c.loop-i.i more (sym (rw c.cell_hash.ensures at c.same_bytes.ensures) ∙ w.if-same_bytes.true))
+        | then-same_bytes+in-Missing w ↦ c.loop-i.invariant.1 ∙ rw (w.in-Missing.is, w.found-is, match-yes a.field a.hash.now cells c.loop-i.i more (sym (rw c.cell_hash.ensures at c.same_bytes.ensures) ∙ w.if-same_bytes.true))
         | else-same_bytes w ↦ c.loop-i.invariant.1 ∙ rw (w.found-is, match-no a.field a.hash.now cells c.loop-i.i more (sym (rw c.cell_hash.ensures at c.same_bytes.ensures) ∙ w.if-same_bytes.false))
       ],
     )

@@ -2,7 +2,6 @@
 use Rattle.protocol.specs.Rows.{decide}
 use Rattle.protocol.specs.Write.{write_fault}
 use Rattle.exports.specs.Writers.{args_writer_fault}
-use borrow.Author.Rules.{rules}
 use Rattle.exports.proofs.args.check_account.Goals as goal
 
 pub returns : goal.returns

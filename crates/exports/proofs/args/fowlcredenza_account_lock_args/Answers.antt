@@ -1,5 +1,4 @@
 -- `exports::args::fowlcredenza_account_lock_args` meets its contract, as its two calls do. Assumes nothing.
-use borrow.Author.Rules.{rules}
 use Rattle.exports.proofs.args.fowlcredenza_account_lock_args.Goals as goal
 
 pub returns : goal.returns

@@ -2,7 +2,6 @@
 use mathlib.Core.Path.{sym, ◌∙◌}
 use Rattle.export_answers.proofs.Fits.{bytes-refused}
 use Rattle.exports.specs.Readers.{capability_words}
-use borrow.Author.Rules.{rules}
 use Rattle.exports.proofs.args.fowlcredenza_capability_for_operation.Goals as goal
 
 pub returns-in-Refused : goal.returns-in-Refused

@@ -1,6 +1,5 @@
 -- `exports::args::fowlcredenza_is_supported_algorithm` meets its contract, by cases of the test. Assumes nothing.
 use mathlib.Core.Path.{sym, ◌∙◌}
-use borrow.Author.Rules.{rules}
 use Rattle.exports.proofs.args.fowlcredenza_is_supported_algorithm.Goals as goal
 
 pub returns-then-is_supported_algorithm : goal.returns-then-is_supported_algorithm

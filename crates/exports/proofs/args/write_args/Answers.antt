@@ -10,7 +10,6 @@ use Rattle.protocol.proofs.Back.{write-passed}
 use Rattle.protocol.proofs.Outcome.{write-refused, write_done}
 use Rattle.export_answers.specs.Lent.{size_row}
 use Rattle.exports.specs.Writers.{args_writer_fault, args_written, args_stored}
-use borrow.Author.Rules.{rules}
 use Rattle.exports.proofs.args.write_args.Goals as goal
 
 pub returns-in-Failed : goal.returns-in-Failed

@@ -1,5 +1,4 @@
 -- `exports::hash::fowlcredenza_ckb_hash` meets its contract, as its two calls do. Assumes nothing.
-use borrow.Author.Rules.{rules}
 use Rattle.exports.proofs.hash.fowlcredenza_ckb_hash.Goals as goal
 
 pub returns : goal.returns

@@ -1,5 +1,4 @@
 -- `exports::proof::fowlcredenza_encode_public_key_proof` meets its contract, as its two calls do. Assumes nothing.
-use borrow.Author.Rules.{rules}
 use Rattle.exports.proofs.proof.fowlcredenza_encode_public_key_proof.Goals as goal
 
 pub returns : goal.returns

@@ -1,5 +1,4 @@
 -- `exports::request::fowlcredenza_encode_verifier_request` meets its contract, as its two calls do. Assumes nothing.
-use borrow.Author.Rules.{rules}
 use Rattle.exports.proofs.request.fowlcredenza_encode_verifier_request.Goals as goal
 
 pub returns : goal.returns

@@ -1,5 +1,4 @@
 -- `exports::state::fowlcredenza_encode_state` meets its contract, as its two calls do. Assumes nothing.
-use borrow.Author.Rules.{rules}
 use Rattle.exports.proofs.state.fowlcredenza_encode_state.Goals as goal
 
 pub returns : goal.returns

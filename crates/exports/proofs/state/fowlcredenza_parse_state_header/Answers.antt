@@ -2,7 +2,6 @@
 use mathlib.Core.Path.{sym, ◌∙◌}
 use Rattle.export_answers.proofs.Fits.{bytes-refused}
 use Rattle.exports.specs.Readers.{header_words, header_fields}
-use borrow.Author.Rules.{rules}
 use Rattle.exports.proofs.state.fowlcredenza_parse_state_header.Goals as goal
 
 pub returns-in-Refused : goal.returns-in-Refused

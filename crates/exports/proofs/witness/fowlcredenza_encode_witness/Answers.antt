@@ -1,5 +1,4 @@
 -- `exports::witness::fowlcredenza_encode_witness` meets its contract, as its two calls do. Assumes nothing.
-use borrow.Author.Rules.{rules}
 use Rattle.exports.proofs.witness.fowlcredenza_encode_witness.Goals as goal
 
 pub returns : goal.returns

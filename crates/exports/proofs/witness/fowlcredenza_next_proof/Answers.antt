@@ -2,7 +2,6 @@
 use mathlib.Core.Path.{sym, ◌∙◌}
 use Rattle.export_answers.proofs.Fits.{bytes-refused}
 use Rattle.exports.specs.Readers.{proof_step_words}
-use borrow.Author.Rules.{rules}
 use Rattle.exports.proofs.witness.fowlcredenza_next_proof.Goals as goal
 
 pub returns-in-Refused : goal.returns-in-Refused

@@ -2,7 +2,6 @@
 use mathlib.Core.Path.{sym, ◌∙◌}
 use Rattle.export_answers.proofs.Fits.{bytes-refused}
 use Rattle.exports.specs.Readers.{witness_header_words}
-use borrow.Author.Rules.{rules}
 use Rattle.exports.proofs.witness.fowlcredenza_parse_witness_header.Goals as goal
 
 pub returns-in-Refused : goal.returns-in-Refused

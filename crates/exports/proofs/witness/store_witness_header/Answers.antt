@@ -1,6 +1,5 @@
 -- `exports::witness::store_witness_header` meets its contract, as its call does. Assumes nothing.
 use Rattle.exports.specs.Readers.{witness_fields}
-use borrow.Author.Rules.{rules}
 use Rattle.exports.proofs.witness.store_witness_header.Goals as goal
 
 pub returns : goal.returns

@@ -5,7 +5,6 @@ use Rattle.export_answers.proofs.Sizes.{first-whole, second-whole}
 use Rattle.protocol.specs.Policy.{operation_rows}
 use Rattle.authorization.specs.Digest.{digest_answer, authorization_of}
 use Rattle.exports_transaction.specs.Answers.{lent_digest}
-use borrow.Author.Rules.{rules}
 use Rattle.exports_transaction.proofs.hashes.digest_lent.Goals as goal
 
 pub returns-in-Failed : goal.returns-in-Failed

@@ -1,5 +1,4 @@
 -- `exports_transaction::hashes::fowlcredenza_canonical_group_sighash` meets its contract, as its two calls do. Assumes nothing.
-use borrow.Author.Rules.{rules}
 use Rattle.exports_transaction.proofs.hashes.fowlcredenza_canonical_group_sighash.Goals as goal
 
 pub returns : goal.returns

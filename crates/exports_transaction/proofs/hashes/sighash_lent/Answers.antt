@@ -5,7 +5,6 @@ use lib.ListN.{length}
 use Rattle.scene_table.specs.Valid.{valid_table}
 use Rattle.group_sighash.specs.GroupSighash.{sighash_found}
 use Rattle.exports_transaction.specs.Answers.{lent_sighash}
-use borrow.Author.Rules.{rules}
 use Rattle.exports_transaction.proofs.hashes.sighash_lent.Goals as goal
 
 pub returns-then-table_valid : goal.returns-then-table_valid

@@ -1,5 +1,4 @@
 -- `exports_transaction::tables::fowlcredenza_script_args` meets its contract, as its two calls do. Assumes nothing.
-use borrow.Author.Rules.{rules}
 use Rattle.exports_transaction.proofs.tables.fowlcredenza_script_args.Goals as goal
 
 pub returns : goal.returns

@@ -1,7 +1,6 @@
 -- `exports_transaction::tables::place_stored` meets its contract, by cases of the answer. Assumes nothing.
 use Rattle.export_answers.proofs.Fits.{bytes-refused}
 use Rattle.exports_transaction.specs.Answers.{place_words}
-use borrow.Author.Rules.{rules}
 use Rattle.exports_transaction.proofs.tables.place_stored.Goals as goal
 
 pub returns-in-Refused : goal.returns-in-Refused

@@ -1,6 +1,5 @@
 -- `octets::array::array_32` meets its contract. Assumes nothing.
 use Rattle.octets.specs.Lists.{array_of}
-use borrow.Author.Rules.{rules}
 use Rattle.octets.proofs.array.array_32.Goals as goal
 
 pub returns : goal.returns

@@ -1,12 +1,9 @@
 -- `octets::compare::same_bytes` meets its contract: the elements passed are equal, so the rests decide.
 -- Assumes nothing.
-use mathlib.Core.Path.{◌≡◌, refl, sym, ◌∙◌}
+use mathlib.Core.Path.{◌≡◌}
 use Prim.Native.Nat.{◌-◌, ◌≤◌}
-use native.Mathlib.Omega.{arith}
-use borrow.Author.Tests.{eq-eqb, ne_eqb}
 use lib.ListN.{length, drop}
 use Rattle.octets.specs.Lists.{same}
-use Rattle.octets.proofs.Same.{same-lengths, same_turn, same_end}
 use Rattle.octets.proofs.compare.same_bytes.Given as goal
 
 abbrev pub invariant-loop-i : goal.invariant-loop-i

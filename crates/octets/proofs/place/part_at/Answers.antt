@@ -1,6 +1,5 @@
 -- `octets::place::part_at` meets its contract. Assumes nothing.
 use Rattle.octets.specs.Places.{bytes_at}
-use borrow.Author.Rules.{rules}
 use Rattle.octets.proofs.place.part_at.Goals as goal
 
 pub returns : goal.returns

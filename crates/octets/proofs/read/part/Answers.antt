@@ -4,7 +4,6 @@ use Prim.Native.Nat.{◌+◌, ◌-◌}
 use lib.ListN.{length}
 use native.Mathlib.Omega.{arith}
 use Rattle.octets.proofs.Parts.{part_out, part-clip}
-use borrow.Author.Rules.{rules}
 use Rattle.octets.proofs.read.part.Goals as goal
 
 pub returns-then-s-at : goal.returns-then-s-at

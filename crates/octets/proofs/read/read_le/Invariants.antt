@@ -1,12 +1,8 @@
 -- `octets::read::read_le` meets its contract: the value is the number in the bytes passed so far, from the last one down.
 -- Assumes nothing.
-use borrow.Author.Rules.{rules}
-use mathlib.Core.Path.{◌≡◌, ap₂, ◌∙◌}
-use Prim.Native.Nat.{ℕ, ◌+◌, ◌-◌, ◌≤◌, ◌<◌, ◌^◌}
-use native.Mathlib.Omega.{arith}
-use lib.ListN.{get_or}
-use Rattle.octets.specs.Le.{number_at, Bytes}
-use Rattle.octets.proofs.LeLaws.{number-turn, number-under, number-none}
+use mathlib.Core.Path.{◌≡◌}
+use Prim.Native.Nat.{◌+◌, ◌-◌, ◌≤◌}
+use Rattle.octets.specs.Le.{number_at}
 use Rattle.octets.proofs.read.read_le.Given as goal
 
 abbrev pub invariant-loop-left : goal.invariant-loop-left

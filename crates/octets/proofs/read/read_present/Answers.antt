@@ -2,7 +2,6 @@
 use mathlib.Core.Path.{◌∙◌}
 use native.Mathlib.Omega.{arith}
 use Rattle.octets.proofs.LeLaws.{number-out, number-clip}
-use borrow.Author.Rules.{rules}
 use Rattle.octets.proofs.read.read_present.Goals as goal
 
 pub returns-then-s-at : goal.returns-then-s-at

@@ -1,5 +1,4 @@
 -- `octets::read::u8_at` meets its contract: a number of 1 bytes fits. Assumes nothing.
-use borrow.Author.Rules.{rules}
 use Rattle.octets.proofs.LeLaws.{number_lt}
 use Rattle.octets.proofs.read.u8_at.Goals as goal
 

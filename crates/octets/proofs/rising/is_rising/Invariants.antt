@@ -1,13 +1,9 @@
 -- `octets::rising::is_rising` meets its contract: the numbers passed rise, so the rest decides, above the last of them.
 -- Assumes nothing.
-use mathlib.Core.Path.{◌≡◌, refl, sym, ◌∙◌}
+use mathlib.Core.Path.{◌≡◌}
 use Prim.Native.Nat.{◌-◌, ◌≤◌}
-use borrow.Author.Tests.{le-leb, lt-leb}
-use lib.ListN.{length, drop, get_or}
+use lib.ListN.{length, drop}
 use Rattle.octets.specs.Lists.{is_rising}
-use Rattle.octets.proofs.RisingLaws.{rising-turn, rising-end}
-use borrow.Author.Rules.{rules}
-use native.Mathlib.Omega.{arith}
 use Rattle.octets.proofs.rising.is_rising.Given as goal
 
 abbrev pub invariant-loop-i : goal.invariant-loop-i

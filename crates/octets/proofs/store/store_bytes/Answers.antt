@@ -4,7 +4,6 @@ use Prim.Native.Nat.{◌-◌}
 use lib.ListN.{length}
 use native.Mathlib.Omega.{arith}
 use Rattle.octets.proofs.Stores.{sets-out, sets-clip}
-use borrow.Author.Rules.{rules}
 use Rattle.octets.proofs.store.store_bytes.Goals as goal
 
 pub returns-then-out-at : goal.returns-then-out-at

@@ -4,7 +4,6 @@ use native.Mathlib.Omega.{arith}
 use Rattle.octets.specs.Le.{to_le}
 use Rattle.octets.proofs.LeLaws.{sets-to-clip}
 use Rattle.octets.proofs.Stores.{sets-out}
-use borrow.Author.Rules.{rules}
 use Rattle.octets.proofs.store.store_number.Goals as goal
 
 pub returns-then-out-at : goal.returns-then-out-at

@@ -1,14 +1,13 @@
 -- `octets::store::write_bytes` meets its contract: what is left to store, stored, is the whole.
 -- Assumes nothing.
-use borrow.Author.Rules.{rules}
 use mathlib.Core.Path.{◌≡◌, refl, ◌∙◌}
-use Prim.Native.Nat.{◌+◌, ◌-◌, ◌≤◌}
+use Prim.Native.Nat.{◌+◌}
 use mathlib.Core.List.{◌∷◌}
 use native.Mathlib.Omega.{arith}
 use native.Mathlib.Nat.{add-zero}
 use native.Mathlib.Numerals.{add-one}
-use lib.ListN.{length, drop, get_or, length-set, drop_of_length-le}
-use lib.Seq.{sets, drop-cons}
+use lib.ListN.{drop, get_or, length-set, drop_of_length-le}
+use lib.Seq.{drop-cons}
 use Rattle.octets.proofs.Stores.{sets-cons}
 use Rattle.octets.proofs.store.write_bytes.Goals as goal
 

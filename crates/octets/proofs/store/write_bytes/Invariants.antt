@@ -1,15 +1,9 @@
 -- `octets::store::write_bytes` meets its contract: what is left to store, stored, is the whole.
 -- Assumes nothing.
-use borrow.Author.Rules.{rules}
-use mathlib.Core.Path.{◌≡◌, refl, ◌∙◌}
+use mathlib.Core.Path.{◌≡◌}
 use Prim.Native.Nat.{◌+◌, ◌-◌, ◌≤◌}
-use mathlib.Core.List.{◌∷◌}
-use native.Mathlib.Omega.{arith}
-use native.Mathlib.Nat.{add-zero}
-use native.Mathlib.Numerals.{add-one}
-use lib.ListN.{length, drop, get_or, length-set, drop_of_length-le}
-use lib.Seq.{sets, drop-cons}
-use Rattle.octets.proofs.Stores.{sets-cons}
+use lib.ListN.{length, drop}
+use lib.Seq.{sets}
 use Rattle.octets.proofs.store.write_bytes.Given as goal
 
 abbrev pub invariant-loop-i : goal.invariant-loop-i

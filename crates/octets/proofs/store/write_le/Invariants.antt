@@ -1,15 +1,10 @@
 -- `octets::store::write_le` meets its contract: what is left to store, stored, is the whole.
 -- Assumes nothing.
-use borrow.Author.Rules.{rules}
-use mathlib.Core.Path.{◌≡◌, refl, ◌∙◌}
+use mathlib.Core.Path.{◌≡◌}
 use Prim.Native.Nat.{◌+◌, ◌-◌, ◌≤◌}
-use native.Mathlib.Omega.{arith}
-use native.Mathlib.Nat.{add-zero, sub-zero}
-use lib.ListN.{length, length-set}
+use lib.ListN.{length}
 use lib.Seq.{sets}
 use Rattle.octets.specs.Le.{to_le}
-use Rattle.octets.proofs.LeLaws.{to-turn, to_none}
-use Rattle.octets.proofs.Stores.{sets-cons}
 use Rattle.octets.proofs.store.write_le.Given as goal
 
 abbrev pub invariant-loop-i : goal.invariant-loop-i

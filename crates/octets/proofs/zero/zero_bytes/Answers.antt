@@ -1,8 +1,5 @@
 -- `octets::zero::zero_bytes` meets its contract. Assumes nothing.
-use Prim.Native.Nat.{◌-◌}
-use lib.ListN.{length}
-use borrow.Author.Rules.{rules}
-use Rattle.octets.proofs.ZeroLoop.{ZeroedTo, zeroed-none, zeroed-more, zeroed-all}
+use Rattle.octets.proofs.ZeroLoop.{zeroed-none, zeroed-more, zeroed-all}
 use Rattle.octets.proofs.zero.zero_bytes.Goals as goal
 
 pub loop-i-init : goal.loop-i-init

@@ -1,8 +1,7 @@
 -- `octets::zero::zero_bytes` meets its contract. Assumes nothing.
 use Prim.Native.Nat.{◌-◌}
 use lib.ListN.{length}
-use borrow.Author.Rules.{rules}
-use Rattle.octets.proofs.ZeroLoop.{ZeroedTo, zeroed-none, zeroed-more, zeroed-all}
+use Rattle.octets.proofs.ZeroLoop.{ZeroedTo}
 use Rattle.octets.proofs.zero.zero_bytes.Given as goal
 
 abbrev pub invariant-loop-i : goal.invariant-loop-i

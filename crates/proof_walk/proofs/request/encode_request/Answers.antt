@@ -8,4 +8,8 @@ use Rattle.proof_walk.proofs.request.encode_request.Goals as goal
 pub returns : goal.returns
 unfolding request_content entry_of
 returns c =
-    let w = rw (c.array_32.ensures, c.key_of.ensures, c.u8_at.ensures, c.algorithm_of.ensures, c.aux_of-aux.ensures, number-one) at c.encode_verifier_request.ensures in record { value = w.0; out_after = w.1 }
+    let w = c.encode_verifier_request.ensures in
+    record {
+      value = rw (c.array_32.ensures, c.key_of.ensures, c.u8_at.ensures, c.algorithm_of.ensures, c.aux_of-aux.ensures, number-one) at w.value;
+      out_after = rw (c.array_32.ensures, c.key_of.ensures, c.u8_at.ensures, c.algorithm_of.ensures, c.aux_of-aux.ensures, number-one) at w.out_after;
+    }

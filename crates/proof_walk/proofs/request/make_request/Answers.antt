@@ -25,11 +25,11 @@ written-length : {m n : ℕ} → Written m ≡ Written n → m ≡ n
 written-length h = cc
 
 -- the digest is an array of 32 bytes
-digest-long-1 : (s : goal.In-Refused) → length c.args.authorization.digest ≡ 32
-digest-long-1 s = search rules
+digest-long-1 : (c : goal.In-Refused) → length c.args.authorization.digest ≡ 32
+digest-long-1 c = search rules
 
-digest-long-2 : (s : goal.After-weight_of) → length c.args.authorization.digest ≡ 32
-digest-long-2 s = search rules
+digest-long-2 : (c : goal.After-weight_of) → length c.args.authorization.digest ≡ 32
+digest-long-2 c = search rules
 
 -- what the checks find is what the proof's rows say
 checked-1 : (c : goal.In-Failed) →
@@ -53,33 +53,33 @@ checked-2 c =
     ∙ ap (decide Passed) (found_rows_lem a.table.now a.store.now a.state.now a.authorization.operation a.authorization.digest (length a.out.now) a.slot a.proof.now f.result f.ensures)
 
 -- where they find nothing every row passes, by the entry that was found
-rows-1 : (t : goal.In-Refused) →
+rows-1 : (c : goal.In-Refused) →
     let a = c.args in
     decide Passed (found_rows c.is_known-known.result a.authorization.operation (scene_deps a.table.now a.store.now) (entry_of c.entry_in-entry.result.now) (length a.proof.now) (length a.out.now))
     ≡ Passed
-rows-1 t = sym c.check_found.ensures ∙ c.in-Passed.is
+rows-1 c = sym c.check_found.ensures ∙ c.in-Passed.is
 
-rows-2 : (t : goal.After-weight_of) →
+rows-2 : (c : goal.After-weight_of) →
     let a = c.args in
     decide Passed (found_rows c.is_known-known.result a.authorization.operation (scene_deps a.table.now a.store.now) (entry_of c.entry_in-entry.result.now) (length a.proof.now) (length a.out.now))
     ≡ Passed
-rows-2 t = sym c.check_found.ensures ∙ c.in-Passed.is
+rows-2 c = sym c.check_found.ensures ∙ c.in-Passed.is
 
 -- and the writer answers the request's length
-wrote-1 : (d : goal.In-Refused) →
+wrote-1 : (c : goal.In-Refused) →
     let a = c.args in
     c.encode_request.result
     ≡ Written (length (request_bytes (request_content a.authorization.operation a.authorization.digest (entry_of c.entry_in-entry.result.now) (proof_with a.slot a.proof.now))))
-wrote-1 d =
+wrote-1 c =
     let a = c.args in
     c.encode_request.ensures.value
     ∙ made-written _ a.authorization.operation a.authorization.digest _ (entry_of c.entry_in-entry.result.now) (proof_with a.slot a.proof.now) a.out.now (digest-long-1 c) (rows-1 c)
 
-wrote-2 : (d : goal.After-weight_of) →
+wrote-2 : (c : goal.After-weight_of) →
     let a = c.args in
     c.encode_request.result
     ≡ Written (length (request_bytes (request_content a.authorization.operation a.authorization.digest (entry_of c.entry_in-entry.result.now) (proof_with a.slot a.proof.now))))
-wrote-2 d =
+wrote-2 c =
     let a = c.args in
     c.encode_request.ensures.value
     ∙ made-written _ a.authorization.operation a.authorization.digest _ (entry_of c.entry_in-entry.result.now) (proof_with a.slot a.proof.now) a.out.now (digest-long-2 c) (rows-2 c)
@@ -101,7 +101,7 @@ returns-in-Written c =
     let len = written-length (sym c.in-Written.is ∙ wrote-2 c) in (
       record {
         passed = sym (checked-2 c) ∙ c.in-Passed.is;
-        wrote-2 = c.encode_request.ensures.out_after ∙ made-stored _ a.authorization.operation a.authorization.digest _ (entry_of e.result.now) p a.out.now n (rows-2 c) ∙ rw e.ensures (ap (answered a.out.now) q);
+        wrote = c.encode_request.ensures.out_after ∙ made-stored _ a.authorization.operation a.authorization.digest _ (entry_of e.result.now) p a.out.now n (rows-2 c) ∙ rw e.ensures (ap (answered a.out.now) q);
         long = len ∙ rw e.ensures (ap length q);
         fits = omega (arith, len, made-fits _ a.authorization.operation a.authorization.digest _ (entry_of e.result.now) p a.out.now n (rows-2 c));
       },

@@ -8,17 +8,17 @@ use Rattle.proof_walk.proofs.WalkLaws.{verdict-lent}
 use borrow.Author.Rules.{rules}
 use Rattle.proof_walk.proofs.walk.walk_proof.Goals as goal
 
-C-1 : (c : goal.In-Refused) → Context
+abbrev C-1 : (c : goal.In-Refused) → Context
 C-1 s =
     let a = s.args in
     walk_context a.table.now a.store.now a.state.now a.authorization.operation a.authorization.digest (length a.out.now)
 
-C-2 : (c : goal.In-Refused-make_request) → Context
+abbrev C-2 : (c : goal.In-Refused-make_request) → Context
 C-2 s =
     let a = s.args in
     walk_context a.table.now a.store.now a.state.now a.authorization.operation a.authorization.digest (length a.out.now)
 
-C-3 : (c : goal.After-apply_verdict) → Context
+abbrev C-3 : (c : goal.After-apply_verdict) → Context
 C-3 s =
     let a = s.args in
     walk_context a.table.now a.store.now a.state.now a.authorization.operation a.authorization.digest (length a.out.now)

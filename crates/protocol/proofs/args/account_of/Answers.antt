@@ -1,6 +1,5 @@
 -- `protocol::args::account_of` meets its contract. Assumes nothing.
 use Rattle.protocol.specs.Args.{account_of}
-use borrow.Author.Rules.{rules}
 use Rattle.protocol.proofs.args.account_of.Goals as goal
 
 pub returns : goal.returns

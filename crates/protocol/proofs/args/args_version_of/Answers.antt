@@ -1,5 +1,4 @@
 -- `protocol::args::args_version_of` meets its contract. Assumes nothing.
-use borrow.Author.Rules.{rules}
 use Rattle.protocol.proofs.args.args_version_of.Goals as goal
 
 pub returns : goal.returns

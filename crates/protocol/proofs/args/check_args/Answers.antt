@@ -1,7 +1,6 @@
 -- `protocol::args::check_args` meets its contract: the rows, last to first. Assumes nothing.
 use Rattle.protocol.specs.Rows.{decide}
 use Rattle.protocol.specs.Args.{args_rows}
-use borrow.Author.Rules.{rules}
 use Rattle.protocol.proofs.args.check_args.Goals as goal
 
 pub returns : goal.returns

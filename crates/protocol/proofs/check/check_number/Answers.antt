@@ -1,5 +1,4 @@
 -- `protocol::check::check_number` meets its contract, by what was found. Assumes nothing.
-use borrow.Author.Rules.{rules}
 use Rattle.protocol.proofs.check.check_number.Goals as goal
 
 pub returns-in-Failed : goal.returns-in-Failed

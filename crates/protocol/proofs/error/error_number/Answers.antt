@@ -1,5 +1,4 @@
 -- `protocol::error::error_number` meets its contract, by its cases. Assumes nothing.
-use borrow.Author.Rules.{rules}
 use Rattle.protocol.proofs.error.error_number.Goals as goal
 
 pub returns-in-SceneTooLong : goal.returns-in-SceneTooLong

@@ -45,8 +45,8 @@ returns-in_default c =
     let s = c.loop-rest.rest.now in
     let e = c.find-e.result in
     let cut = c.find-e.ensures.cut (omega arith) in
-    let st = c.read_line-step.new.s.1.0 in
-    let tb = c.read_line-step.new.s.1.1.0 in
+    let st = c.read_line-step.new.store in
+    let tb = c.read_line-step.new.table in
     let done : step_outcome c.read_line-step.result st tb ≡ line_outcome (state_holding l.s l.store l.table) (take e s) = rw c.head.ensures.result_value at c.read_line-step.ensures.table_after in
     let told : step_outcome c.read_line-step.result st tb ≡ _ = ap (λ (x : LineStep). step_outcome x st tb) c.in_default.is in
     told ∙ sym (l.invariant.0 ∙ run-off (state_holding l.s l.store l.table) (take e s) (drop (e + 1) s) _ cut _ (sym done ∙ told))
@@ -57,14 +57,14 @@ loop-rest-preserved c =
     let s = c.loop-rest.rest.now in
     let e = c.find-e.result in
     let cut = c.find-e.ensures.cut (omega arith) in
-    let st = c.read_line-step.new.s.1.0 in
-    let tb = c.read_line-step.new.s.1.1.0 in
+    let st = c.read_line-step.new.store in
+    let tb = c.read_line-step.new.table in
     let done : step_outcome c.read_line-step.result st tb ≡ line_outcome (state_holding l.s l.store l.table) (take e s) = rw c.head.ensures.result_value at c.read_line-step.ensures.table_after in
     let after = c.in-Next.after in
     let is : c.read_line-step.result ≡ Next after = c.in-Next.is in
     let k : ReadyAfter l.s (length c.head.result.now) (length l.store) (length l.table) (Next after) = rw is at c.read_line-step.ensures.ready_after in (
       l.invariant.0 ∙ run_on (state_holding l.s l.store l.table) (take e s) (drop (e + 1) s) _ cut (state_holding after st tb) (sym done ∙ ap (λ (x : LineStep). step_outcome x st tb) is) ∙ rw c.tail-next.ensures.result_value,
-      c.read_line-step.auto.1.1.0 ∙ l.invariant.1,
-      c.read_line-step.auto.1.1.1.0 ∙ l.invariant.2,
+      c.read_line-step.auto.store ∙ l.invariant.1,
+      c.read_line-step.auto.table ∙ l.invariant.2,
       record { known = k.0.known; few = k.0.few; inside = omega arith; small = omega arith; enough = l.invariant.3.enough; fits = k.0.fits },
     )

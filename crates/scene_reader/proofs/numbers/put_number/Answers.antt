@@ -22,7 +22,10 @@ pub put_halves-requires-in-Capacity : goal.put_halves-requires-in-Capacity
 put_halves-requires-in-Capacity c = omega (arith, rw c.in-Capacity.is at c.requires.f_in_bounds)
 
 pub put_digits-requires : goal.put_digits-requires
-put_digits-requires c = let w = omega (arith, rw c.in-Digits.is at c.requires.f_in_bounds, length-map c.args.f.now hex_val) in record { f_in_bounds = w.0; f_len_bound = w.1 }
+put_digits-requires c =
+    let in_digits = rw c.in-Digits.is at c.requires.f_in_bounds in
+    let as_long = length-map c.args.f.now hex_val in
+    record { f_in_bounds = omega (arith, in_digits, as_long); f_len_bound = omega (arith, in_digits, as_long) }
 
 pub returns-in-Group : goal.returns-in-Group
 returns-in-Group c = record { value = rw c.in-Group.is; table_after = rw (c.in-Group.is, c.digit.ensures) }

@@ -43,8 +43,8 @@ loop-rest-preserved c =
     let more : e < length l.rest.now = omega arith in
     let n = put_on field_entries line_entries numbers_on numbers-none l.t l.rest.now f e c.find-e.ensures c.head-f.ensures.result_value l.table _ l.entry _ c.put_number-entry.ensures.value c.put_number-entry.ensures.table_after _ _ more c.next_form-t.ensures c.tail-next.ensures.result_value in
     let b = put_on field_bytes line_bytes bytes_on bytes-none l.t l.rest.now f e c.find-e.ensures c.head-f.ensures.result_value l.store _ l.at _ c.put_bytes-at.ensures.value c.put_bytes-at.ensures.store_after _ _ more c.next_form-t.ensures c.tail-next.ensures.result_value in (
-      c.put_bytes-at.auto.1.1.0 ∙ l.invariant.0,
-      c.put_number-entry.auto.1.1.0 ∙ l.invariant.1,
+      c.put_bytes-at.auto.store ∙ l.invariant.0,
+      c.put_number-entry.auto.table ∙ l.invariant.1,
       omega arith,
       omega arith,
       sym n.0 ∙ l.invariant.4,

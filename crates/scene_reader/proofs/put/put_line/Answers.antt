@@ -20,7 +20,7 @@ put_fields-end-requires c =
     record { fields_len_bound = (p.fields_len_bound.0, p.fields_len_bound.1); fields_in_bounds = rw c.first_form.ensures (simp length-set p.k_in_bounds.1) }
 
 pub shape_of-table : goal.shape_of-table
-shape_of-table c = c.put_fields-end.auto.1.1.1.1.0 ∙ simp length-set
+shape_of-table c = c.put_fields-end.auto.table ∙ simp length-set
 
 pub returns : goal.returns
 returns c =

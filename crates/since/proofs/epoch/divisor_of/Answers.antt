@@ -2,7 +2,6 @@
 use mathlib.Core.Path.{sym}
 use borrow.Author.Tests.{eq-eqb, ne_eqb}
 use Rattle.since.specs.Epoch.{divisor}
-use borrow.Author.Rules.{rules}
 use Rattle.since.proofs.epoch.divisor_of.Goals as goal
 
 pub returns-then-length-eq0 : goal.returns-then-length-eq0

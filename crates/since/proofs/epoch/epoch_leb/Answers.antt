@@ -2,7 +2,6 @@
 use native.Mathlib.Omega.{arith}
 use Rattle.since.specs.Epoch.{epoch_leb}
 use Rattle.since.proofs.EpochOrder.{epoch-products}
-use borrow.Author.Rules.{rules}
 use Rattle.since.proofs.epoch.epoch_leb.Goals as goal
 
 pub overflow_mul-result : goal.overflow_mul-result

@@ -2,7 +2,6 @@
 use mathlib.Core.Path.{sym}
 use borrow.Author.Tests.{lt-ltb, le-ltb, eq-eqb, ne_eqb}
 use Rattle.since.specs.Epoch.{epoch_well_formed}
-use borrow.Author.Rules.{rules}
 use Rattle.since.proofs.epoch.epoch_well_formed.Goals as goal
 
 pub returns-then-index-length : goal.returns-then-index-length

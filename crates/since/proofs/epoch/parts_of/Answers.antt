@@ -2,7 +2,6 @@
 use native.Mathlib.Omega.{arith}
 use Rattle.since.specs.Epoch.{parts}
 use Rattle.since.proofs.EpochOrder.{parts-bound}
-use borrow.Author.Rules.{rules}
 use Rattle.since.proofs.epoch.parts_of.Goals as goal
 
 pub overflow_mul-result : goal.overflow_mul-result

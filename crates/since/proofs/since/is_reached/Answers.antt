@@ -3,7 +3,6 @@ use mathlib.Core.Path.{sym, ◌∙◌}
 use mathlib.Core.Logic.{◌≢◌}
 use borrow.Author.Tests.{eq-eqb, ne_eqb}
 use Rattle.since.specs.Since.{since_fields, reached}
-use borrow.Author.Rules.{rules}
 use Rattle.since.proofs.since.is_reached.Goals as goal
 
 pub returns-then-relative_of : goal.returns-then-relative_of

@@ -3,7 +3,6 @@ use mathlib.Core.Path.{sym}
 use mathlib.Core.Bool.{and-true}
 use borrow.Author.Tests.{eq-eqb, ne_eqb}
 use Rattle.since.specs.Since.{in_epochs, well_formed}
-use borrow.Author.Rules.{rules}
 use Rattle.since.proofs.since.is_well_formed.Goals as goal
 
 pub returns-then-reserved_of-ne0 : goal.returns-then-reserved_of-ne0

@@ -2,7 +2,6 @@
 use mathlib.Core.Path.{sym}
 use borrow.Author.Tests.{eq-eqb, ne_eqb}
 use Rattle.since.specs.Since.{in_epochs, value_leb}
-use borrow.Author.Rules.{rules}
 use Rattle.since.proofs.since.value_leb.Goals as goal
 
 pub returns-then-metric_of-eq-EPOCHS : goal.returns-then-metric_of-eq-EPOCHS

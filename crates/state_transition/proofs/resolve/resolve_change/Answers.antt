@@ -37,8 +37,8 @@ returns c =
       c.index-current.ensures,
       c.search_cells-outputs.ensures,
       c.search_cells-inputs.ensures,
-      found-count (state_indices source.Input a.account-id.now s),
-      several-count (state_indices source.Input a.account-id.now s),
-      one-count (state_indices source.Output a.account-id.now s),
+      found-count (state_indices source.Input a.account_id.now s),
+      several-count (state_indices source.Input a.account_id.now s),
+      one-count (state_indices source.Output a.account_id.now s),
     )
-    (ap (λ (x : Check). resolved_at x (state_index source.Input a.account-id.now s) (state_index source.Output a.account-id.now s)) (sym (decide-then _ (type_rows _ _))))
+    (ap (λ (x : Check). resolved_at x (state_index source.Input a.account_id.now s) (state_index source.Output a.account_id.now s)) (sym (decide-then _ (type_rows _ _))))

@@ -24,7 +24,7 @@ returns c =
       c.is_missing.ensures,
       c.search_cells-deps.ensures,
       c.search_cells-inputs.ensures,
-      missing-count (state_indices source.Input a.account-id.now s),
-      found-count (state_indices source.CellDep a.account-id.now s),
-      several-count (state_indices source.CellDep a.account-id.now s),
+      missing-count (state_indices source.Input a.account_id.now s),
+      found-count (state_indices source.CellDep a.account_id.now s),
+      several-count (state_indices source.CellDep a.account_id.now s),
     )

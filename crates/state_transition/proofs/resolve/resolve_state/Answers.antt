@@ -29,11 +29,11 @@ unfolding resolved_of spend_of operation_rows resolve_rows state_source decide
 returns-then-operation-eq-OP_SPEND c =
     let a = c.args in
     rw (eq-eqb _ 1 c.if-operation-eq-OP_SPEND.true)
-    (c.resolve_spend.ensures ∙ ap (λ (x : Check). spend_of x a.account-id.now (scene_in a.table.now a.store.now)) (known-1 c))
+    (c.resolve_spend.ensures ∙ ap (λ (x : Check). spend_of x a.account_id.now (scene_in a.table.now a.store.now)) (known-1 c))
 
 pub returns-else-operation-eq-OP_SPEND : goal.returns-else-operation-eq-OP_SPEND
 unfolding resolved_of change_of operation_rows resolve_rows state_source decide
 returns-else-operation-eq-OP_SPEND c =
     let a = c.args in
     rw (ne_eqb _ 1 c.if-operation-eq-OP_SPEND.false)
-    (c.resolve_change.ensures ∙ ap (λ (x : Check). change_of x a.account-id.now (scene_in a.table.now a.store.now)) (known-2 c))
+    (c.resolve_change.ensures ∙ ap (λ (x : Check). change_of x a.account_id.now (scene_in a.table.now a.store.now)) (known-2 c))

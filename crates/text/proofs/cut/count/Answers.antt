@@ -1,12 +1,6 @@
 -- `text::cut::count` meets its contract. Assumes nothing.
-use borrow.Author.Rules.{rules}
 use native.Mathlib.Omega.{arith}
-use Prim.Native.Nat.{◌+◌, ◌-◌, ◌≤◌}
-use mathlib.Core.Path.{◌≡◌}
-use lib.ListN.{length, drop}
-use Rattle.text.specs.Text.{pieces}
 use Rattle.text.proofs.Pieces.{more-pieces, same-pieces, one_piece}
-use mathlib.Core.Logic.{⊎_elim}
 use Rattle.text.proofs.cut.count.Goals as goal
 use Rattle.text.proofs.cut.count.Goals.{then-s-i, else-s-i}
 

@@ -1,11 +1,8 @@
 -- `text::cut::find` meets its contract. Assumes nothing.
 use Prim.Native.Nat.{◌≤◌, ◌-◌}
-use mathlib.Core.Path.{◌≡◌, ◌∙◌}
-use borrow.Author.Rules.{rules}
-use native.Mathlib.Omega.{arith}
+use mathlib.Core.Path.{◌≡◌}
 use lib.ListN.{length, take, drop}
 use Rattle.text.specs.Text.{pieces, before}
-use Rattle.text.proofs.Pieces.{before-none, cut-here, cut_on, cut-end}
 use Rattle.text.proofs.cut.find.Given as goal
 
 abbrev pub invariant-loop-i : goal.invariant-loop-i

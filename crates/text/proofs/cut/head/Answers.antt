@@ -1,7 +1,6 @@
 -- `text::cut::head` meets its contract. Assumes nothing.
 use mathlib.Core.Path.{ap, ◌∙◌}
 use lib.ListN.{length, length-take}
-use borrow.Author.Rules.{rules}
 use Rattle.text.proofs.cut.head.Goals as goal
 
 pub returns : goal.returns

@@ -1,9 +1,6 @@
 -- `text::decimal::all_between` meets its contract. Assumes nothing.
 use borrow.Author.Rules.{rules}
-use Prim.Native.Nat.{◌-◌, ◌≤◌}
-use mathlib.Core.Path.{◌≡◌, refl, sym, ◌∙◌}
-use lib.ListN.{length, drop}
-use Rattle.octets.specs.Lists.{every}
+use mathlib.Core.Path.{refl, sym, ◌∙◌}
 use Rattle.octets.proofs.Every.{every-on, every-off, every-end}
 use Rattle.text.proofs.RangeLaws.{between-yes, between-under, between-over}
 use Rattle.text.specs.Text.{in_range}

@@ -1,14 +1,8 @@
 -- `text::decimal::value` meets its contract. Assumes nothing.
-use borrow.Author.Rules.{rules}
-use native.Mathlib.Omega.{arith}
 use Prim.Native.Nat.{◌-◌, ◌≤◌, ◌<◌, ◌^◌}
-use mathlib.Core.Path.{◌≡◌, refl, ◌∙◌}
+use mathlib.Core.Path.{◌≡◌}
 use lib.ListN.{length, drop}
-use borrow.Author.Tests.{lt-ltb, le-ltb}
-use Rattle.octets.proofs.Every.{every-nth}
-use Rattle.text.proofs.RangeLaws.{between-low}
-use Rattle.text.proofs.DecimalLaws.{decimal-on, decimal-end, decimal-over}
-use Rattle.text.specs.Text.{in_range, decimal, number_of}
+use Rattle.text.specs.Text.{decimal}
 use Rattle.text.proofs.decimal.value.Given as goal
 
 abbrev pub invariant-loop-i : goal.invariant-loop-i

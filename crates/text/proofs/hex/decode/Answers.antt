@@ -3,7 +3,6 @@ use mathlib.Core.Path.{◌≡◌, sym, ◌∙◌}
 use Prim.Native.Nat.{◌-◌, ◌*◌}
 use native.Mathlib.Omega.{arith}
 use lib.ListN.{length}
-use borrow.Author.Rules.{rules}
 use Rattle.octets.proofs.Stores.{sets-out, sets-clip}
 use Rattle.text.specs.Text.{hex_bytes}
 use Rattle.text.proofs.HexLaws.{hex-take}

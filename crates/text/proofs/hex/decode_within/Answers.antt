@@ -1,12 +1,8 @@
 -- `text::hex::decode_within` meets its contract. Assumes nothing.
 use borrow.Author.Rules.{rules}
-use Prim.Native.Nat.{◌+◌, ◌-◌, ◌/◌, ◌≤◌}
-use mathlib.Core.Path.{◌≡◌, refl, sym, ◌∙◌}
-use lib.ListN.{length, drop}
+use mathlib.Core.Path.{refl, sym, ◌∙◌}
 use native.Mathlib.Numerals.{add-one}
-use Rattle.text.specs.Text.{hex_bytes}
 use Rattle.text.proofs.HexLaws.{hex-pair, hex-end}
-use lib.Seq.{sets}
 use Rattle.text.proofs.hex.decode_within.Goals as goal
 
 pub loop-i-init : goal.loop-i-init

@@ -1,11 +1,8 @@
 -- `text::hex::decode_within` meets its contract. Assumes nothing.
-use borrow.Author.Rules.{rules}
 use Prim.Native.Nat.{◌+◌, ◌-◌, ◌/◌, ◌≤◌}
-use mathlib.Core.Path.{◌≡◌, refl, sym, ◌∙◌}
+use mathlib.Core.Path.{◌≡◌}
 use lib.ListN.{length, drop}
-use native.Mathlib.Numerals.{add-one}
 use Rattle.text.specs.Text.{hex_bytes}
-use Rattle.text.proofs.HexLaws.{hex-pair, hex-end}
 use lib.Seq.{sets}
 use Rattle.text.proofs.hex.decode_within.Given as goal
 

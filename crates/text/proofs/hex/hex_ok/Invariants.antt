@@ -1,11 +1,9 @@
 -- `text::hex::hex_ok` meets its contract. Assumes nothing.
 use Prim.Native.Nat.{◌-◌, ◌≤◌}
-use mathlib.Core.Bool.{◌&&◌, and-true}
-use mathlib.Core.Path.{◌≡◌, refl, sym, ◌∙◌}
-use borrow.Author.Rules.{rules}
+use mathlib.Core.Bool.{◌&&◌}
+use mathlib.Core.Path.{◌≡◌}
 use lib.ListN.{length, drop}
 use Rattle.octets.specs.Lists.{every}
-use Rattle.octets.proofs.Every.{every-next, every-end}
 use Rattle.text.specs.Text.{hex_ok, is_hex}
 use Rattle.text.proofs.hex.hex_ok.Given as goal
 

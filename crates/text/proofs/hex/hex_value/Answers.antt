@@ -1,7 +1,6 @@
 -- `text::hex::hex_value` meets its contract. Assumes nothing.
 use mathlib.Core.Path.{◌≡◌}
 use Prim.Native.Nat.{◌+◌}
-use borrow.Author.Rules.{rules}
 use Rattle.text.specs.Text.{hex_val}
 use Rattle.text.proofs.HexLaws.{hex-sum, hex-small}
 use Rattle.text.proofs.hex.hex_value.Goals as goal

@@ -1,6 +1,5 @@
 -- `text::hex::offset` meets its contract. Assumes nothing.
 use native.Mathlib.Omega.{arith}
-use borrow.Author.Rules.{rules}
 use Rattle.text.proofs.RangeLaws.{between-yes, between-under, between-over}
 use Rattle.text.proofs.hex.offset.Goals as goal
 

@@ -1,5 +1,4 @@
 -- `text::print::hex_digit` meets its contract. Assumes nothing.
-use borrow.Author.Rules.{rules}
 use borrow.Author.Tests.{lt-ltb, le-ltb}
 use Rattle.text.specs.Print.{digit_text}
 use Rattle.text.proofs.print.hex_digit.Goals as goal

@@ -1,7 +1,6 @@
 -- `text::print::put_byte` meets its contract: past the end nothing is stored. Assumes nothing.
 use mathlib.Core.Path.{sym}
 use mathlib.Core.List.{[], ◌∷◌}
-use borrow.Author.Rules.{rules}
 use Rattle.octets.proofs.Stores.{sets-out}
 use Rattle.text.proofs.print.put_byte.Goals as goal
 

@@ -1,5 +1,4 @@
 -- `text::print::put_decimal` meets its contract: past the end nothing is put, as at the end. Assumes nothing.
-use borrow.Author.Rules.{rules}
 use mathlib.Core.Path.{◌∙◌}
 use Rattle.text.specs.Print.{decimal_text, number_text}
 use Rattle.text.proofs.PrintLaws.{sets_end}

@@ -1,5 +1,4 @@
 -- `text::print::put_hex` meets its contract: the bytes that have no room have no part in it. Assumes nothing.
-use borrow.Author.Rules.{rules}
 use Prim.Native.Nat.{◌-◌, ◌*◌}
 use mathlib.Core.Path.{◌≡◌, sym, ◌∙◌}
 use native.Mathlib.Omega.{arith}

@@ -1,13 +1,9 @@
 -- `text::print::put_hex_within` meets its contract: what is left to store, stored, is the whole. Assumes nothing.
-use borrow.Author.Rules.{rules}
-use Prim.Native.Nat.{ℕ, ◌+◌, ◌-◌, ◌*◌, ◌/◌, ◌%◌, ◌≤◌}
-use mathlib.Core.Path.{◌≡◌, refl, sym, ap, ◌∙◌}
-use mathlib.Core.List.{List}
-use native.Mathlib.Omega.{arith}
-use lib.ListN.{length, drop, get_or}
+use Prim.Native.Nat.{◌+◌, ◌-◌, ◌*◌, ◌≤◌}
+use mathlib.Core.Path.{◌≡◌}
+use lib.ListN.{length, drop}
 use lib.Seq.{sets}
-use Rattle.text.specs.Print.{digit_text, hex_text}
-use Rattle.text.proofs.PrintLaws.{sets-two, hex-turn, hex-text-end}
+use Rattle.text.specs.Print.{hex_text}
 use Rattle.text.proofs.print.put_hex_within.Given as goal
 
 abbrev pub invariant-loop-i : goal.invariant-loop-i

@@ -2,7 +2,6 @@
 use mathlib.Core.Path.{sym, ◌∙◌}
 use Rattle.account_state.specs.State.{state_header_answer, read_state_header}
 use Rattle.account_state.proofs.StateLaws.{head-room}
-use borrow.Author.Rules.{rules}
 use Rattle.account_state.proofs.header.StateHeader.parse.Goals as goal
 
 pub header_at-requires : goal.header_at-requires

@@ -1,7 +1,6 @@
 -- `protocol::args::AccountLockArgs::parse` meets its contract, by what the checks find. Assumes nothing.
 use mathlib.Core.Path.{sym, ◌∙◌}
 use Rattle.protocol.specs.Args.{args_answer, read_args}
-use borrow.Author.Rules.{rules}
 use Rattle.protocol.proofs.args.AccountLockArgs.parse.Goals as goal
 
 pub returns-in-Failed : goal.returns-in-Failed

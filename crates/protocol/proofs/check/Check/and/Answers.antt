@@ -1,6 +1,5 @@
 -- `protocol::check::Check::and` meets its contract, by its cases. Assumes nothing.
 use Rattle.protocol.specs.Rows.{◌then◌}
-use borrow.Author.Rules.{rules}
 use Rattle.protocol.proofs.check.Check.and.Goals as goal
 
 pub returns-in-Failed : goal.returns-in-Failed

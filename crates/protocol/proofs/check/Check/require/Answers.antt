@@ -1,6 +1,5 @@
 -- `protocol::check::Check::require` meets its contract, by its cases. Assumes nothing.
 use Rattle.protocol.specs.Rows.{◌▷◌}
-use borrow.Author.Rules.{rules}
 use Rattle.protocol.proofs.check.Check.require.Goals as goal
 
 pub returns-in-Failed : goal.returns-in-Failed

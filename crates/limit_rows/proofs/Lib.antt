@@ -1,0 +1,13 @@
+pub mod ArgsLimits
+pub mod StateLimits
+pub mod WitnessLimits
+pub mod RequestLimits
+pub mod WriterLimits
+pub mod MoleculeLimits
+pub mod HashLimits
+pub mod SceneLimits
+pub mod TransitionLimits
+pub mod SinceLimits
+pub mod ProofLimits
+pub mod LockLimits
+pub mod LimitRows
