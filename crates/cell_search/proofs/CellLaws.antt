@@ -22,7 +22,6 @@ use Rattle.cell_search.specs.declared.search.Search.{Search}
 use Rattle.cell_search.specs.declared.search.Search.TheVariants.{Missing, One, Several}
 use Rattle.cell_search.specs.Search.{cells_of, cell_hash, matching, search_of, is_missing, is_one, is_several, cell_at, no_cell}
 use Rattle.cell_search.specs.Cells.{cell_count, source_places, no_places, places_within}
-use Rattle.cell_search.specs.contracts.search.Search.{enum}
 
 -- the cells of a list are the table's records
 pub cells-listed : (from : Source) (table store : List ℕ)

@@ -1,5 +1,4 @@
 -- `capacity::fee::check_totals` meets its contract. Assumes nothing.
-use borrow.Author.Rules.{rules}
 use Rattle.scene_table.specs.Lent.{scene_in}
 use Rattle.capacity.specs.Capacity.{input_total, output_total, fee_of}
 use Rattle.capacity.proofs.fee.check_totals.Goals as goal

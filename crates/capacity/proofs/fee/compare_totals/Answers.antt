@@ -1,7 +1,6 @@
 -- `capacity::fee::compare_totals` meets its contract, by its cases. Assumes nothing.
 use mathlib.Core.Path.{◌∙◌}
 use native.Mathlib.Omega.{arith}
-use borrow.Author.Rules.{rules}
 use Rattle.capacity.proofs.FeeLaws.{total-above, total-sum, fee-inputs-above, fee-outputs-above, fee-exceeded, fee-covered}
 use Rattle.capacity.proofs.fee.compare_totals.Goals as goal
 

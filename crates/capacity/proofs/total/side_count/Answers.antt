@@ -1,5 +1,4 @@
 -- `capacity::total::side_count` meets its contract. Assumes nothing.
-use borrow.Author.Rules.{rules}
 use Rattle.capacity.proofs.total.side_count.Goals as goal
 
 pub returns-in-Inputs : goal.returns-in-Inputs

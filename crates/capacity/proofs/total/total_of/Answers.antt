@@ -1,13 +1,7 @@
 -- `capacity::total::total_of` meets its contract: what is worked out and what is left give the whole. Assumes nothing.
-use mathlib.Core.Path.{◌≡◌, sym, ◌∙◌}
-use Prim.Native.Nat.{◌-◌}
-use native.Mathlib.Omega.{arith}
-use lib.ListN.{drop}
-use Rattle.scene_table.specs.Lent.{scene_in}
-use Rattle.capacity.specs.Capacity.{capacities, total_capacity}
-use Rattle.capacity.specs.Totals.{total_of, side_count}
-use Rattle.capacity.proofs.TotalLaws.{total_from, total-whole, capacities-listed, total-turn, total-end}
-use borrow.Author.Rules.{rules}
+use mathlib.Core.Path.{sym, ◌∙◌}
+use Rattle.capacity.specs.Capacity.{total_capacity}
+use Rattle.capacity.proofs.TotalLaws.{total-whole, capacities-listed, total-turn, total-end}
 use Rattle.capacity.proofs.total.total_of.Goals as goal
 
 pub loop-i-init : goal.loop-i-init

@@ -1,13 +1,11 @@
 -- `capacity::total::total_of` meets its contract: what is worked out and what is left give the whole. Assumes nothing.
-use mathlib.Core.Path.{◌≡◌, sym, ◌∙◌}
+use mathlib.Core.Path.{◌≡◌}
 use Prim.Native.Nat.{◌-◌}
-use native.Mathlib.Omega.{arith}
 use lib.ListN.{drop}
 use Rattle.scene_table.specs.Lent.{scene_in}
 use Rattle.capacity.specs.Capacity.{capacities, total_capacity}
 use Rattle.capacity.specs.Totals.{total_of, side_count}
-use Rattle.capacity.proofs.TotalLaws.{total_from, total-whole, capacities-listed, total-turn, total-end}
-use borrow.Author.Rules.{rules}
+use Rattle.capacity.proofs.TotalLaws.{total_from}
 use Rattle.capacity.proofs.total.total_of.Given as goal
 
 abbrev pub invariant-loop-i : goal.invariant-loop-i

@@ -1,6 +1,5 @@
 -- `cell_search::cells::cell_count` meets its contract. Assumes nothing.
 use Rattle.cell_search.specs.Cells.{cell_count}
-use borrow.Author.Rules.{rules}
 use Rattle.cell_search.proofs.cells.cell_count.Goals as goal
 
 pub returns-in-Input : goal.returns-in-Input

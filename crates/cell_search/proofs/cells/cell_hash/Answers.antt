@@ -1,7 +1,6 @@
 -- `cell_search::cells::cell_hash` meets its contract. Assumes nothing.
 use Rattle.scene_table.specs.Lent.{cell_from}
 use Rattle.cell_search.specs.Search.{cell_hash}
-use borrow.Author.Rules.{rules}
 use Rattle.cell_search.proofs.cells.cell_hash.Goals as goal
 
 pub returns-in-TypeHash : goal.returns-in-TypeHash

@@ -1,6 +1,5 @@
 -- `cell_search::cells::cell_places` meets its contract. Assumes nothing.
 use Rattle.cell_search.specs.Cells.{source_places}
-use borrow.Author.Rules.{rules}
 use Rattle.cell_search.proofs.cells.cell_places.Goals as goal
 
 pub returns-in-Input : goal.returns-in-Input

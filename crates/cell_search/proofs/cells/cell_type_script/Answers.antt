@@ -3,7 +3,6 @@ use mathlib.Core.Path.{ap, ◌∙◌}
 use Rattle.scene_table.specs.Scene.{Cell}
 use Rattle.scene_table.specs.Lent.{cell_from}
 use Rattle.cell_search.proofs.CellLaws.{cell-within}
-use borrow.Author.Rules.{rules}
 use Rattle.cell_search.proofs.cells.cell_type_script.Goals as goal
 
 pub returns : goal.returns

@@ -1,8 +1,6 @@
 -- `cell_search::cells::places_within` meets its contract. Assumes nothing.
 use borrow.Author.Tests.{lt-ltb, le-ltb}
-use Rattle.scene_table.specs.Places as places
 use Rattle.cell_search.specs.Cells.{no_places, places_within}
-use borrow.Author.Rules.{rules}
 use Rattle.cell_search.proofs.cells.places_within.Goals as goal
 
 pub returns-then-i-cell_count : goal.returns-then-i-cell_count

@@ -1,14 +1,11 @@
 -- `cell_search::search::search_cells` meets its contract. Assumes nothing.
-use mathlib.Core.Path.{◌≡◌, refl, sym, ◌∙◌}
-use mathlib.Core.Logic.{⊎_elim}
+use mathlib.Core.Path.{◌≡◌}
 use mathlib.Core.List.{◌++◌}
-use Prim.Native.Nat.{◌-◌, ◌+◌}
-use native.Mathlib.Omega.{arith}
-use borrow.Author.Rules.{rules}
+use Prim.Native.Nat.{◌-◌}
 use Rattle.scene_table.specs.Lent.{scene_in}
-use Rattle.cell_search.specs.Search.{cells_of, matches, search_of, cell_search}
+use Rattle.cell_search.specs.Search.{cells_of, search_of, cell_search}
 use Rattle.cell_search.specs.Cells.{cell_count}
-use Rattle.cell_search.proofs.CellLaws.{cells-listed, match_from, match-yes, match-no, match-end, places_of, found-places, second-match}
+use Rattle.cell_search.proofs.CellLaws.{match_from, places_of}
 use Rattle.cell_search.proofs.search.search_cells.Given as goal
 
 abbrev pub invariant-loop-i : goal.invariant-loop-i

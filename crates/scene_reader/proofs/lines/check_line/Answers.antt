@@ -1,5 +1,4 @@
 -- `scene_reader::lines::check_line` meets its contract. Assumes nothing.
-use borrow.Author.Rules.{rules}
 use Rattle.protocol.specs.Rows.{decide}
 use Rattle.scene_line.specs.Line.{fields_found}
 use Rattle.scene_reader.specs.Reader.{line_rows}

@@ -1,5 +1,4 @@
 -- `scene_reader::lines::finish_at` meets its contract. Assumes nothing.
-use borrow.Author.Rules.{rules}
 use Rattle.protocol.specs.Rows.{decide}
 use Rattle.scene_reader.specs.Reader.{scene_end_rows}
 use Rattle.scene_reader.proofs.lines.finish_at.Goals as goal

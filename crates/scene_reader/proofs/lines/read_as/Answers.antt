@@ -1,7 +1,6 @@
 -- `scene_reader::lines::read_as` meets its contract. Assumes nothing.
 use mathlib.Core.Path.{refl, sym, ◌∙◌}
 use native.Mathlib.Omega.{arith}
-use borrow.Author.Rules.{rules}
 use lib.ListN.{length}
 use Rattle.text.specs.Text.{pieces, comma}
 use Rattle.scene_reader.specs.Room.{state_holding}

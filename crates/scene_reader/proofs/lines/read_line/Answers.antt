@@ -1,7 +1,6 @@
 -- `scene_reader::lines::read_line` meets its contract. Assumes nothing.
 use native.Mathlib.Omega.{arith}
 use lib.ListN.{length, take}
-use borrow.Author.Rules.{rules}
 use mathlib.Core.Bool.{and-false}
 use Rattle.scene_reader.proofs.LinesOutcome.{kept_more, step_cut}
 use Rattle.protocol.specs.Rows.{◌▷◌, decide}

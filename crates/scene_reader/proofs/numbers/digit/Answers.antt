@@ -2,7 +2,6 @@
 use native.Mathlib.Omega.{arith}
 use Prim.Native.Nat.{◌≤◌}
 use lib.ListN.{length, get_or-eq_default}
-use borrow.Author.Rules.{rules}
 use Rattle.scene_reader.proofs.numbers.digit.Goals as goal
 
 pub returns-then-f-eq0 : goal.returns-then-f-eq0

@@ -2,7 +2,6 @@
 use native.Mathlib.Omega.{arith}
 use mathlib.Core.Path.{refl}
 use lib.ListN.{length-map}
-use borrow.Author.Rules.{rules}
 use Rattle.text.specs.Text.{hex_val}
 use Rattle.scene_reader.proofs.numbers.put_number.Goals as goal
 

@@ -2,7 +2,6 @@
 use mathlib.Core.Path.{◌≡◌, sym, ◌∙◌}
 use mathlib.Core.Bool.{true, false}
 use native.Mathlib.Omega.{arith}
-use borrow.Author.Rules.{rules}
 use Rattle.text.proofs.HexLaws.{hex-length}
 use Rattle.scene_line.specs.Line.{hex_form, field_bytes}
 use Rattle.scene_reader.proofs.put.put_bytes.Goals as goal

@@ -1,11 +1,9 @@
 -- `scene_reader::put::put_fields` meets its contract: what is left to put down gives the whole. Assumes nothing.
-use Prim.Native.Nat.{◌+◌, ◌≤◌, ◌<◌}
-use mathlib.Core.Path.{◌≡◌, refl, sym, ◌∙◌}
+use Prim.Native.Nat.{◌<◌}
+use mathlib.Core.Path.{refl, sym, ◌∙◌}
 use native.Mathlib.Omega.{arith}
 use borrow.Author.Rules.{rules}
 use lib.ListN.{length}
-use lib.Seq.{sets}
-use Rattle.text.specs.Text.{pieces, comma}
 use Rattle.scene_line.specs.Line.{field_bytes, line_bytes, field_entries, line_entries}
 use Rattle.scene_line.proofs.FieldLaws.{bytes_on, numbers_on}
 use Rattle.scene_reader.proofs.FieldsPut.{bytes-none, numbers-none, put-within, put_on, put-end}

@@ -1,7 +1,6 @@
 -- `scene_reader::put::put_line` meets its contract. Assumes nothing.
 use mathlib.Core.Path.{◌∙◌}
 use native.Mathlib.Omega.{arith}
-use borrow.Author.Rules.{rules}
 use lib.ListN.{length-set}
 use Rattle.text.specs.Text.{pieces, comma}
 use Rattle.scene_reader.proofs.Bounds.{seen_few}

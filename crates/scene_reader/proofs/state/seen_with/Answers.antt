@@ -1,5 +1,4 @@
 -- `scene_reader::state::seen_with` meets its contract. Assumes nothing.
-use borrow.Author.Rules.{rules}
 use borrow.Author.Tests.{eq-eqb, ne_eqb}
 use Rattle.scene_reader.proofs.state.seen_with.Goals as goal
 

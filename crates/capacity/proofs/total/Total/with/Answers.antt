@@ -1,5 +1,4 @@
 -- `capacity::total::Total::with` meets its contract, by its cases. Assumes nothing.
-use borrow.Author.Rules.{rules}
 use borrow.Author.Tests.{lt-ltb, le-ltb}
 use Rattle.capacity.specs.Totals.{total_with}
 use Rattle.capacity.proofs.total.Total.with.Goals as goal
