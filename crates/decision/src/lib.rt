@@ -1,3 +1,2 @@
 // What the lock decides from a state's authenticators, the proofs and the verdicts.
 #![tactic(auto)]
-

@@ -11,7 +11,7 @@ use Rattle.octets.specs.Lists.{every}
 use Rattle.scene_line.specs.declared.kind.Kind.{Kind}
 use Rattle.scene_line.specs.declared.kind.Kind.TheVariants as kind
 use Rattle.scene_line.specs.Kind.{script, tx, witness, verdicts}
-use Rattle.scene_table.specs.Scene.{Input, Scene}
+use Rattle.scene_table.specs.Scene.{Scene}
 use Rattle.scene_table.specs.Valid.{bytes_ok, hash_bytes_ok, cell_ok, input_ok, output_ok, few_of, digits_ok, scene_ok}
 use Rattle.octets.proofs.Truth.{and_left, and_right}
 use Rattle.text.specs.Print.{line_text, digits_text}

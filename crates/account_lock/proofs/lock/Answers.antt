@@ -4,7 +4,6 @@ use lib.ListN.{length}
 use Rattle.decision.specs.Walk.{answered}
 use Rattle.account_lock.specs.Lock.{Result, refused, answer_of}
 use Rattle.account_lock.proofs.LockTheorem.{lock-promised, lock-valid, lock-invalid}
-use borrow.Author.Rules.{rules}
 use Rattle.account_lock.proofs.lock.Goals as goal
 
 pub returns-then-table_valid : goal.returns-then-table_valid

@@ -13,7 +13,6 @@ use Rattle.group_sighash.proofs.FirstRows.{group-first}
 use Rattle.decision.specs.Walk.{answered}
 use Rattle.account_lock.specs.Lock.{account, script_rows, Result, refused, answer_of}
 use Rattle.account_lock.proofs.LockLaws.{script-account, scene-refused, scene-late}
-use borrow.Author.Rules.{rules}
 use Rattle.account_lock.proofs.lock_scene.Goals as goal
 
 -- the scene that is lent

@@ -2,7 +2,6 @@
 use Rattle.protocol.specs.Rows.{decide}
 use Rattle.scene_table.specs.Lent.{cell_from}
 use Rattle.cell_hashes.specs.Hashes.{cell_hash_rows}
-use borrow.Author.Rules.{rules}
 use Rattle.cell_hashes.proofs.check_cell.Goals as goal
 
 pub returns : goal.returns

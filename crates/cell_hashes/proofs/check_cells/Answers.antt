@@ -1,16 +1,7 @@
 -- `cell_hashes::check_cells` meets its contract: what is left to test gives what the whole list gives. Assumes nothing.
-use mathlib.Core.Path.{◌≡◌, refl, sym, ◌∙◌}
-use Prim.Native.Nat.{◌-◌}
-use native.Mathlib.Omega.{arith}
-use Rattle.protocol.specs.Rows.{decide}
-use Rattle.protocol.specs.declared.check.Check.TheVariants.{Passed}
-use Rattle.scene_table.specs.Lent.{scene_in}
-use Rattle.cell_search.specs.Search.{cells_of}
-use Rattle.cell_search.specs.Cells.{cell_count}
+use mathlib.Core.Path.{refl, sym, ◌∙◌}
 use Rattle.cell_search.proofs.CellLaws.{cells-listed}
-use Rattle.cell_hashes.specs.Hashes.{cells_hash_rows}
 use Rattle.cell_hashes.proofs.HashLaws.{found_from, found-stops, found-goes, found-end}
-use borrow.Author.Rules.{rules}
 use Rattle.cell_hashes.proofs.check_cells.Goals as goal
 
 pub loop-i-init : goal.loop-i-init

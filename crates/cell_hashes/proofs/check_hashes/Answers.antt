@@ -1,7 +1,6 @@
 -- `cell_hashes::check_hashes` meets its contract: the three lists one after another. Assumes nothing.
 use Rattle.scene_table.specs.Lent.{scene_in}
 use Rattle.cell_hashes.proofs.HashLaws.{hashes-found}
-use borrow.Author.Rules.{rules}
 use Rattle.cell_hashes.proofs.check_hashes.Goals as goal
 
 pub returns : goal.returns

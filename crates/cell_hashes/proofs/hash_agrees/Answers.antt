@@ -1,7 +1,6 @@
 -- `cell_hashes::hash_agrees` meets its contract, by whether there are bytes. Assumes nothing.
 use borrow.Author.Tests.{eq-eqb, ne_eqb}
 use Rattle.cell_hashes.specs.Hashes.{hash_agrees}
-use borrow.Author.Rules.{rules}
 use Rattle.cell_hashes.proofs.hash_agrees.Goals as goal
 
 pub returns-then-bytes-eq0 : goal.returns-then-bytes-eq0

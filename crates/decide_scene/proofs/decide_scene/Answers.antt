@@ -1,5 +1,4 @@
 -- `decide_scene::decide_scene` meets its contract, by what the reader finds. Assumes nothing.
-use borrow.Author.Rules.{rules}
 use mathlib.Core.Path.{sym, ◌∙◌}
 use lib.ListN.{length}
 use Rattle.scene_reader.specs.Reader.{read_of}

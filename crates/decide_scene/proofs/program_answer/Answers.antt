@@ -1,5 +1,4 @@
 -- `decide_scene::program_answer` meets its contract, by the scene's length. Assumes nothing.
-use borrow.Author.Rules.{rules}
 use mathlib.Core.Path.{refl, sym, ap, ◌∙◌}
 use Rattle.account_lock.specs.Lock as lock
 use Rattle.decide_scene.proofs.Outcomes.{long-decides, short-answers}

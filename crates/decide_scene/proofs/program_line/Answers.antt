@@ -1,5 +1,4 @@
 -- `decide_scene::program_line` meets its contract. Assumes nothing.
-use borrow.Author.Rules.{rules}
 use mathlib.Core.Path.{ap, ◌∙◌}
 use lib.ListN.{length}
 use Rattle.octets.specs.Lists.{array_of}

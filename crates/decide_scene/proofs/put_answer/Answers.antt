@@ -1,5 +1,4 @@
 -- `decide_scene::put_answer` meets its contract. Assumes nothing.
-use borrow.Author.Rules.{rules}
 use Rattle.decide_scene.proofs.put_answer.Goals as goal
 
 pub returns : goal.returns

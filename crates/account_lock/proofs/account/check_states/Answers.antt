@@ -6,7 +6,6 @@ use Rattle.scene_table.specs.Lent.{scene_in}
 use Rattle.state_transition.specs.Transition.{data_rows, transition_rows}
 use Rattle.account_lock.specs.Lock.{account, operation, witness_sequence, successor, states_rows}
 use Rattle.account_lock.proofs.Resolved.{state-since, state-successor}
-use borrow.Author.Rules.{rules}
 use Rattle.account_lock.proofs.account.check_states.Goals as goal
 
 pub returns : goal.returns

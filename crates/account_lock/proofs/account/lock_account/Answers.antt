@@ -11,7 +11,6 @@ use Rattle.account_lock.specs.Lock.{account, witness_lock, operation, current, l
 use Rattle.account_lock.specs.Calls.{StatesFound}
 use Rattle.account_lock.proofs.Resolved.{state-current}
 use Rattle.account_lock.proofs.LockLaws.{group-operation, pass-lock, resolved-found, late-found, late-refused, late_walked}
-use borrow.Author.Rules.{rules}
 use Rattle.account_lock.proofs.account.lock_account.Goals as goal
 
 -- what stands where the states are found

@@ -4,7 +4,6 @@ use Rattle.scene_table.specs.Lent.{scene_in}
 use Rattle.group_sighash.specs.GroupSighash.{group_sighash}
 use Rattle.account_lock.specs.Lock.{digest}
 use Rattle.account_lock.proofs.LockLaws.{pass-whole}
-use borrow.Author.Rules.{rules}
 use Rattle.account_lock.proofs.account.lock_digest.Goals as goal
 
 pub returns : goal.returns

@@ -13,7 +13,6 @@ use Rattle.decision.specs.Walk.{WalkOutcome, walk_lock}
 use Rattle.proof_walk.specs.Answer.{scene_deps, walk_context, proof_walk_answer}
 use Rattle.proof_walk.proofs.WalkLaws.{walk-known}
 use Rattle.account_lock.proofs.LockLaws.{group-operation}
-use borrow.Author.Rules.{rules}
 use Rattle.account_lock.proofs.account.walk_account.Goals as goal
 
 -- what the walk finds, and then the totals
@@ -33,7 +32,8 @@ unfolding answer_of walk_result walked proof_walk_answer walk_context scene_deps
 returns c =
     let s = scene_in c.args.table.now c.args.store.now in
     let totals = c.check_totals-totals.ensures in
-    let known : is_operation (operation s) ≡ true = group-operation s c.requires.group in record { returns_result = rw (
+    let known : is_operation (operation s) ≡ true = group-operation s c.requires.group in record {
+      returns_result = rw (
         c.fee_where.ensures,
         c.and-found.ensures,
         totals,
@@ -44,4 +44,6 @@ returns c =
         walk-known,
         c.requires.current,
       )
-          (walked-answer (walk_lock (context_of s (length c.args.answer.now)) (witness_lock s)) s); stores_requests = c.walk_proofs-walked.ensures.answer_after ∙ rw (c.requires.operation, c.requires.digest, c.requires.witness, walk-known, c.requires.current) }
+          (walked-answer (walk_lock (context_of s (length c.args.answer.now)) (witness_lock s)) s);
+      stores_requests = c.walk_proofs-walked.ensures.answer_after ∙ rw (c.requires.operation, c.requires.digest, c.requires.witness, walk-known, c.requires.current);
+    }

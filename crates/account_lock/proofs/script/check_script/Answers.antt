@@ -10,7 +10,6 @@ use Rattle.protocol.specs.declared.check.Check.{Check}
 use Rattle.molecule.specs.Bytes as molecule
 use Rattle.molecule.proofs.BytesTheorem.{args_read}
 use Rattle.account_lock.specs.Lock.{script_rows, args_in}
-use borrow.Author.Rules.{rules}
 use Rattle.account_lock.proofs.script.check_script.Goals as goal
 
 -- the rows of the args' bytes, where the script has args

@@ -3,7 +3,6 @@ use mathlib.Core.Path.{sym, ◌∙◌}
 use native.Mathlib.Omega.{arith}
 use Rattle.scene_table.specs.Lent.{table_entry}
 use Rattle.group_sighash.proofs.HashedLaws.{input-both, other-there, other-missing}
-use borrow.Author.Rules.{rules}
 use Rattle.group_sighash.proofs.hashed.first_other.Goals as goal
 
 pub overflow_add-result : goal.overflow_add-result

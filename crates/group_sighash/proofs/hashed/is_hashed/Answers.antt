@@ -1,7 +1,6 @@
 -- `group_sighash::hashed::is_hashed` meets its contract. Assumes nothing.
 use Rattle.group_sighash.specs.Hashed.{is_hashed}
 use borrow.Author.Tests.{le-leb, lt-leb}
-use borrow.Author.Rules.{rules}
 use Rattle.group_sighash.proofs.hashed.is_hashed.Goals as goal
 
 pub returns-then-input_count-i : goal.returns-then-input_count-i

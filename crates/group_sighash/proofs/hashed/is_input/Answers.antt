@@ -1,7 +1,6 @@
 -- `group_sighash::hashed::is_input` meets its contract. Assumes nothing.
 use Rattle.group_sighash.specs.Hashed.{is_input}
 use borrow.Author.Tests.{le-leb, lt-leb}
-use borrow.Author.Rules.{rules}
 use Rattle.group_sighash.proofs.hashed.is_input.Goals as goal
 
 pub returns-then-witness_count-i : goal.returns-then-witness_count-i

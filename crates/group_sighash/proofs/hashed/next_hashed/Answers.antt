@@ -1,11 +1,6 @@
 -- `group_sighash::hashed::next_hashed` meets its contract. Assumes nothing.
-use mathlib.Core.Path.{◌≡◌, refl, sym, ◌∙◌}
+use mathlib.Core.Path.{refl, sym, ◌∙◌}
 use native.Mathlib.Omega.{arith}
-use borrow.Author.Rules.{rules}
-use mathlib.Core.List.{List}
-use Prim.Native.Nat.{ℕ, ◌-◌, ◌≤◌}
-use Rattle.scene_table.specs.Lent.{witness_count}
-use Rattle.group_sighash.specs.Hashed.{hashed_from, group_from}
 use Rattle.group_sighash.proofs.HashedLaws.{hashed-skip, group-skip}
 use Rattle.group_sighash.proofs.hashed.next_hashed.Goals as goal
 

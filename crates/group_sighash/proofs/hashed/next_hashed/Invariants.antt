@@ -1,12 +1,9 @@
 -- `group_sighash::hashed::next_hashed` meets its contract. Assumes nothing.
-use mathlib.Core.Path.{◌≡◌, refl, sym, ◌∙◌}
-use native.Mathlib.Omega.{arith}
-use borrow.Author.Rules.{rules}
+use mathlib.Core.Path.{◌≡◌}
 use mathlib.Core.List.{List}
 use Prim.Native.Nat.{ℕ, ◌-◌, ◌≤◌}
 use Rattle.scene_table.specs.Lent.{witness_count}
 use Rattle.group_sighash.specs.Hashed.{hashed_from, group_from}
-use Rattle.group_sighash.proofs.HashedLaws.{hashed-skip, group-skip}
 use Rattle.group_sighash.proofs.hashed.next_hashed.Given as goal
 
 abbrev pub invariant-loop-i : goal.invariant-loop-i

@@ -1,6 +1,5 @@
 -- `group_sighash::hashed::witness_at` meets its contract. Assumes nothing.
 use Rattle.group_sighash.specs.Hashed.{witness_at}
-use borrow.Author.Rules.{rules}
 use Rattle.group_sighash.proofs.hashed.witness_at.Goals as goal
 
 pub returns : goal.returns

@@ -5,7 +5,6 @@ use Prim.Native.Nat.{ℕ}
 use Rattle.protocol.specs.declared.check.Check.TheVariants.{Passed}
 use Rattle.group_sighash.specs.declared.transaction.Sighash.{Sighash}
 use Rattle.group_sighash.specs.GroupSighash.{sighash_found, group_sighash, group_answer}
-use borrow.Author.Rules.{rules}
 use Rattle.group_sighash.proofs.transaction.canonical_group_sighash.Goals as goal
 
 -- equal but for how the hash is written

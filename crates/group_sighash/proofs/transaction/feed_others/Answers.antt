@@ -1,14 +1,10 @@
 -- `group_sighash::transaction::feed_others` meets its contract. Assumes nothing.
 use mathlib.Core.Path.{sym, ◌∙◌}
-use Prim.Native.Nat.{◌-◌}
 use native.Mathlib.Omega.{arith}
-use borrow.Author.Rules.{rules}
 use Rattle.blake2b.specs.State.{fed_all}
 use Rattle.authorization.specs.Sighash.{hashed_witnesses}
-use Rattle.scene_table.specs.Lent.{scene_in}
-use Rattle.group_sighash.specs.Witnesses.{other_witnesses}
 use Rattle.group_sighash.specs.Hashed.{witness_at}
-use Rattle.group_sighash.proofs.HashedLaws.{Left, left-first, left-next, left_end, fed-next, fed-end}
+use Rattle.group_sighash.proofs.HashedLaws.{left-first, left-next, left_end, fed-next, fed-end}
 use Rattle.group_sighash.proofs.transaction.feed_others.Goals as goal
 
 pub loop-i-init : goal.loop-i-init

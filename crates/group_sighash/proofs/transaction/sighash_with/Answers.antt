@@ -1,6 +1,5 @@
 -- `group_sighash::transaction::sighash_with` meets its contract: the parts of the input, fed one after another. Assumes nothing.
 use mathlib.Core.Path.{sym, ◌∙◌}
-use borrow.Author.Rules.{rules}
 use Rattle.authorization.proofs.SighashTheorem.{sighash-fed}
 use Rattle.scene_table.specs.Lent.{scene_in}
 use Rattle.scene_table.proofs.PlaceLaws.{lent-given}

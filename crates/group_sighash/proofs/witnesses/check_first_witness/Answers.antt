@@ -10,7 +10,6 @@ use Rattle.group_sighash.specs.Witnesses.{first_witness_rows, count_rows, lock_i
 use Rattle.molecule.specs.Bytes.{witness_lock_rows, witness_lock_place}
 use Rattle.molecule.proofs.BytesTheorem.{lock-read}
 use Rattle.account_witness.specs.Header.{witness_header_rows}
-use borrow.Author.Rules.{rules}
 use Rattle.group_sighash.proofs.witnesses.check_first_witness.Goals as goal
 
 -- the rows of the lock's bytes, where the witness has a lock

@@ -7,7 +7,6 @@ use Rattle.molecule.specs.Table3.{table_rows}
 use Rattle.scene_table.specs.Lent.{scene_in}
 use Rattle.group_sighash.specs.Witnesses.{first_witness, witness_fits, other_rows}
 use Rattle.group_sighash.proofs.FirstRows.{sighash-first}
-use borrow.Author.Rules.{rules}
 use Rattle.group_sighash.proofs.witnesses.check_hashed.Goals as goal
 
 pub returns : goal.returns

@@ -1,13 +1,11 @@
 -- `group_sighash::witnesses::check_others` meets its contract. Assumes nothing.
 use mathlib.Core.Path.{sym, ◌∙◌}
-use Prim.Native.Nat.{◌-◌}
 use native.Mathlib.Omega.{arith}
-use borrow.Author.Rules.{rules}
 use Rattle.octets.specs.Lists.{every}
 use Rattle.scene_table.specs.Lent.{scene_in}
-use Rattle.group_sighash.specs.Witnesses.{other_witnesses, witness_fits}
+use Rattle.group_sighash.specs.Witnesses.{witness_fits}
 use Rattle.group_sighash.specs.Hashed.{witness_at}
-use Rattle.group_sighash.proofs.HashedLaws.{Left, left-first, left-more, left-next, left_end, fits_more, fits_not, fits-none, others-pass, others-fail}
+use Rattle.group_sighash.proofs.HashedLaws.{left-first, left-more, left-next, left_end, fits_more, fits_not, fits-none, others-pass, others-fail}
 use Rattle.group_sighash.proofs.witnesses.check_others.Goals as goal
 
 pub loop-i-init : goal.loop-i-init

@@ -1,7 +1,6 @@
 -- `group_sighash::witnesses::first_witness` meets its contract. Assumes nothing.
 use mathlib.Core.Path.{sym, ◌∙◌}
 use Rattle.group_sighash.proofs.HashedLaws.{first-there, first-missing}
-use borrow.Author.Rules.{rules}
 use Rattle.group_sighash.proofs.witnesses.first_witness.Goals as goal
 
 pub returns-then-is_input : goal.returns-then-is_input

@@ -3,7 +3,6 @@ use Rattle.protocol.specs.Rows.{decide}
 use Rattle.account_state.specs.Reading.{entry_of}
 use Rattle.decision.specs.Proofs.{request_limit_rows, authenticator_rows}
 use Rattle.proof_walk.specs.Steps.{found_rows}
-use borrow.Author.Rules.{rules}
 use Rattle.proof_walk.proofs.request.check_found.Goals as goal
 
 pub returns : goal.returns

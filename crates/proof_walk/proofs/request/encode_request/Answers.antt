@@ -2,7 +2,6 @@
 use Rattle.octets.proofs.LeLaws.{number-one}
 use Rattle.account_state.specs.Reading.{entry_of}
 use Rattle.decision.specs.Proofs.{request_content}
-use borrow.Author.Rules.{rules}
 use Rattle.proof_walk.proofs.request.encode_request.Goals as goal
 
 pub returns : goal.returns

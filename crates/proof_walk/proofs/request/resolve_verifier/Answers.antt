@@ -1,7 +1,6 @@
 -- `proof_walk::request::resolve_verifier` meets its contract, by what the search among the deps finds. Assumes nothing.
 use mathlib.Core.Path.{◌∙◌}
 use Rattle.proof_walk.proofs.RequestLaws.{verifier-resolved}
-use borrow.Author.Rules.{rules}
 use Rattle.proof_walk.proofs.request.resolve_verifier.Goals as goal
 
 pub returns : goal.returns

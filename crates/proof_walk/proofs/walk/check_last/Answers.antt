@@ -2,7 +2,6 @@
 use mathlib.Core.Path.{refl}
 use Rattle.protocol.specs.Rows.{decide}
 use Rattle.decision.specs.Walk.{last_rows}
-use borrow.Author.Rules.{rules}
 use Rattle.proof_walk.proofs.walk.check_last.Goals as goal
 
 pub returns : goal.returns

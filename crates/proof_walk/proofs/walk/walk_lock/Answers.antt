@@ -1,6 +1,5 @@
 -- `proof_walk::walk::walk_lock` meets its contract: what is left to walk gives the whole. Assumes nothing.
 use mathlib.Core.Path.{ap, ◌∙◌}
-use Prim.Native.Nat.{ℕ, ◌-◌}
 use native.Mathlib.Omega.{arith}
 use lib.ListN.{length}
 use Rattle.proof_walk.specs.Answer.{walk_context}
@@ -8,8 +7,7 @@ use Rattle.account_witness.specs.Reading.{proof_of}
 use Rattle.proof_walk.specs.Steps.{ProofOutcomeIs}
 use Rattle.proof_walk.specs.declared.walk.ProofOutcome.TheVariants as outcome
 use Rattle.proof_walk.proofs.Answered.{lent_of, unwritten}
-use Rattle.proof_walk.proofs.WalkLaws.{WalkInvariant, RequestWritten, invariant-first, walk-answered, walk_ends, turn_stopped, turn-written, turn-failed, turn-onward}
-use borrow.Author.Rules.{rules}
+use Rattle.proof_walk.proofs.WalkLaws.{RequestWritten, invariant-first, walk-answered, walk_ends, turn_stopped, turn-written, turn-failed, turn-onward}
 use Rattle.proof_walk.proofs.walk.walk_lock.Goals as goal
 
 pub loop-i-init : goal.loop-i-init
@@ -82,11 +80,11 @@ returns-in-Refused c =
     let l = c.loop-i in
     let t = refused-at c in
     let w =
-        walk-answered a.answer.now
-        (turn_stopped a.table.now a.store.now a.state.now a.authorization.operation a.authorization.digest l.invariant c.loop-i-test.true _ _ t)
-        l.invariant.long
-        (unwritten l.total l.answer _ t.1 ∙ l.invariant.wrote)
-        c.answer_of.ensures in
+    walk-answered a.answer.now
+    (turn_stopped a.table.now a.store.now a.state.now a.authorization.operation a.authorization.digest l.invariant c.loop-i-test.true _ _ t)
+    l.invariant.long
+    (unwritten l.total l.answer _ t.1 ∙ l.invariant.wrote)
+    c.answer_of.ensures in
     record { value = w.0; answer_after = w.1 }
 
 pub overflow_add-i : goal.overflow_add-i
@@ -105,11 +103,11 @@ returns-in-Failed c =
     let t = failed-at-2 c in
     let r = failed-written-2 c in
     let w =
-        walk-answered a.answer.now
-        (turn-failed a.table.now a.store.now a.state.now a.authorization.operation a.authorization.digest l.invariant c.loop-i-test.true _ _ t.0 t.1)
-        r.long
-        r.wrote
-        c.answer_of-in-Failed.ensures in
+    walk-answered a.answer.now
+    (turn-failed a.table.now a.store.now a.state.now a.authorization.operation a.authorization.digest l.invariant c.loop-i-test.true _ _ t.0 t.1)
+    r.long
+    r.wrote
+    c.answer_of-in-Failed.ensures in
     record { value = w.0; answer_after = w.1 }
 
 pub overflow_add-weight : goal.overflow_add-weight
@@ -133,9 +131,9 @@ returns c =
     let h = c.loop-i.invariant in
     let found = rw c.check_last-found.ensures at c.answer_of-2.ensures in
     let w =
-        walk-answered a.answer.now
-        (walk_ends a.table.now a.store.now a.state.now a.authorization.operation a.authorization.digest h (omega (arith, c.loop-i-test.false)))
-        h.long
-        h.wrote
-        found in
+    walk-answered a.answer.now
+    (walk_ends a.table.now a.store.now a.state.now a.authorization.operation a.authorization.digest h (omega (arith, c.loop-i-test.false)))
+    h.long
+    h.wrote
+    found in
     record { value = w.0; answer_after = w.1 }

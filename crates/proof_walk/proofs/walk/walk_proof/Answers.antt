@@ -5,7 +5,6 @@ use Rattle.decision.specs.Proofs.{Context}
 use Rattle.proof_walk.specs.Answer.{walk_context}
 use Rattle.proof_walk.proofs.OneProof.{turn-faulty, turn-refused, turn-made}
 use Rattle.proof_walk.proofs.WalkLaws.{verdict-lent}
-use borrow.Author.Rules.{rules}
 use Rattle.proof_walk.proofs.walk.walk_proof.Goals as goal
 
 abbrev C-1 : (c : goal.In-Refused) → Context

@@ -4,7 +4,6 @@ use lib.ListN.{length}
 use Rattle.decision.specs.Walk.{WalkOutcome, answered}
 use Rattle.proof_walk.specs.Answer.{proof_walk_answer}
 use Rattle.proof_walk.proofs.WalkLaws.{walk-answered, walk-known, walk-unknown}
-use borrow.Author.Rules.{rules}
 use Rattle.proof_walk.proofs.walk.walk_proofs.Goals as goal
 
 pub returns-then-is_operation : goal.returns-then-is_operation

@@ -1,7 +1,6 @@
 -- `state_transition::resolve::check_types` meets its contract. Assumes nothing.
 use Rattle.protocol.specs.Rows.{decide}
 use Rattle.state_transition.specs.Resolve.{type_rows}
-use borrow.Author.Rules.{rules}
 use Rattle.state_transition.proofs.resolve.check_types.Goals as goal
 
 pub returns : goal.returns

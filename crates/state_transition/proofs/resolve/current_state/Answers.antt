@@ -1,7 +1,6 @@
 -- `state_transition::resolve::current_state` meets its contract. Assumes nothing.
 use borrow.Author.Tests.{eq-eqb, ne_eqb}
 use Rattle.state_transition.specs.Resolve.{state_source, current_at}
-use borrow.Author.Rules.{rules}
 use Rattle.state_transition.proofs.resolve.current_state.Goals as goal
 
 pub returns-then-operation-eq-OP_SPEND : goal.returns-then-operation-eq-OP_SPEND

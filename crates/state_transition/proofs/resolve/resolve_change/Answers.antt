@@ -11,7 +11,6 @@ use Rattle.scene_table.specs.Lent.{scene_in}
 use Rattle.cell_search.specs.Search.{cell_search}
 use Rattle.cell_search.specs.declared.cells.Source.TheVariants as source
 use Rattle.cell_search.proofs.CellLaws.{one-count, found-count, several-count}
-use borrow.Author.Rules.{rules}
 use Rattle.state_transition.proofs.resolve.resolve_change.Goals as goal
 
 abbrev resolved_at : Check → ℕ → ℕ → ResolvedState

@@ -6,7 +6,6 @@ use Rattle.scene_table.specs.Lent.{scene_in}
 use Rattle.cell_search.specs.Search.{cell_search}
 use Rattle.cell_search.specs.declared.cells.Source.TheVariants as source
 use Rattle.cell_search.proofs.CellLaws.{missing-count, found-count, several-count}
-use borrow.Author.Rules.{rules}
 use Rattle.state_transition.proofs.resolve.resolve_spend.Goals as goal
 
 pub returns : goal.returns

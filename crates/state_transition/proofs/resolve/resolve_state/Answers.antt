@@ -10,7 +10,6 @@ use Rattle.protocol.specs.declared.check.Check.TheVariants.{Passed}
 use Rattle.scene_table.specs.Lent.{scene_in}
 use Rattle.state_transition.specs.Resolve.{resolve_rows, state_source, resolved_of}
 use Rattle.state_transition.specs.Branches.{spend_of, change_of}
-use borrow.Author.Rules.{rules}
 use Rattle.state_transition.proofs.resolve.resolve_state.Goals as goal
 
 -- what the row on the operation finds

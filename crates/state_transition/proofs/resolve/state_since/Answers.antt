@@ -5,7 +5,6 @@ use Rattle.scene_table.specs.Scene.{Input}
 use Rattle.scene_table.specs.Lent.{scene_in}
 use Rattle.scene_table.proofs.PlaceLaws.{lent_input, lent-given}
 use Rattle.state_transition.specs.Resolve.{no_input}
-use borrow.Author.Rules.{rules}
 use Rattle.state_transition.proofs.resolve.state_since.Goals as goal
 
 pub returns-then-index-input_count : goal.returns-then-index-input_count

@@ -1,6 +1,5 @@
 -- `state_transition::resolve::successor_state` meets its contract. Assumes nothing.
 use borrow.Author.Tests.{eq-eqb, ne_eqb}
-use borrow.Author.Rules.{rules}
 use Rattle.state_transition.proofs.resolve.successor_state.Goals as goal
 
 pub returns-then-operation-eq-OP_SPEND : goal.returns-then-operation-eq-OP_SPEND

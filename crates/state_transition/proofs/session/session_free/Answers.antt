@@ -2,10 +2,9 @@
 use mathlib.Core.Path.{sym, ◌∙◌}
 use native.Mathlib.Omega.{arith}
 use borrow.Author.Tests.{eq-eqb, ne_eqb}
-use borrow.Author.Rules.{rules}
 use Rattle.protocol.specs.Policy.{has_capability}
 use Rattle.account_state.specs.Reading.{entry_of}
-use Rattle.state_transition.proofs.SessionLaws.{Looking, free-flag, look-first, look_hit, look-next, look-end}
+use Rattle.state_transition.proofs.SessionLaws.{free-flag, look-first, look_hit, look-next, look-end}
 use Rattle.state_transition.proofs.session.session_free.Goals as goal
 
 pub returns-then-session_enabled : goal.returns-then-session_enabled

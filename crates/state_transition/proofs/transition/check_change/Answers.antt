@@ -5,7 +5,6 @@ use Rattle.protocol.specs.declared.check.Check.TheVariants.{Passed}
 use borrow.Author.Tests.{eq-eqb, ne_eqb}
 use mathlib.Core.List.{append-nil}
 use Rattle.state_transition.specs.Transition.{succession_rows, successor_rows, recovery_rows}
-use borrow.Author.Rules.{rules}
 use Rattle.state_transition.proofs.transition.check_change.Goals as goal
 
 pub returns-then-operation-eq-OP_RECOVERY : goal.returns-then-operation-eq-OP_RECOVERY

@@ -5,7 +5,6 @@ use Rattle.protocol.proofs.AllPass.{decide-append}
 use Rattle.protocol.specs.declared.check.Check.TheVariants.{Passed}
 use Rattle.account_state.specs.State.{state_rows}
 use Rattle.state_transition.specs.Transition.{current_rows}
-use borrow.Author.Rules.{rules}
 use Rattle.state_transition.proofs.transition.check_current.Goals as goal
 
 pub returns : goal.returns

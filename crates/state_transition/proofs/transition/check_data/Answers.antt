@@ -1,7 +1,6 @@
 -- `state_transition::transition::check_data` meets its contract. Assumes nothing.
 use Rattle.protocol.specs.Rows.{decide}
 use Rattle.state_transition.specs.Transition.{data_rows}
-use borrow.Author.Rules.{rules}
 use Rattle.state_transition.proofs.transition.check_data.Goals as goal
 
 pub returns : goal.returns

@@ -3,7 +3,6 @@ use mathlib.Core.Path.{sym}
 use Rattle.protocol.specs.Rows.{decide}
 use Rattle.protocol.proofs.AllPass.{decide-then}
 use Rattle.state_transition.specs.Transition.{wait_rows, recovery_rows}
-use borrow.Author.Rules.{rules}
 use Rattle.state_transition.proofs.transition.check_recovery.Goals as goal
 
 pub returns : goal.returns

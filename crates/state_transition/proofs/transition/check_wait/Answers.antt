@@ -2,7 +2,6 @@
 use borrow.Author.Tests.{eq-eqb, ne_eqb}
 use Rattle.protocol.specs.Rows.{decide}
 use Rattle.state_transition.specs.Transition.{wait_rows}
-use borrow.Author.Rules.{rules}
 use Rattle.state_transition.proofs.transition.check_wait.Goals as goal
 
 pub returns-then-wait-eq0 : goal.returns-then-wait-eq0

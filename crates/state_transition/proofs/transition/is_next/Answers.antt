@@ -3,7 +3,6 @@ use mathlib.Core.Path.{sym}
 use native.Mathlib.Omega.{arith}
 use Prim.Native.Nat.{◌+◌}
 use borrow.Author.Tests.{ne_eqb}
-use borrow.Author.Rules.{rules}
 use Rattle.state_transition.proofs.transition.is_next.Goals as goal
 
 pub returns-then-sequence-eq18446744073709551615 : goal.returns-then-sequence-eq18446744073709551615

@@ -5,7 +5,6 @@ use Rattle.protocol.specs.declared.check.Check.TheVariants.{Passed}
 use borrow.Author.Tests.{eq-eqb, ne_eqb}
 use mathlib.Core.List.{append-nil}
 use Rattle.state_transition.specs.Transition.{transition_rows, current_rows, succession_rows}
-use borrow.Author.Rules.{rules}
 use Rattle.state_transition.proofs.transition.validate_transition.Goals as goal
 
 pub returns-then-operation-eq-OP_SPEND : goal.returns-then-operation-eq-OP_SPEND
