@@ -1,12 +1,10 @@
 -- `args-limits` (specs/ArgsLimits): each row computed from the definitions. Assumes nothing.
-use Rattle.std.specs.Prelude.{ℕ, ◌+◌, ◌≡◌, refl, List, [], ◌∷◌, map, length}
+use Rattle.std.specs.Prelude.{refl}
 use Rattle.octets.specs.Le.{from_le, number_at}
 use Rattle.octets.specs.Lists.{tabulate}
-use Rattle.protocol.specs.Rows.{◌▷◌, decide, check_number}
-use Rattle.protocol.specs.Args.{args_rows, args_answer, read_args, args_number, account_of}
-use Rattle.protocol.specs.Policy.{is_operation, operation_rows, capability_for, capability_number, has_capability}
-use Rattle.protocol.specs.declared.check.Check.TheVariants.{Passed}
-use Rattle.protocol.specs.declared.policy.OperationCapability.TheVariants.{Capability}
+use Rattle.protocol.specs.Rows.{◌▷◌, decide}
+use Rattle.protocol.specs.Args.{args_rows, args_answer, read_args, account_of}
+use Rattle.protocol.specs.Policy.{is_operation, operation_rows, capability_for, has_capability}
 use Rattle.limit_rows.specs.ArgsLimits.{ArgsLimits}
 
 pub args-limits : ArgsLimits

@@ -1,9 +1,8 @@
 -- `hash-limits` (specs/HashLimits): each row computed from the definitions. Assumes nothing.
-use Rattle.std.specs.Prelude.{ℕ, ◌+◌, ◌≡◌, refl, List, [], ◌∷◌, ◌++◌, replicate}
+use Rattle.std.specs.Prelude.{refl}
 use Rattle.octets.specs.Le.{to_le, from_le, number_at}
 use Rattle.octets.specs.Lists.{same, tabulate, joined}
-use Rattle.protocol.specs.Rows.{◌▷◌, decide, check_number}
-use Rattle.protocol.specs.declared.check.Check.TheVariants.{Passed}
+use Rattle.protocol.specs.Rows.{◌▷◌, decide}
 use Rattle.blake2b_compression.specs.Compression.{rotr, words_of, IV, SIGMA, add, turn, G, mixed, round, row_of, rounds, xor_at, flagged, work_vector, halves, F}
 use Rattle.blake2b.specs.Rfc7693.{bytes_of, start_words, zero_padded, block_of, chained, last_of, hash_words, hash_of}
 use Rattle.blake2b.specs.State.{ckb_parameters, ckb_hash}

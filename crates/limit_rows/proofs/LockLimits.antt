@@ -1,17 +1,15 @@
 -- `lock-limits` (specs/LockLimits): each row computed from the definitions. Assumes nothing.
-use Rattle.std.specs.Prelude.{ℕ, ◌+◌, ◌≡◌, refl, true, false, List, [], ◌∷◌, ◌++◌, map, length, replicate}
+use Rattle.std.specs.Prelude.{refl}
 use Rattle.octets.specs.Le.{to_le, from_le, number_at}
 use Rattle.octets.specs.Places.{bytes_at}
-use Rattle.protocol.specs.Rows.{◌▷◌, decide, check_number}
+use Rattle.protocol.specs.Rows.{◌▷◌, decide}
 use Rattle.protocol.specs.Args.{args_rows, account_of}
-use Rattle.protocol.specs.declared.error.ProtocolError.TheVariants.{SceneTooLong}
-use Rattle.protocol.specs.declared.check.Check.TheVariants.{Passed, Failed}
 use Rattle.molecule.specs.Table3.{table_rows, between, field3}
 use Rattle.molecule.specs.Bytes.{bytes_rows, bytes_place_from, place_answer, script_args_rows, read_script_args, bytes_in}
 use Rattle.text.specs.Print.{parted_by, line_text, digit_text, hex_text, decimal_text, number_text}
-use Rattle.account_lock.specs.Lock.{args_in, account_in, script_rows, refused}
+use Rattle.account_lock.specs.Lock.{args_in, account_in, script_rows}
 use Rattle.answer_line.specs.Line.{answer_word, digest_text, fee_text, line_of}
-use Rattle.decide_scene.specs.Decided.{decided, program_decides}
+use Rattle.decide_scene.specs.Decided.{program_decides}
 use Rattle.limit_rows.specs.MoleculeLimits.{table_with}
 use Rattle.limit_rows.specs.LockLimits.{LockLimits, script_with}
 

@@ -1,17 +1,14 @@
 -- `molecule-limits` (specs/MoleculeLimits): each row computed from the definitions. Assumes nothing.
-use Rattle.std.specs.Prelude.{ℕ, ◌+◌, ◌≡◌, refl, List, [], ◌∷◌, ◌++◌, map, length}
+use Rattle.std.specs.Prelude.{refl}
 use Rattle.octets.specs.Le.{to_le, from_le, number_at}
 use Rattle.octets.specs.Lists.{joined}
 use Rattle.octets.specs.Layout.{layout_bytes}
 use Rattle.octets.specs.Places.{bytes_at}
-use Rattle.protocol.specs.Rows.{◌▷◌, decide, check_number}
-use Rattle.protocol.specs.declared.error.ProtocolError.TheVariants.{InvalidWitness}
-use Rattle.protocol.specs.declared.check.Check.TheVariants.{Passed}
+use Rattle.protocol.specs.Rows.{◌▷◌, decide}
 use Rattle.molecule.specs.Molecule.{bytes_vector, offsets_from, head_size, table_head, table_bytes}
 use Rattle.molecule.specs.Table3.{table_rows, table_fields_of, table_answer, read_table, between, field1, field2, field3}
-use Rattle.molecule.specs.Bytes.{bytes_rows, bytes_place_from, place_answer, read_bytes, witness_lock_rows, read_witness_lock, script_args_rows, read_script_args, bytes_in, place_number}
+use Rattle.molecule.specs.Bytes.{bytes_rows, bytes_place_from, place_answer, read_bytes, witness_lock_rows, read_witness_lock, script_args_rows, read_script_args, bytes_in}
 use Rattle.molecule.specs.Canonical.{canonical_of}
-use Rattle.molecule.specs.declared.table.TableAnswer.TheVariants.{Fields}
 use Rattle.limit_rows.specs.MoleculeLimits.{MoleculeLimits, table_with, three_fields}
 
 pub molecule-limits : MoleculeLimits

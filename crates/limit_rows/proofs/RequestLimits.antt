@@ -1,15 +1,14 @@
 -- `request-limits` (specs/RequestLimits): each row computed from the definitions. Assumes nothing.
-use Rattle.std.specs.Prelude.{ℕ, ◌+◌, ◌≡◌, refl, List, [], ◌∷◌, ◌++◌, map, length, replicate}
+use Rattle.std.specs.Prelude.{refl}
 use Rattle.octets.specs.Le.{to_le, from_le, number_at}
 use Rattle.octets.specs.Lists.{tabulate}
-use Rattle.protocol.specs.Rows.{◌▷◌, decide, check_number}
+use Rattle.protocol.specs.Rows.{◌▷◌, decide}
 use Rattle.protocol.specs.Policy.{is_operation}
-use Rattle.protocol.specs.declared.check.Check.TheVariants.{Passed}
-use Rattle.verifier_request.specs.Reader.{request_header_rows, request_field_rows, request_rows, request_fault, request_fields_of, request_answer, read_request, request_number}
+use Rattle.verifier_request.specs.Reader.{request_header_rows, request_field_rows, request_rows, request_fault, request_fields_of, request_answer, read_request}
 use Rattle.verifier_request.specs.Reading.{request_given, request_reading}
 use Rattle.verifier_request.specs.Writer.{request_writer_limit_rows}
-use Rattle.public_key_proof.specs.Reader.{public_key_proof_rows, public_key_proof_fault, public_key_proof_places, public_key_proof_answer, read_public_key_proof, public_key_proof_number}
-use Rattle.public_key_proof.specs.Reading.{public_key_proof_with, public_key_proof_given, public_key_proof_reading}
+use Rattle.public_key_proof.specs.Reader.{public_key_proof_rows, public_key_proof_fault, public_key_proof_places, public_key_proof_answer, read_public_key_proof}
+use Rattle.public_key_proof.specs.Reading.{public_key_proof_given, public_key_proof_reading}
 use Rattle.public_key_proof.specs.Writer.{public_key_proof_writer_rows}
 use Rattle.limit_rows.specs.RequestLimits.{RequestLimits, request_front, request_places}
 

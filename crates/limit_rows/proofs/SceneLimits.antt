@@ -1,19 +1,14 @@
 -- `scene-limits` (specs/SceneLimits): each row computed from the definitions. Assumes nothing.
-use Rattle.std.specs.Prelude.{ℕ, ◌-◌, ◌^◌, ◌≡◌, refl, true, false, List, [], ◌∷◌, ◌++◌, map, length, replicate}
+use Rattle.std.specs.Prelude.{refl}
 use Rattle.octets.specs.Lists.{same, every, joined}
-use Rattle.protocol.specs.Rows.{◌▷◌, decide, check_number}
-use Rattle.protocol.specs.declared.check.Check.TheVariants.{Passed}
-use Rattle.text.specs.Text.{before, pieces, line_end, is_hex, hex_val, hex_ok, hex_bytes, decimal, number_of, decimal_of, number_in}
-use Rattle.text.specs.declared.decimal.Decimal.TheVariants.{Value, Invalid}
-use Rattle.scene_line.specs.declared.form.Form.TheVariants as form
-use Rattle.scene_line.specs.declared.kind.Kind.{Kind}
-use Rattle.scene_line.specs.declared.kind.Kind.TheVariants as kind
-use Rattle.scene_line.specs.Kind.{rank, kind_of, follows, line_kind, line_fields, input, output, dep}
-use Rattle.scene_line.specs.Line.{field_ok, forms_ok, field_bytes, line_bytes, line_entries}
-use Rattle.scene_reader.specs.Reader.{line_put_as, line_rows, rows_of_line, line_put, scene_end_rows, lines_rows, lines_put, reader_start, scene_limit_rows, scene_rows, read_of, reader_check}
+use Rattle.protocol.specs.Rows.{◌▷◌, decide}
+use Rattle.text.specs.Text.{before, pieces, hex_val, hex_ok, hex_bytes, decimal, number_of, decimal_of, number_in}
+use Rattle.scene_line.specs.Kind.{kind_of, follows, line_kind, line_fields}
+use Rattle.scene_line.specs.Line.{forms_ok, field_bytes, line_bytes, line_entries}
+use Rattle.scene_reader.specs.Reader.{line_put_as, line_rows, rows_of_line, line_put, scene_end_rows, lines_rows, lines_put, reader_start, scene_limit_rows, scene_rows, read_of}
 use Rattle.scene_reading.specs.Lines.{word_of, kind_of_line, fields_of_line}
 use Rattle.scene_reading.specs.Reading.{cell_of, decimal_field, input_of, output_of, bytes_field, fields_of_kind, only_field, scene_of}
-use Rattle.scene_table.specs.Scene.{Cell, Input, Output, Scene, cell_bytes, cell_lengths, bytes_line, hash_line, input_line, output_line, cell_line, digits_line, lines_of, scene_bytes, counts_of, records_from, scene_numbers}
+use Rattle.scene_table.specs.Scene.{cell_bytes, cell_lengths, bytes_line, hash_line, input_line, output_line, cell_line, digits_line, lines_of, scene_bytes, counts_of, records_from, scene_numbers}
 use Rattle.limit_rows.specs.SceneLimits.{SceneLimits, every_kind, every_scene}
 
 pub scene-limits : SceneLimits

@@ -1,7 +1,6 @@
 -- `since-limits` (specs/SinceLimits): each row computed from the definitions. Assumes nothing.
-use Rattle.std.specs.Prelude.{ℕ, ◌+◌, ◌*◌, ◌^◌, ◌≡◌, refl, [], ◌∷◌, map, replicate}
-use Rattle.protocol.specs.Rows.{◌▷◌, decide, check_number}
-use Rattle.protocol.specs.declared.check.Check.TheVariants.{Passed}
+use Rattle.std.specs.Prelude.{refl}
+use Rattle.protocol.specs.Rows.{◌▷◌, decide}
 use Rattle.since.specs.Epoch.{epoch_of, epoch_well_formed, divisor, parts, epoch_leb}
 use Rattle.since.specs.Since.{since_fields, in_epochs, well_formed, value_leb, reached}
 use Rattle.state_transition.specs.Transition.{wait_rows}

@@ -1,13 +1,11 @@
 -- `transition-limits` (specs/TransitionLimits): each row computed from the definitions. Assumes nothing.
-use Rattle.std.specs.Prelude.{ℕ, ◌+◌, ◌-◌, ◌^◌, ◌≡◌, refl, List, [], ◌∷◌, ◌++◌, map, length, replicate}
+use Rattle.std.specs.Prelude.{refl}
 use Rattle.octets.specs.Le.{to_le, from_le, number_at}
 use Rattle.octets.specs.Lists.{same, every}
-use Rattle.protocol.specs.Rows.{◌▷◌, decide, check_number}
+use Rattle.protocol.specs.Rows.{◌▷◌, decide}
 use Rattle.protocol.specs.Policy.{is_supported_algorithm, has_capability}
-use Rattle.protocol.specs.declared.check.Check.TheVariants.{Passed}
 use Rattle.account_state.specs.Reading.{entry_of, entries_of, state_reading, capable_share, capable_weight}
 use Rattle.account_state.specs.State.{state_header_rows, entry_layout_rows, entry_field_rows, original_entry_rows, entry_rows, entries_rows, behind_entries, recovery_threshold_rows, threshold_rows, state_end_rows, summary_of, state_tail_rows, state_rows}
-use Rattle.scene_table.specs.Scene.{Cell, Scene}
 use Rattle.cell_search.specs.Search.{cells_of, cell_hash, matching, matches, search_of, cell_search, no_cell, cell_at}
 use Rattle.since.specs.Epoch.{epoch_of, epoch_well_formed, divisor, parts, epoch_leb}
 use Rattle.since.specs.Since.{since_fields, in_epochs, well_formed, value_leb, reached}

@@ -1,13 +1,13 @@
 -- `witness-limits` (specs/WitnessLimits): each row computed from the definitions. Assumes nothing.
-use Rattle.std.specs.Prelude.{ℕ, zero, suc, ◌+◌, ◌≡◌, refl, List, [], ◌∷◌, ◌++◌, map, length, replicate}
+use Rattle.std.specs.Prelude.{refl}
 use Rattle.octets.specs.Le.{from_le, number_at}
 use Rattle.octets.specs.Lists.{tabulate}
 use Rattle.protocol.specs.Rows.{◌▷◌, decide}
 use Rattle.protocol.specs.Policy.{is_operation}
-use Rattle.account_witness.specs.Header.{witness_header_rows, witness_header_of, witness_header_answer, read_witness_header, witness_header_number}
+use Rattle.account_witness.specs.Header.{witness_header_rows, witness_header_of, witness_header_answer, read_witness_header}
 use Rattle.account_witness.specs.Reading.{proof_given, proofs_of, witness_reading}
 use Rattle.account_witness.specs.Walk.{proof_layout_rows, proof_at, proofs_layout_rows}
-use Rattle.account_witness.specs.Witness.{witness_rows, witness_fault, witness_answer, read_witness, witness_number}
+use Rattle.account_witness.specs.Witness.{witness_rows, witness_fault, witness_answer, read_witness}
 use Rattle.limit_rows.specs.WitnessLimits.{WitnessLimits, witness_front, proof_with, proofs_up_to, witness_places}
 
 pub witness-limits : WitnessLimits

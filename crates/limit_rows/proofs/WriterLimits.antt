@@ -1,12 +1,11 @@
 -- `writer-limits` (specs/WriterLimits): each row computed from the definitions. Assumes nothing.
-use Rattle.std.specs.Prelude.{ℕ, ◌+◌, ◌≡◌, refl, List, [], ◌∷◌, ◌++◌, map, length, replicate}
+use Rattle.std.specs.Prelude.{refl}
 use Rattle.octets.specs.Le.{to_le, from_le, number_at}
 use Rattle.octets.specs.Lists.{every, joined, tabulate, is_rising, sum}
 use Rattle.octets.specs.Layout.{layout_bytes}
-use Rattle.protocol.specs.Rows.{◌▷◌, decide, check_number}
+use Rattle.protocol.specs.Rows.{◌▷◌, decide}
 use Rattle.protocol.specs.Policy.{is_supported_algorithm, is_operation, has_capability}
-use Rattle.protocol.specs.Write.{write_fault, write_answer, after_write, write_number}
-use Rattle.protocol.specs.declared.check.Check.TheVariants.{Passed}
+use Rattle.protocol.specs.Write.{write_fault, write_answer, after_write}
 use Rattle.account_state.specs.Reading.{entry_head_fields, entry_length_fields, entry_bytes, entries_bytes, state_header_fields, state_head, state_bytes, entry_of, entries_of, capable_share, capable_weight}
 use Rattle.account_state.specs.State.{state_header_rows, entry_layout_rows, entry_field_rows, original_entry_rows, behind_entries, recovery_threshold_rows, threshold_rows, state_end_rows, summary_of, state_tail_rows}
 use Rattle.account_state_writer.specs.Slices.{lent_count}

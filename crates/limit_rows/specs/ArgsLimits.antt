@@ -1,10 +1,9 @@
 -- Args, operations and capability bits, computed from the definitions.
-use Rattle.std.specs.Prelude.{ℕ, ◌+◌, ◌≡◌, refl, List, [], ◌∷◌, map, length}
-use Rattle.octets.specs.Le.{from_le, number_at}
+use Rattle.std.specs.Prelude.{ℕ, ◌+◌, ◌≡◌, List, [], ◌∷◌, map, length}
 use Rattle.octets.specs.Lists.{tabulate}
-use Rattle.protocol.specs.Rows.{◌▷◌, decide, check_number}
-use Rattle.protocol.specs.Args.{args_rows, args_answer, read_args, args_number, account_of}
-use Rattle.protocol.specs.Policy.{is_operation, operation_rows, capability_for, capability_number, has_capability}
+use Rattle.protocol.specs.Rows.{decide, check_number}
+use Rattle.protocol.specs.Args.{read_args, args_number, account_of}
+use Rattle.protocol.specs.Policy.{operation_rows, capability_for, capability_number}
 use Rattle.protocol.specs.declared.check.Check.TheVariants.{Passed}
 use Rattle.protocol.specs.declared.policy.OperationCapability.TheVariants.{Capability}
 

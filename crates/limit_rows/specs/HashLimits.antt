@@ -1,16 +1,12 @@
 -- CKB's hash and what the sighash and the digest are made of: 01, main.rs, 02, change 1, computed from the definitions.
-use Rattle.std.specs.Prelude.{ℕ, ◌+◌, ◌≡◌, refl, List, [], ◌∷◌, ◌++◌, replicate}
-use Rattle.octets.specs.Le.{to_le, from_le, number_at}
-use Rattle.octets.specs.Lists.{same, tabulate, joined}
-use Rattle.protocol.specs.Rows.{◌▷◌, decide, check_number}
+use Rattle.std.specs.Prelude.{ℕ, ◌+◌, ◌≡◌, List, [], ◌∷◌, ◌++◌, replicate}
+use Rattle.octets.specs.Lists.{tabulate}
+use Rattle.protocol.specs.Rows.{decide, check_number}
 use Rattle.protocol.specs.declared.check.Check.TheVariants.{Passed}
-use Rattle.blake2b_compression.specs.Compression.{rotr, words_of, IV, SIGMA, add, turn, G, mixed, round, row_of, rounds, xor_at, flagged, work_vector, halves, F}
-use Rattle.blake2b.specs.Rfc7693.{bytes_of, start_words, zero_padded, block_of, chained, last_of, hash_words, hash_of}
-use Rattle.blake2b.specs.State.{ckb_parameters, ckb_hash}
-use Rattle.authorization.specs.Digest.{auth_domain, digest_head, digest_input}
-use Rattle.authorization.specs.Hashed.{hashed_witness}
-use Rattle.authorization.specs.Sighash.{hashed_witnesses, sighash_input}
-use Rattle.cell_hashes.specs.Hashes.{hash_agrees, cell_hash_rows}
+use Rattle.blake2b.specs.State.{ckb_hash}
+use Rattle.authorization.specs.Digest.{digest_input}
+use Rattle.authorization.specs.Sighash.{sighash_input}
+use Rattle.cell_hashes.specs.Hashes.{cell_hash_rows}
 
 -- 01: "32 bytes out, no key, parameter block with the 16 personal bytes `ckb-default-hash`": the hash of no bytes, by python3's hashlib
 unfoldable pub empty_hash : List ℕ

@@ -1,17 +1,12 @@
 -- The lock's script, the program's limits and its line: 01, "Where each refusal is raised" and the program, 02, change 9, computed from
 -- the definitions.
-use Rattle.std.specs.Prelude.{ℕ, ◌+◌, ◌≡◌, refl, true, false, List, [], ◌∷◌, ◌++◌, map, length, replicate}
-use Rattle.octets.specs.Le.{to_le, from_le, number_at}
-use Rattle.octets.specs.Places.{bytes_at}
-use Rattle.protocol.specs.Rows.{◌▷◌, decide, check_number}
-use Rattle.protocol.specs.Args.{args_rows, account_of}
+use Rattle.std.specs.Prelude.{ℕ, ◌+◌, ◌≡◌, true, false, List, [], ◌∷◌, ◌++◌, map, length, replicate}
+use Rattle.octets.specs.Le.{to_le}
+use Rattle.protocol.specs.Rows.{decide, check_number}
 use Rattle.protocol.specs.declared.error.ProtocolError.TheVariants.{SceneTooLong}
 use Rattle.protocol.specs.declared.check.Check.TheVariants.{Passed, Failed}
-use Rattle.molecule.specs.Table3.{table_rows, between, field3}
-use Rattle.molecule.specs.Bytes.{bytes_rows, bytes_place_from, place_answer, script_args_rows, read_script_args, bytes_in}
-use Rattle.text.specs.Print.{parted_by, line_text, digit_text, hex_text, decimal_text, number_text}
-use Rattle.account_lock.specs.Lock.{args_in, account_in, script_rows, refused}
-use Rattle.answer_line.specs.Line.{answer_word, digest_text, fee_text, line_of}
+use Rattle.account_lock.specs.Lock.{account_in, script_rows, refused}
+use Rattle.answer_line.specs.Line.{line_of}
 use Rattle.decide_scene.specs.Decided.{decided, program_decides}
 use Rattle.limit_rows.specs.MoleculeLimits.{table_with}
 

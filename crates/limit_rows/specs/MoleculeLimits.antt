@@ -1,15 +1,11 @@
 -- Molecule tables: 01, main.rs, `table3_fields`, the lock of a witness, the args of a script, computed from the definitions.
-use Rattle.std.specs.Prelude.{ℕ, ◌+◌, ◌≡◌, refl, List, [], ◌∷◌, ◌++◌, map, length}
-use Rattle.octets.specs.Le.{to_le, from_le, number_at}
-use Rattle.octets.specs.Lists.{joined}
-use Rattle.octets.specs.Layout.{layout_bytes}
-use Rattle.octets.specs.Places.{bytes_at}
-use Rattle.protocol.specs.Rows.{◌▷◌, decide, check_number}
+use Rattle.std.specs.Prelude.{ℕ, ◌+◌, ◌≡◌, List, [], ◌∷◌, ◌++◌, map, length}
+use Rattle.octets.specs.Le.{to_le}
+use Rattle.protocol.specs.Rows.{decide, check_number}
 use Rattle.protocol.specs.declared.error.ProtocolError.TheVariants.{InvalidWitness}
 use Rattle.protocol.specs.declared.check.Check.TheVariants.{Passed}
-use Rattle.molecule.specs.Molecule.{bytes_vector, offsets_from, head_size, table_head, table_bytes}
-use Rattle.molecule.specs.Table3.{table_rows, table_fields_of, table_answer, read_table, between, field1, field2, field3}
-use Rattle.molecule.specs.Bytes.{bytes_rows, bytes_place_from, place_answer, read_bytes, witness_lock_rows, read_witness_lock, script_args_rows, read_script_args, bytes_in, place_number}
+use Rattle.molecule.specs.Table3.{table_rows, read_table, field1, field2, field3}
+use Rattle.molecule.specs.Bytes.{read_witness_lock, read_script_args, bytes_in, place_number}
 use Rattle.molecule.specs.Canonical.{canonical_of}
 use Rattle.molecule.specs.declared.table.TableAnswer.TheVariants.{Fields}
 

@@ -1,27 +1,19 @@
 -- The witnesses, a proof's rows, the last rows of the walk and the totals: 01, "Where each refusal is raised", 02, changes 6 and 9,
 -- computed from the definitions.
-use Rattle.std.specs.Prelude.{ℕ, ◌+◌, ◌-◌, ◌^◌, ◌≡◌, refl, Bool, true, false, List, [], ◌∷◌, ◌++◌, map, length, replicate}
-use Rattle.octets.specs.Le.{to_le, from_le, number_at}
-use Rattle.octets.specs.Lists.{same, every, tabulate, array_of}
-use Rattle.octets.specs.Places.{bytes_at}
-use Rattle.octets.specs.Layout.{layout_bytes}
-use Rattle.protocol.specs.Rows.{◌▷◌, decide, check_number}
-use Rattle.protocol.specs.Policy.{is_operation, capability_for, has_capability}
+use Rattle.std.specs.Prelude.{ℕ, ◌+◌, ◌-◌, ◌^◌, ◌≡◌, Bool, true, false, List, [], ◌∷◌, ◌++◌, map, length, replicate}
+use Rattle.octets.specs.Le.{to_le}
+use Rattle.octets.specs.Lists.{tabulate}
+use Rattle.protocol.specs.Rows.{decide, check_number}
 use Rattle.protocol.specs.declared.check.Check.TheVariants.{Passed}
 use Rattle.account_state.specs.Reading.{EntryReading}
-use Rattle.account_witness.specs.Header.{witness_header_rows}
 use Rattle.account_witness.specs.Reading.{ProofReading}
-use Rattle.verifier_request.specs.Reading.{request_head, request_lengths, request_bytes}
-use Rattle.molecule.specs.Table3.{table_rows, between, field1}
-use Rattle.molecule.specs.Bytes.{bytes_rows, bytes_place_from, place_answer, witness_lock_rows, read_witness_lock, bytes_in}
 use Rattle.scene_table.specs.Scene.{Cell, Scene}
 use Rattle.scene_table.specs.Places.{verdict_at}
-use Rattle.cell_search.specs.Search.{cell_hash, matching, matches, no_cell}
-use Rattle.group_sighash.specs.Witnesses.{group_witnesses, group_of, head_of, first_witness, other_witnesses, lock_in, count_rows, first_witness_rows, witness_fits}
-use Rattle.quorum.specs.Slots.{known_slot, no_entry, entry_for}
-use Rattle.quorum.specs.Operation.{has_bit, capable, threshold_of}
-use Rattle.decision.specs.Proofs.{Context, verifier_field, verifiers, request_limit_rows, authenticator_rows, proof_rows, request_content, request_of}
-use Rattle.decision.specs.Walk.{verdict, approved_weight, last_rows, unless_failed, walk_from}
+use Rattle.cell_search.specs.Search.{no_cell}
+use Rattle.group_sighash.specs.Witnesses.{first_witness, other_witnesses, first_witness_rows, witness_fits}
+use Rattle.quorum.specs.Operation.{threshold_of}
+use Rattle.decision.specs.Proofs.{Context, request_limit_rows, authenticator_rows, proof_rows, request_of}
+use Rattle.decision.specs.Walk.{last_rows, walk_from}
 use Rattle.capacity.specs.Capacity.{total_rows, fee_for}
 use Rattle.limit_rows.specs.StateLimits.{head_places}
 use Rattle.limit_rows.specs.WitnessLimits.{witness_front}

@@ -1,9 +1,9 @@
 -- Waiting periods: 02, change 4, and the bits of CKB's RFC 0017, computed from the definitions.
-use Rattle.std.specs.Prelude.{ℕ, ◌+◌, ◌*◌, ◌^◌, ◌≡◌, refl, [], ◌∷◌, map, replicate}
-use Rattle.protocol.specs.Rows.{◌▷◌, decide, check_number}
+use Rattle.std.specs.Prelude.{ℕ, ◌+◌, ◌*◌, ◌^◌, ◌≡◌, [], ◌∷◌, map, replicate}
+use Rattle.protocol.specs.Rows.{decide, check_number}
 use Rattle.protocol.specs.declared.check.Check.TheVariants.{Passed}
-use Rattle.since.specs.Epoch.{epoch_of, epoch_well_formed, divisor, parts, epoch_leb}
-use Rattle.since.specs.Since.{since_fields, in_epochs, well_formed, value_leb, reached}
+use Rattle.since.specs.Epoch.{epoch_of}
+use Rattle.since.specs.Since.{since_fields}
 use Rattle.state_transition.specs.Transition.{wait_rows}
 
 -- the rows of a wait, by the state's recovery_since and the input's since

@@ -1,11 +1,9 @@
 -- The account state: 01, "State header" and "Each entry", 02, changes 6 and 10, computed from the definitions.
-use Rattle.std.specs.Prelude.{ℕ, ◌+◌, ◌≡◌, refl, List, [], ◌∷◌, ◌++◌, map, length, replicate}
-use Rattle.octets.specs.Le.{to_le, from_le, number_at}
+use Rattle.std.specs.Prelude.{ℕ, ◌+◌, ◌≡◌, List, [], ◌∷◌, ◌++◌, map, length, replicate}
+use Rattle.octets.specs.Le.{to_le}
 use Rattle.octets.specs.Lists.{tabulate}
-use Rattle.protocol.specs.Rows.{◌▷◌, decide}
-use Rattle.protocol.specs.Policy.{is_supported_algorithm, has_capability}
-use Rattle.account_state.specs.Reading.{entry_of, entries_of, state_reading, capable_share, capable_weight}
-use Rattle.account_state.specs.State.{state_header_rows, entry_layout_rows, entry_field_rows, original_entry_rows, entry_rows, entries_rows, behind_entries, recovery_threshold_rows, threshold_rows, state_end_rows, summary_of, state_tail_rows, state_rows, state_fault, state_header_of, state_header_answer, read_state_header, state_answer, read_state, state_header_number, state_number}
+use Rattle.account_state.specs.Reading.{entry_of, entries_of}
+use Rattle.account_state.specs.State.{read_state_header, read_state, state_header_number, state_number}
 use Rattle.account_state.specs.declared.header.StateHeaderAnswer.TheVariants.{Header}
 
 -- a header of 32 bytes, `CKA` and a letter: version, flags, header length, spend, rotate and recovery thresholds, count, byte 23,

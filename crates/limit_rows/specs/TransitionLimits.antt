@@ -1,19 +1,11 @@
 -- The account's cells and states in a transaction: 01, "Where each refusal is raised", 02, change 10, computed from the definitions.
-use Rattle.std.specs.Prelude.{ℕ, ◌+◌, ◌-◌, ◌^◌, ◌≡◌, refl, List, [], ◌∷◌, ◌++◌, map, length, replicate}
-use Rattle.octets.specs.Le.{to_le, from_le, number_at}
-use Rattle.octets.specs.Lists.{same, every}
-use Rattle.protocol.specs.Rows.{◌▷◌, decide, check_number}
-use Rattle.protocol.specs.Policy.{is_supported_algorithm, has_capability}
+use Rattle.std.specs.Prelude.{ℕ, ◌-◌, ◌^◌, ◌≡◌, List, [], ◌∷◌, ◌++◌, map, length, replicate}
+use Rattle.octets.specs.Le.{to_le}
+use Rattle.protocol.specs.Rows.{decide, check_number}
 use Rattle.protocol.specs.declared.check.Check.TheVariants.{Passed}
-use Rattle.account_state.specs.Reading.{entry_of, entries_of, state_reading, capable_share, capable_weight}
-use Rattle.account_state.specs.State.{state_header_rows, entry_layout_rows, entry_field_rows, original_entry_rows, entry_rows, entries_rows, behind_entries, recovery_threshold_rows, threshold_rows, state_end_rows, summary_of, state_tail_rows, state_rows}
 use Rattle.scene_table.specs.Scene.{Cell, Scene}
-use Rattle.cell_search.specs.Search.{cells_of, cell_hash, matching, matches, search_of, cell_search, no_cell, cell_at}
-use Rattle.since.specs.Epoch.{epoch_of, epoch_well_formed, divisor, parts, epoch_leb}
-use Rattle.since.specs.Since.{since_fields, in_epochs, well_formed, value_leb, reached}
-use Rattle.state_transition.specs.Resolve.{state_indices, state_index, state_cell, spend_rows, type_rows, change_rows, resolve_rows, state_source, current_state, successor_state, no_input, state_since}
-use Rattle.state_transition.specs.Session.{session_free}
-use Rattle.state_transition.specs.Transition.{data_rows, current_rows, successor_rows, wait_rows, recovery_rows, succession_rows, transition_rows}
+use Rattle.state_transition.specs.Resolve.{type_rows, resolve_rows, current_state, successor_state, state_since}
+use Rattle.state_transition.specs.Transition.{data_rows, transition_rows}
 use Rattle.limit_rows.specs.StateLimits.{entry_with}
 
 -- a state of one entry, whose recovery threshold is 1 where flag 1 is set: flags, sequence, recovery threshold, recovery_since,

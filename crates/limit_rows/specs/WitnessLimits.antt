@@ -1,13 +1,9 @@
 -- The witness lock and its proofs: 01, "Witness lock" and "Proof", computed from the definitions.
-use Rattle.std.specs.Prelude.{ℕ, zero, suc, ◌+◌, ◌≡◌, refl, List, [], ◌∷◌, ◌++◌, map, length, replicate}
-use Rattle.octets.specs.Le.{from_le, number_at}
+use Rattle.std.specs.Prelude.{ℕ, zero, suc, ◌+◌, ◌≡◌, List, [], ◌∷◌, ◌++◌, map, length, replicate}
 use Rattle.octets.specs.Lists.{tabulate}
-use Rattle.protocol.specs.Rows.{◌▷◌, decide}
-use Rattle.protocol.specs.Policy.{is_operation}
-use Rattle.account_witness.specs.Header.{witness_header_rows, witness_header_of, witness_header_answer, read_witness_header, witness_header_number}
-use Rattle.account_witness.specs.Reading.{proof_given, proofs_of, witness_reading}
-use Rattle.account_witness.specs.Walk.{proof_layout_rows, proof_at, proofs_layout_rows}
-use Rattle.account_witness.specs.Witness.{witness_rows, witness_fault, witness_answer, read_witness, witness_number}
+use Rattle.account_witness.specs.Header.{read_witness_header, witness_header_number}
+use Rattle.account_witness.specs.Reading.{witness_reading}
+use Rattle.account_witness.specs.Witness.{read_witness, witness_number}
 
 -- a header of 16 bytes, `CKA` and a letter: version, operation, count, byte 7
 unfoldable pub witness_front : ℕ → ℕ → ℕ → ℕ → ℕ → List ℕ

@@ -1,26 +1,24 @@
 -- `marked-rows` (specs/MarkedRows): each row computed from the definitions. Assumes nothing.
-use Rattle.std.specs.Prelude.{ℕ, ◌≡◌, refl, List, [], ◌∷◌, ◌++◌, length, replicate}
+use Rattle.std.specs.Prelude.{refl}
 use Rattle.std.proofs.Common.{ap, inl}
 use Rattle.octets.specs.Le.{to_le, from_le, number_at}
 use Rattle.octets.specs.Lists.{joined}
 use Rattle.octets.specs.Layout.{layout_bytes}
 use Rattle.protocol.specs.Write.{write_fault, write_answer, after_write}
 use Rattle.protocol.specs.declared.error.ProtocolError.TheVariants.{InvalidState}
-use Rattle.protocol.specs.declared.check.WriteAnswer.TheVariants.{Written}
 use Rattle.molecule.specs.Molecule.{bytes_vector, offsets_from, head_size, table_head, table_bytes}
 use Rattle.molecule.specs.Table3.{table_rows, between, field2, field3}
 use Rattle.molecule.specs.Canonical.{canonical_of, canonical_room, canonical_written, canonical_stored}
 use Rattle.protocol.specs.Rows.{◌▷◌, decide}
 use Rattle.protocol.specs.Policy.{is_supported_algorithm, is_operation, has_capability}
-use Rattle.protocol.specs.Args.{args_rows, args_answer, read_args, args_number}
+use Rattle.protocol.specs.Args.{args_rows, args_answer, read_args}
 use Rattle.account_state.specs.Reading.{entry_of, entries_of, capable_share, capable_weight}
 use Rattle.account_state.specs.State.{state_header_rows, entry_layout_rows, entry_field_rows, original_entry_rows, entry_rows, entries_rows, behind_entries, recovery_threshold_rows, threshold_rows, state_end_rows, state_tail_rows, state_rows, state_fault, state_header_of, summary_of, state_answer, read_state, state_number}
 use Rattle.account_state.proofs.Accepted.{state-refuses}
 use Rattle.account_witness.specs.Header.{witness_header_rows, witness_header_of}
 use Rattle.account_witness.specs.Walk.{proof_layout_rows, proofs_layout_rows}
-use Rattle.account_witness.specs.Witness.{witness_rows, witness_fault, witness_answer, read_witness, witness_number}
-use Rattle.public_key_proof.specs.Reader.{public_key_proof_rows, public_key_proof_fault, public_key_proof_places, public_key_proof_answer, read_public_key_proof, public_key_proof_number}
-use Rattle.public_key_proof.specs.declared.reader.PublicKeyProofAnswer.TheVariants.{Proof}
+use Rattle.account_witness.specs.Witness.{witness_rows, witness_fault, witness_answer, read_witness}
+use Rattle.public_key_proof.specs.Reader.{public_key_proof_rows, public_key_proof_fault, public_key_proof_places, public_key_proof_answer, read_public_key_proof}
 use Rattle.marked_rows.specs.MarkedRows.{MarkedRows, smallest_state, empty_witness, lock_of_one, lock_of_none}
 
 pub marked-rows : MarkedRows
