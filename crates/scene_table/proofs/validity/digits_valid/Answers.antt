@@ -14,7 +14,7 @@ returns-then-table_entry-gt2 c =
     let l = c.loop-i in
     let a = c.args in
     let T = c.args.table.now in
-    let h : 3 ≤ table_entry T (a.first + l.i) = rw c.table_entry.ensures at c.if-table_entry-gt2.true in
+    let h : 3 ≤ table_entry T (a.first + l.i) = omega (arith, c.table_entry.ensures) in
     sym (sym l.invariant.1 ∙ rw (digits-turn good (table_entry T) a.n a.first l.i c.loop-i-test.true, le-ltb (table_entry T (a.first + l.i)) 3 h))
 
 pub loop-i-preserved : goal.loop-i-preserved
@@ -22,7 +22,7 @@ loop-i-preserved c =
     let l = c.loop-i in
     let a = c.args in
     let T = c.args.table.now in
-    let h : table_entry T (a.first + l.i) ≤ 2 = rw c.table_entry.ensures at c.if-table_entry-gt2.false in
+    let h : table_entry T (a.first + l.i) ≤ 2 = omega (arith, c.table_entry.ensures) in
     let k : table_entry T (a.first + l.i) < 3 = omega arith in
     (omega arith, sym (rw (lt-ltb (table_entry T (a.first + l.i)) 3 k) at (digits-turn good (table_entry T) a.n a.first l.i c.loop-i-test.true)) ∙ l.invariant.1)
 
