@@ -1,7 +1,7 @@
 -- `text::decimal::read_decimal` meets its contract. Assumes nothing.
 use native.Mathlib.Omega.{arith}
 use mathlib.Core.Path.{◌≡◌, sym, ◌∙◌}
-use lib.ListN.{length}
+use lib.ListN.{length, get_or}
 use mathlib.Core.Bool.{true, false}
 use borrow.Author.Tests.{lt-ltb, le-ltb, eq-eqb, ne_eqb, not-true, not-false}
 use lib.Dec.{ltb}
@@ -49,4 +49,4 @@ returns c =
     let s = c.args.s.now in
     let some : ltb 0 (length s) ≡ true = lt-ltb 0 (length s) (omega arith) in
     let digits : every (in_range 48 57) s ≡ true = sym c.all_between.ensures ∙ not-false _ c.if-not-all_between.false-raw in
-    rw (some, digits, ne_eqb _ 1 c.if-s-eq1.false, ne_eqb _ 48 c.if-s-eq48.false) c.value-2.ensures
+    rw (some, digits, ne_eqb _ 1 c.if-s-eq1.false, ne_eqb (get_or s 0 0) 48 (λ e. omega arith)) c.value-2.ensures
