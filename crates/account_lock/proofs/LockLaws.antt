@@ -1,5 +1,6 @@
 -- The lock's rows in the order in which the code goes through them, and what follows where they pass.
 -- Assumes nothing.
+use Rattle.std.specs.Prelude.{Err, Ok}
 use mathlib.Core.Path.{◌≡◌, sym, ap, ◌∙◌}
 use mathlib.Core.Bool.{true}
 use mathlib.Core.List.{List, ◌++◌}
@@ -10,11 +11,9 @@ use lib.Seq.{length-take-le}
 use borrow.Author.Tests.{eqb-true}
 use Rattle.protocol.specs.Args.{args_rows, account_of}
 use Rattle.protocol.specs.Policy.{is_operation, operation_rows}
-use Rattle.protocol.specs.Rows.{AllPass, decide, ◌▷◌, ◌then◌}
+use Rattle.protocol.specs.Rows.{AllPass, decide, ◌▷◌, ◌then◌, Check}
 use Rattle.protocol.proofs.AllPass.{decide-both, then-assoc, all-pass-split}
 use Rattle.protocol.specs.declared.error.ProtocolError.{ProtocolError}
-use Rattle.protocol.specs.declared.check.Check.{Check}
-use Rattle.protocol.specs.declared.check.Check.TheVariants.{Passed, Failed}
 use Rattle.molecule.specs.Bytes as molecule
 use Rattle.molecule.proofs.BytesTheorem.{lock-read, args_read}
 use Rattle.octets.specs.Places.{bytes_at}
@@ -27,37 +26,37 @@ use Rattle.account_lock.specs.Lock.{args_in, account_in, script_rows, account, o
 use Rattle.account_lock.specs.Calls.{ScriptAndGroupPass}
 
 -- for an operation from 1 to 3 the search for the state finds what the lock's rows find
-pub resolved-found : (o : ℕ) (id : List ℕ) (s : Scene) → is_operation o ≡ true → (resolved_of o id s).found ≡ decide Passed (resolve_rows o id s)
+pub resolved-found : (o : ℕ) (id : List ℕ) (s : Scene) → is_operation o ≡ true → (resolved_of o id s).found ≡ decide (Ok tt) (resolve_rows o id s)
 unfolding resolved_of operation_rows decide ◌▷◌
 resolved-found o id s h = rw h
 
 module _ (s : Scene) where
-  pub late-found : {a b c : Check} → a ≡ decide Passed (resolve_rows (operation s) (account s) s) → b ≡ decide Passed (states_rows s)
-      → c ≡ decide Passed (other_rows s) → (a then b) then c ≡ decide Passed (late_rows s)
+  pub late-found : {a b c : Check} → a ≡ decide (Ok tt) (resolve_rows (operation s) (account s) s) → b ≡ decide (Ok tt) (states_rows s)
+      → c ≡ decide (Ok tt) (other_rows s) → (a then b) then c ≡ decide (Ok tt) (late_rows s)
   unfolding late_rows
   late-found p q r = rw (p, q, r) (simp (decide-both, then-assoc))
 
-  pub early-found : {a b c : Check} → a ≡ decide Passed (hash_rows s) → b ≡ decide Passed (script_rows s.script) → c ≡ decide Passed (group_rows s)
-      → decide Passed (early_rows s) ≡ ((a then b) then c) then decide Passed (late_rows s)
+  pub early-found : {a b c : Check} → a ≡ decide (Ok tt) (hash_rows s) → b ≡ decide (Ok tt) (script_rows s.script) → c ≡ decide (Ok tt) (group_rows s)
+      → decide (Ok tt) (early_rows s) ≡ ((a then b) then c) then decide (Ok tt) (late_rows s)
   unfolding early_rows
   early-found p q r = rw (p, q, r) (simp (decide-both, then-assoc))
 
-  pub late-refused : (room : ℕ) {c : Check} (e : ProtocolError) → c ≡ decide Passed (late_rows s) → c ≡ Failed e
-      → late_result s room ≡ refused (Failed e)
+  pub late-refused : (room : ℕ) {c : Check} (e : ProtocolError) → c ≡ decide (Ok tt) (late_rows s) → c ≡ Err e
+      → late_result s room ≡ refused (Err e)
   unfolding late_result or_walked
   late-refused room e p q = rw (sym p ∙ q)
 
-  pub late_walked : (room : ℕ) {c : Check} → c ≡ decide Passed (late_rows s) → c ≡ Passed → late_result s room ≡ walk_result s room
+  pub late_walked : (room : ℕ) {c : Check} → c ≡ decide (Ok tt) (late_rows s) → c ≡ Ok tt → late_result s room ≡ walk_result s room
   unfolding late_result or_walked
   late_walked room p q = rw (sym p ∙ q)
 
-  pub scene-refused : (room : ℕ) {a b c : Check} (e : ProtocolError) → a ≡ decide Passed (hash_rows s) → b ≡ decide Passed (script_rows s.script)
-      → c ≡ decide Passed (group_rows s) → (a then b) then c ≡ Failed e → lock_scene s room ≡ refused (Failed e)
+  pub scene-refused : (room : ℕ) {a b c : Check} (e : ProtocolError) → a ≡ decide (Ok tt) (hash_rows s) → b ≡ decide (Ok tt) (script_rows s.script)
+      → c ≡ decide (Ok tt) (group_rows s) → (a then b) then c ≡ Err e → lock_scene s room ≡ refused (Err e)
   unfolding lock_scene or_walked ◌then◌
   scene-refused room e p q r f = rw (early-found p q r, f)
 
-  pub scene-late : (room : ℕ) {a b c : Check} → a ≡ decide Passed (hash_rows s) → b ≡ decide Passed (script_rows s.script)
-      → c ≡ decide Passed (group_rows s) → (a then b) then c ≡ Passed → lock_scene s room ≡ late_result s room
+  pub scene-late : (room : ℕ) {a b c : Check} → a ≡ decide (Ok tt) (hash_rows s) → b ≡ decide (Ok tt) (script_rows s.script)
+      → c ≡ decide (Ok tt) (group_rows s) → (a then b) then c ≡ Ok tt → lock_scene s room ≡ late_result s room
   unfolding lock_scene late_result ◌then◌
   scene-late room p q r f = rw (early-found p q r, f)
 

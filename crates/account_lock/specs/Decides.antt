@@ -1,9 +1,8 @@
 -- Demand 3 for the lock: what an acceptance follows from.
 -- 02, change 9: "A set of slots is still needed for acceptance, and, every earlier check passing, suffices only where the tests below
 -- pass too, and then does."
-use Rattle.std.specs.Prelude.{ℕ, ◌≡◌, ◌↔◌, true, List, length}
+use Rattle.std.specs.Prelude.{ℕ, ◌≡◌, ◌↔◌, true, List, length, Ok}
 use Rattle.protocol.specs.Rows.{AllPass}
-use Rattle.protocol.specs.declared.check.Check.TheVariants.{Passed}
 use Rattle.scene_table.specs.Lent.{scene_in}
 use Rattle.scene_table.specs.Valid.{valid_table}
 use Rattle.capacity.specs.Capacity.{TotalsPass}
@@ -34,5 +33,5 @@ LockRequests table store before after = after ≡ answered before (lock_of table
 
 -- demand 3
 abbrev pub LockDecision : List ℕ → List ℕ → List ℕ → LockAnswer → Type 0
-LockDecision table store before r = (r.found ≡ Passed)
+LockDecision table store before r = (r.found ≡ Ok tt)
     ↔ (EarlierPass table store (length before) × LockQuorum table store (length before) × TotalsPass (scene_in table store))

@@ -1,10 +1,8 @@
 -- The lock, row by row: 01, "Where each refusal is raised".
-use Rattle.std.specs.Prelude.{ℕ, ◌-◌, Bool, true, false, cond, List, [], ◌∷◌, ◌++◌, length, replicate, leb}
+use Rattle.std.specs.Prelude.{ℕ, ◌-◌, Bool, true, false, cond, List, [], ◌∷◌, ◌++◌, length, replicate, leb, Err, Ok}
 use Rattle.protocol.specs.Args.{args_rows, account_of}
-use Rattle.protocol.specs.Rows.{Row, row, decide}
+use Rattle.protocol.specs.Rows.{Row, row, decide, Check}
 use Rattle.protocol.specs.declared.error.ProtocolError.TheVariants.{InvalidArgs, SlicesDisagree}
-use Rattle.protocol.specs.declared.check.Check.{Check}
-use Rattle.protocol.specs.declared.check.Check.TheVariants.{Passed, Failed}
 use Rattle.molecule.specs.Bytes as molecule
 use Rattle.authorization.specs.Digest.{digest_of}
 use Rattle.scene_table.specs.Scene.{Scene}
@@ -101,22 +99,22 @@ walked o s = record {
 
 -- a refusal by the early rows, or what the walk over the proofs gives
 unfoldable pub or_walked : Check → Result → Result
-or_walked Passed w = w
-or_walked (Failed e) w = refused (Failed e)
+or_walked (Ok _) w = w
+or_walked (Err e) w = refused (Err e)
 
 unfoldable pub walk_result : Scene → ℕ → Result
 walk_result s room = walked (walk_lock (context_of s room) (witness_lock s)) s
 
 unfoldable pub late_result : Scene → ℕ → Result
-late_result s room = or_walked (decide Passed (late_rows s)) (walk_result s room)
+late_result s room = or_walked (decide (Ok tt) (late_rows s)) (walk_result s room)
 
 unfoldable pub lock_scene : Scene → ℕ → Result
-lock_scene s room = or_walked (decide Passed (early_rows s)) (walk_result s room)
+lock_scene s room = or_walked (decide (Ok tt) (early_rows s)) (walk_result s room)
 
 -- "lock: a table that the reader, scene length aside, leaves for no accepted scene with a store this long", 7
 unfoldable pub lock_of : List ℕ → List ℕ → ℕ → Result
 lock_of table store room =
-    cond (valid_table table (length store)) (lock_scene (scene_in table store) room) (refused (Failed SlicesDisagree))
+    cond (valid_table table (length store)) (lock_scene (scene_in table store) room) (refused (Err SlicesDisagree))
 
 -- "The lock returns number (0 accepted), count and total length of the requests made, and the digest, none if unreached."; 02,
 -- change 9: and the fee

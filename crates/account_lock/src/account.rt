@@ -1,5 +1,5 @@
 // The account's states and its proofs, once the script and the group's first witness pass.
-ghost use Rattle.std.specs.Prelude.{◌≡◌};
+ghost use Rattle.std.specs.Prelude.{◌≡◌, Ok};
 ghost use Rattle.protocol.specs.Rows.{decide};
 ghost use Rattle.scene_table.specs.Lent.{scene_in};
 ghost use Rattle.account_lock.specs.Lock.{states_rows, late_result, walk_result, digest};
@@ -14,11 +14,8 @@ use group_sighash::{check_others, sighash_with};
 use molecule::lock_of;
 use octets::array_32;
 use proof_walk::{Authorization, walk_proofs};
-use protocol::Check;
-use state_transition::{
-    ResolvedState, check_data, current_state, resolve_state, state_since, successor_state,
-    validate_transition,
-};
+use protocol::ProtocolError;
+use state_transition::{ResolvedState, check_data, current_state, resolve_state, state_since, successor_state, validate_transition};
 
 // The digest that every request carries.
 fn lock_digest(
@@ -76,19 +73,20 @@ fn check_states(
     operation: u8,
     current: &[u8],
     state: ResolvedState,
-) -> Check
+) -> Result<(), ProtocolError>
     requires { StatesFound lock.now operation current.now state (scene_in table.now store.now) }
-    ensures { result ≡ decide Check.Passed (states_rows (scene_in table.now store.now)) }
+    ensures { result ≡ decide (Ok tt) (states_rows (scene_in table.now store.now)) }
 {
     let successor = successor_state(table, store, operation, state.successor);
     let since = state_since(table, store, state.current);
-    check_data(current, successor).and(validate_transition(
+    check_data(current, successor)?;
+    validate_transition(
         operation,
         witness_sequence_of(lock),
         since,
         current,
         successor,
-    ))
+    )
 }
 
 // The account's states, the other witnesses, and then the proofs.
@@ -112,8 +110,8 @@ pub(crate) fn lock_account(
         .and(check_states(table, store, lock, operation, current, state))
         .and(check_others(table, store))
     {
-        Check::Failed(error) => refused(error),
-        Check::Passed => {
+        Err(error) => refused(error),
+        Ok(()) => {
             let digest = lock_digest(table, store, account_id, witness, operation, current);
             let authorization = Authorization { operation, digest };
             walk_account(table, store, lock, current, authorization, answer)

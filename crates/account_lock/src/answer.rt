@@ -1,14 +1,14 @@
 // What the lock answers.
-ghost use Rattle.std.specs.Prelude.{◌≡◌};
+ghost use Rattle.std.specs.Prelude.{◌≡◌, Err};
 ghost use Rattle.account_lock.specs.Lock as lock;
 
-use protocol::{Check, ProtocolError};
+use protocol::ProtocolError;
 
 // What the checks found; how many requests were made, and how many bytes of the answer buffer they take; whether the digest
 // was reached, and the digest, zeros where it was not; and the fee, 0 where the checks refuse.
 #[derive(Drop)]
 pub struct LockAnswer {
-    pub found: Check,
+    pub found: Result<(), ProtocolError>,
     pub count: usize,
     pub length: usize,
     pub reached: bool,
@@ -18,11 +18,11 @@ pub struct LockAnswer {
 
 // A refusal before the digest is reached.
 pub fn refused(error: ProtocolError) -> LockAnswer
-    ensures { result ≡ lock.answer_of (lock.refused (Check.Failed error)) }
+    ensures { result ≡ lock.answer_of (lock.refused (Err error)) }
 {
     let none = [0u8; 32];
     LockAnswer {
-        found: Check::Failed(error),
+        found: Err(error),
         count: 0,
         length: 0,
         reached: false,

@@ -16,7 +16,7 @@ use cell_hashes::check_hashes;
 use group_sighash::{check_first_witness, first_witness};
 use molecule::args_of;
 use octets::part_at;
-use protocol::{Check, ProtocolError, account_of};
+use protocol::{ProtocolError, account_of};
 use scene_table::{script, table_valid};
 
 // The lock over a transaction whose table is one that a scene, its length aside, leaves.
@@ -30,8 +30,8 @@ fn lock_scene(table: &[u32], store: &[u8], answer: &mut [u8]) -> LockAnswer
         .and(check_script(script))
         .and(check_first_witness(witness))
     {
-        Check::Failed(error) => refused(error),
-        Check::Passed => lock_account(table, store, account_of(args_of(script)), witness, answer),
+        Err(error) => refused(error),
+        Ok(()) => lock_account(table, store, account_of(args_of(script)), witness, answer),
     }
 }
 

@@ -1,34 +1,35 @@
 -- 02, change 6: no entry that a step hands out, and none of an accepted state, has an aux above the limit; so the readers promise it.
 -- Assumes nothing.
+use Rattle.std.specs.Prelude.{Err, Ok, Result}
+use Rattle.account_state.specs.declared.walk.StateSummary.{StateSummary}
+use Rattle.account_state.specs.declared.header.StateHeader.{StateHeader}
+use Rattle.protocol.specs.declared.error.ProtocolError.{ProtocolError}
+use Rattle.account_state.specs.declared.entry.AuthenticatorEntry.{AuthenticatorEntry}
 use mathlib.Core.Path.{◌≡◌, refl, sym}
 use mathlib.Core.List.{List}
 use Prim.Native.Nat.{ℕ, zero, suc, ◌+◌, ◌≤◌}
 use native.Mathlib.Omega.{arith}
 use lib.ListN.{length, drop, length-take}
-use Rattle.protocol.specs.Rows.{decide, AllPass}
-use Rattle.protocol.specs.declared.check.Check.{Check}
-use Rattle.protocol.specs.declared.check.Check.TheVariants.{Passed, Failed}
+use Rattle.protocol.specs.Rows.{decide, AllPass, Check}
 use Rattle.protocol.proofs.AllPass.{passed-all-pass, all-pass-split}
 use Rattle.account_state.specs.Fields.{aux_length_of, aux_max_length, entry_count_of, entry_length_of, entry_slot_of, key_length_of, key_offset, entry_bytes_of}
 use Rattle.account_state.specs.Reading.{entry_of, entries_of, state_entries, state_reading, AuxWithin}
 use Rattle.account_state.specs.State.{state_rows, state_fault, state_header_of, summary_of, state_answer, read_state, StateWithin, CheckWithin, entry_rows, entries_rows, entry_at, entry_cursor_behind, entry_step_answer, entry_step, StepWithin}
 use Rattle.account_state.specs.declared.entry.EntryCursor.{EntryCursor}
-use Rattle.account_state.specs.declared.entry.EntryStep.{EntryStep}
-use Rattle.account_state.specs.declared.StateAnswer.{StateAnswer}
 use Rattle.account_state.proofs.Passed.{entry-passed, state-passed}
 
 -- a step
 pub step-within : (s : List ℕ) (c : EntryCursor) → StepWithin (entry_step s c)
 unfolding entry_step entry_step_answer entry_at
-step-within s c = go (decide Passed (entry_rows (drop c.offset s) c.least)) refl
+step-within s c = go (decide (Ok tt) (entry_rows (drop c.offset s) c.least)) refl
   where
-    go : (k : Check) → decide Passed (entry_rows (drop c.offset s) c.least) ≡ k
+    go : (k : Check) → decide (Ok tt) (entry_rows (drop c.offset s) c.least) ≡ k
         → StepWithin (entry_step_answer k (entry_at s c.offset) (entry_cursor_behind s c.offset))
-    go Passed h = (entry-passed (drop c.offset s) c.least (passed-all-pass _ h)).limit
-    go (Failed x) h = tt
+    go (Ok _) h = (entry-passed (drop c.offset s) c.least (passed-all-pass _ h)).limit
+    go (Err x) h = tt
 
 -- so an answer that is the step's keeps the limit
-pub step-promised : (s : List ℕ) (c : EntryCursor) {r : EntryStep} → r ≡ entry_step s c → (r ≡ entry_step s c) × StepWithin r
+pub step-promised : (s : List ℕ) (c : EntryCursor) {r : Result (AuthenticatorEntry × EntryCursor) ProtocolError} → r ≡ entry_step s c → (r ≡ entry_step s c) × StepWithin r
 step-promised s c e = (e, rw e (step-within s c))
 
 -- the entry at the front of the bytes
@@ -53,18 +54,18 @@ unfolding state_reading
 state-within s h = entries-within (entry_count_of s) (entry_bytes_of s) 0 (state-passed s h).entries
 
 -- so an answer that is the reader's keeps the limit
-pub state-promised : (s : List ℕ) {r : StateAnswer} → r ≡ read_state s → (r ≡ read_state s) × StateWithin s r
+pub state-promised : (s : List ℕ) {r : Result (StateHeader × StateSummary) ProtocolError} → r ≡ read_state s → (r ≡ read_state s) × StateWithin s r
 unfolding read_state state_answer state_fault
-state-promised s e = (e, rw e (go (decide Passed (state_rows s)) refl))
+state-promised s e = (e, rw e (go (decide (Ok tt) (state_rows s)) refl))
   where
-    go : (k : Check) → decide Passed (state_rows s) ≡ k → StateWithin s (state_answer k (state_header_of s) (summary_of (state_entries s)))
-    go Passed h = state-within s (passed-all-pass (state_rows s) h)
-    go (Failed x) h = tt
+    go : (k : Check) → decide (Ok tt) (state_rows s) ≡ k → StateWithin s (state_answer k (state_header_of s) (summary_of (state_entries s)))
+    go (Ok _) h = state-within s (passed-all-pass (state_rows s) h)
+    go (Err x) h = tt
 
 -- and so does what the checks find
-pub check-promised : (s : List ℕ) {k : Check} → k ≡ decide Passed (state_rows s) → (k ≡ decide Passed (state_rows s)) × CheckWithin s k
+pub check-promised : (s : List ℕ) {k : Check} → k ≡ decide (Ok tt) (state_rows s) → (k ≡ decide (Ok tt) (state_rows s)) × CheckWithin s k
 check-promised s {k} e = (e, go k e)
   where
-    go : (j : Check) → j ≡ decide Passed (state_rows s) → CheckWithin s j
-    go Passed h = state-within s (passed-all-pass (state_rows s) (sym h))
-    go (Failed x) h = tt
+    go : (j : Check) → j ≡ decide (Ok tt) (state_rows s) → CheckWithin s j
+    go (Ok _) h = state-within s (passed-all-pass (state_rows s) (sym h))
+    go (Err x) h = tt

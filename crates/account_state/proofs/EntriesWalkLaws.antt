@@ -1,5 +1,6 @@
 -- The walk over the entries: a step checks one entry, and what is left to walk gives the whole.
 -- Assumes nothing.
+use Rattle.std.specs.Prelude.{Err, Ok}
 use mathlib.Core.Path.{◌≡◌, refl, sym, ap, ◌∙◌}
 use mathlib.Core.Bool.{Bool, true, false, cond}
 use mathlib.Core.List.{List, ◌∷◌}
@@ -12,7 +13,6 @@ use Rattle.octets.proofs.LeLaws.{number_lt, bytes_drop}
 use Rattle.protocol.specs.Policy.{has_capability}
 use Rattle.protocol.specs.Rows.{decide}
 use Rattle.protocol.specs.declared.error.ProtocolError.{ProtocolError}
-use Rattle.protocol.specs.declared.check.Check.TheVariants.{Passed, Failed}
 use Rattle.protocol.proofs.AllPass.{passed-all-pass, decide-append, decide-failed}
 use Rattle.account_state.proofs.Passed.{entry-passed}
 use Rattle.account_state.specs.Fields.{entry_length_of, entry_slot_of, capabilities_of, weight_of, entry_bytes_of}
@@ -22,7 +22,7 @@ use Rattle.account_state.specs.EntriesWalk.{with_entry, Light}
 use Rattle.account_state.specs.declared.walk.StateSummary.{StateSummary}
 
 -- an entry that passes has its 48 bytes
-pub entry-room : (s : List ℕ) (at least : ℕ) → decide Passed (entry_rows (drop at s) least) ≡ Passed → at + 48 ≤ length s
+pub entry-room : (s : List ℕ) (at least : ℕ) → decide (Ok tt) (entry_rows (drop at s) least) ≡ Ok tt → at + 48 ≤ length s
 entry-room s at least h =
     let p = (entry-passed (drop at s) least (passed-all-pass _ h)).present in
     let l : length (drop at s) ≡ length s - at = length-drop at s in
@@ -34,19 +34,19 @@ unfolding entries_of
 entries-first e left h = let l : left ≡ suc (left - 1) = omega arith in ap (λ (n : ℕ). entries_of n e) l
 
 -- the rows of one entry, and of the rest of them
-pub rows-passed : (n : ℕ) (e : List ℕ) (least : ℕ) → decide Passed (entry_rows e least) ≡ Passed
-    → decide Passed (entries_rows (suc n) e least) ≡ decide Passed (entries_rows n (drop (entry_length_of e) e) (entry_slot_of e + 1))
+pub rows-passed : (n : ℕ) (e : List ℕ) (least : ℕ) → decide (Ok tt) (entry_rows e least) ≡ Ok tt
+    → decide (Ok tt) (entries_rows (suc n) e least) ≡ decide (Ok tt) (entries_rows n (drop (entry_length_of e) e) (entry_slot_of e + 1))
 unfolding entries_rows
-rows-passed n e least h = decide-append Passed (entry_rows e least) _ ∙ rw h
+rows-passed n e least h = decide-append (Ok tt) (entry_rows e least) _ ∙ rw h
 
-pub rows-failed : (n : ℕ) (e : List ℕ) (least : ℕ) (x : ProtocolError) → decide Passed (entry_rows e least) ≡ Failed x
-    → decide Passed (entries_rows (suc n) e least) ≡ Failed x
+pub rows-failed : (n : ℕ) (e : List ℕ) (least : ℕ) (x : ProtocolError) → decide (Ok tt) (entry_rows e least) ≡ Err x
+    → decide (Ok tt) (entries_rows (suc n) e least) ≡ Err x
 unfolding entries_rows
-rows-failed n e least x h = decide-append Passed (entry_rows e least) _ ∙ rw h (decide-failed _ x)
+rows-failed n e least x h = decide-append (Ok tt) (entry_rows e least) _ ∙ rw h (decide-failed _ x)
 
 -- what is left to walk, the entries from the bytes e on, gives the whole
 pub record Walking (s : List ℕ) (count left : ℕ) (e : List ℕ) (least : ℕ) (t : StateSummary) : Type 0 where
-  pub rows : decide Passed (entries_rows left e least) ≡ decide Passed (entries_rows count (entry_bytes_of s) 0)
+  pub rows : decide (Ok tt) (entries_rows left e least) ≡ decide (Ok tt) (entries_rows count (entry_bytes_of s) 0)
   pub tail : behind_entries left e ≡ behind_entries count (entry_bytes_of s)
   pub spend : t.spend_weight + capable_weight 1 (entries_of left e) ≡ capable_weight 1 (entries_of count (entry_bytes_of s))
   pub rotate : t.rotate_weight + capable_weight 2 (entries_of left e) ≡ capable_weight 2 (entries_of count (entry_bytes_of s))
@@ -69,10 +69,10 @@ walking-first s count b k =
 
 -- every entry is walked
 pub walking-done : (s : List ℕ) (count left : ℕ) (e : List ℕ) (least : ℕ) (t : StateSummary) → left ≡ 0 → Walking s count left e least t
-    → (Passed ≡ decide Passed (entries_rows count (entry_bytes_of s) 0)) × (length e ≡ length (behind_entries count (entry_bytes_of s))) × (t ≡ summary_of (entries_of count (entry_bytes_of s)))
+    → ((Ok tt) ≡ decide (Ok tt) (entries_rows count (entry_bytes_of s) 0)) × (length e ≡ length (behind_entries count (entry_bytes_of s))) × (t ≡ summary_of (entries_of count (entry_bytes_of s)))
 unfolding entries_rows behind_entries entries_of capable_weight summary_of decide
 walking-done s count left e least t z w =
-    let r : Passed ≡ decide Passed (entries_rows count (entry_bytes_of s) 0) = rw z at w.rows in
+    let r : (Ok tt) ≡ decide (Ok tt) (entries_rows count (entry_bytes_of s) 0) = rw z at w.rows in
     let b : e ≡ behind_entries count (entry_bytes_of s) = rw z at w.tail in
     let x : t.spend_weight ≡ capable_weight 1 (entries_of count (entry_bytes_of s)) = sym (add-zero _) ∙ (rw z at w.spend) in
     let y : t.rotate_weight ≡ capable_weight 2 (entries_of count (entry_bytes_of s)) = sym (add-zero _) ∙ (rw z at w.rotate) in
@@ -92,9 +92,9 @@ module _ (s : List ℕ) (count left : ℕ) (e : List ℕ) (least : ℕ) (t : Sta
   one = omega arith
 
   -- a refused entry refuses the whole
-  pub walking-failed : (x : ProtocolError) → decide Passed (entry_rows e least) ≡ Failed x → decide Passed (entries_rows count (entry_bytes_of s) 0) ≡ Failed x
+  pub walking-failed : (x : ProtocolError) → decide (Ok tt) (entry_rows e least) ≡ Err x → decide (Ok tt) (entries_rows count (entry_bytes_of s) 0) ≡ Err x
   walking-failed x h =
-      sym w.rows ∙ (ap (λ (n : ℕ). decide Passed (entries_rows n e least)) one ∙ rows-failed (left - 1) e least x h)
+      sym w.rows ∙ (ap (λ (n : ℕ). decide (Ok tt) (entries_rows n e least)) one ∙ rows-failed (left - 1) e least x h)
 
   -- the weights with an entry's added
   share-next : (bit sum : ℕ) → sum + capable_weight bit (entries_of left e) ≡ capable_weight bit (entries_of count (entry_bytes_of s))
@@ -114,12 +114,12 @@ module _ (s : List ℕ) (count left : ℕ) (e : List ℕ) (least : ℕ) (t : Sta
       record { spend = omega arith; rotate = omega arith; recovery = omega arith }
 
   -- an entry that passes leaves the rest to walk
-  pub walking-next : decide Passed (entry_rows e least) ≡ Passed
+  pub walking-next : decide (Ok tt) (entry_rows e least) ≡ Ok tt
       → Walking s count (left - 1) (drop (entry_length_of e) e) (entry_slot_of e + 1) (with_entry t (capabilities_of e) (weight_of e))
   unfolding with_entry behind_entries
   walking-next h =
       record {
-        rows = sym (ap (λ (n : ℕ). decide Passed (entries_rows n e least)) one ∙ rows-passed (left - 1) e least h) ∙ w.rows;
+        rows = sym (ap (λ (n : ℕ). decide (Ok tt) (entries_rows n e least)) one ∙ rows-passed (left - 1) e least h) ∙ w.rows;
         tail = sym (ap (λ (n : ℕ). behind_entries n e) one) ∙ w.tail;
         spend = share-next 1 t.spend_weight w.spend;
         rotate = share-next 2 t.rotate_weight w.rotate;

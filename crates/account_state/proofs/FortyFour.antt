@@ -1,5 +1,6 @@
 -- The reader of a state gives 44 exactly where it comes to an entry that passes document 01's checks and says an aux above the limit.
 -- Assumes nothing.
+use Rattle.std.specs.Prelude.{Err, Ok}
 use mathlib.Core.Path.{◌≡◌, refl}
 use mathlib.Core.Logic.{◌≢◌, ◌⊎◌, inl, inr, ⊎_elim, ◌↔◌}
 use mathlib.Core.Bool.{Bool, true, false, cond}
@@ -9,10 +10,8 @@ use native.Mathlib.Nat.{add-zero, zero-add}
 use native.Mathlib.Omega.{arith}
 use borrow.Author.Tests.{leb-true, leb-false}
 use lib.Dec.{leb}
-use Rattle.protocol.specs.Rows.{Row, AllPass, decide, ◌▷◌, check_number}
+use Rattle.protocol.specs.Rows.{Row, AllPass, decide, ◌▷◌, check_number, Check}
 use Rattle.protocol.specs.declared.error.ProtocolError.TheVariants.{AuxTooLong}
-use Rattle.protocol.specs.declared.check.Check.{Check}
-use Rattle.protocol.specs.declared.check.Check.TheVariants.{Passed, Failed}
 use Rattle.protocol.proofs.AllPass.{all-pass-append, all-pass-split}
 use Rattle.protocol.proofs.Each.{Each, each-cond}
 use Rattle.protocol.proofs.GivenNumber.{Other, others-not, given-either, given-between}
@@ -23,7 +22,7 @@ use Rattle.account_state.specs.AuxRefused.{AuxRefused}
 use Rattle.account_state.proofs.Steps.{from, rows-unrolled}
 
 -- rows with other numbers do not give it
-none : (rs : List Row) → Each (Other 44) rs → check_number (decide Passed rs) ≢ 44
+none : (rs : List Row) → Each (Other 44) rs → check_number (decide (Ok tt) rs) ≢ 44
 none = others-not 44 (omega arith)
 
 -- no row of the header gives it,
@@ -46,17 +45,17 @@ unfolding state_tail_rows state_end_rows threshold_rows
 tail-other s n e = search (arith, recovery-other) depth 12
 
 -- the row of the limit alone
-limit-44 : (aux : ℕ) → (check_number (decide Passed (aux_limit_row aux ∷ [])) ≡ 44) ↔ (aux_max_length < aux)
+limit-44 : (aux : ℕ) → (check_number (decide (Ok tt) (aux_limit_row aux ∷ [])) ≡ 44) ↔ (aux_max_length < aux)
 unfolding decide ◌▷◌
 limit-44 aux = go (leb aux aux_max_length) refl
   where
-    go : (b : Bool) → leb aux aux_max_length ≡ b → (check_number (cond b Passed (Failed AuxTooLong)) ≡ 44) ↔ (aux_max_length < aux)
+    go : (b : Bool) → leb aux aux_max_length ≡ b → (check_number (cond b (Ok tt) (Err AuxTooLong)) ≡ 44) ↔ (aux_max_length < aux)
     go true h = (λ q. absurd (omega arith), λ l. absurd (omega (arith, leb-true aux aux_max_length h)))
     go false h = (λ q. leb-false aux aux_max_length h, λ l. refl)
 
 -- an entry gives it exactly where its other rows pass and its aux is above the limit
 entry-44 : (e : List ℕ) (least : ℕ)
-    → (check_number (decide Passed (entry_rows e least)) ≡ 44) ↔ (AllPass (original_entry_rows e least) × (aux_max_length < aux_length_of e))
+    → (check_number (decide (Ok tt) (entry_rows e least)) ≡ 44) ↔ (AllPass (original_entry_rows e least) × (aux_max_length < aux_length_of e))
 unfolding entry_rows
 entry-44 e least =
     let b = given-between 44 (omega arith) (original_entry_rows e least) (aux_limit_row (aux_length_of e) ∷ []) []
@@ -105,7 +104,7 @@ module _ (s : List ℕ) where
       let p = all-pass-split (entry_rows (from s k) (least k)) _ (rw (rows-unrolled s i k) at e) in
       inr (p.0, record { index = i; counted = omega arith; earlier = p.1; own = rw q at o; above = rw q at a })
 
-  entries-44 : (n k : ℕ) → (check_number (decide Passed (entries_rows n (from s k) (least k))) ≡ 44) ↔ Long n k
+  entries-44 : (n k : ℕ) → (check_number (decide (Ok tt) (entries_rows n (from s k) (least k))) ≡ 44) ↔ Long n k
   unfolding entries_rows decide
   entries-44 zero k = (λ q. absurd (omega arith), λ l. absurd (omega (arith, l.counted)))
   entries-44 (suc n) k =
@@ -118,7 +117,7 @@ module _ (s : List ℕ) where
       )
 
   -- of the whole state
-  pub rows-forty-four : (check_number (decide Passed (state_rows s)) ≡ 44) ↔ AuxRefused s
+  pub rows-forty-four : (check_number (decide (Ok tt) (state_rows s)) ≡ 44) ↔ AuxRefused s
   unfolding state_rows entry_cursor_at
   rows-forty-four =
       let n = entry_count_of s in
@@ -142,8 +141,8 @@ module _ (s : List ℕ) where
   -- The theorem: the reader gives 44 exactly there.
   pub state-forty-four : (state_number (read_state s) ≡ 44) ↔ AuxRefused s
   unfolding read_state state_fault state_answer
-  state-forty-four = go (decide Passed (state_rows s)) rows-forty-four
+  state-forty-four = go (decide (Ok tt) (state_rows s)) rows-forty-four
     where
       go : (k : Check) → (check_number k ≡ 44) ↔ AuxRefused s → (state_number (state_answer k (state_header_of s) (summary_of (state_entries s))) ≡ 44) ↔ AuxRefused s
-      go Passed h = h
-      go (Failed e) h = h
+      go (Ok _) h = h
+      go (Err e) h = h

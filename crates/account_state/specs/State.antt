@@ -1,25 +1,17 @@
 -- The checks of an account state, in document 01's order, and what its readers give.
-use Rattle.std.specs.Prelude.{◌≡◌, ℕ, zero, suc, ◌+◌, ◌≤◌, ◌<◌, cond, List, [], ◌∷◌, ◌++◌, length, take, drop, get_or, leb, eqb}
+use Rattle.std.specs.Prelude.{◌≡◌, ℕ, zero, suc, ◌+◌, ◌≤◌, ◌<◌, cond, List, [], ◌∷◌, ◌++◌, length, take, drop, get_or, leb, eqb, Err, Ok, Result}
+use Rattle.protocol.specs.declared.error.ProtocolError.{ProtocolError}
 use Rattle.protocol.specs.Errors.{error_number}
 use Rattle.protocol.specs.Policy.{is_supported_algorithm}
-use Rattle.protocol.specs.Rows.{Row, row, decide}
+use Rattle.protocol.specs.Rows.{Row, row, decide, Check}
 use Rattle.protocol.specs.declared.error.ProtocolError.TheVariants.{InvalidState, InvalidVerifierRef, UnsupportedVersion, UnsupportedAlgorithm, UnsatisfiableThreshold, AuxTooLong}
-use Rattle.protocol.specs.declared.check.Check.{Check}
-use Rattle.protocol.specs.declared.check.Check.TheVariants.{Passed, Failed}
 use Rattle.account_state.specs.Fields.{state_magic_of, state_version_of, flags_of, state_flags_known_mask, recovery_enabled, state_header_length_of, sequence_of, spend_threshold_of, rotate_threshold_of, recovery_threshold_of, entry_count_of, state_reserved_of, recovery_since_of, entry_length_of, entry_slot_of, algorithm_of, capabilities_of, cap_known_mask, weight_of, hash_type_of, abi_of, code_hash_offset, key_offset, key_length_of, aux_length_of, aux_max_length, entry_bytes_of}
 use Rattle.account_state.specs.Reading.{EntryReading, state_magic, entries_of, state_entries, state_reading, capable_weight, AuxWithin}
 use Rattle.account_state.specs.declared.header.StateHeader.{StateHeader}
-use Rattle.account_state.specs.declared.header.StateHeaderAnswer.{StateHeaderAnswer}
-use Rattle.account_state.specs.declared.header.StateHeaderAnswer.TheVariants as header
 use Rattle.account_state.specs.declared.entry.AuthenticatorEntry.{AuthenticatorEntry}
 use Rattle.account_state.specs.declared.entry.EntryCursor.{EntryCursor}
 use Rattle.account_state.specs.declared.entry.EntryFields.{EntryFields}
-use Rattle.account_state.specs.declared.entry.EntryStep.{EntryStep}
-use Rattle.account_state.specs.declared.entry.EntryStep.TheVariants.{Entry}
-use Rattle.account_state.specs.declared.entry.EntryStep.TheVariants as step
 use Rattle.account_state.specs.declared.walk.StateSummary.{StateSummary}
-use Rattle.account_state.specs.declared.StateAnswer.{StateAnswer}
-use Rattle.account_state.specs.declared.StateAnswer.TheVariants as answer
 
 -- 01, State header: "Checks in order: length 32 to 16,384 (21), magic (21), version (32), flags above 3 (21), header length (21),
 -- byte 23 (21), count 1 to 16 (21)."
@@ -129,7 +121,7 @@ unfoldable pub state_rows : List ℕ → List Row
 state_rows s = state_header_rows s ++ (entries_rows (entry_count_of s) (entry_bytes_of s) 0 ++ state_tail_rows s (entry_count_of s) (entry_bytes_of s))
 
 unfoldable pub state_fault : List ℕ → Check
-state_fault s = decide Passed (state_rows s)
+state_fault s = decide (Ok tt) (state_rows s)
 
 -- what the header's reader gives
 unfoldable pub state_header_of : List ℕ → StateHeader
@@ -144,12 +136,12 @@ state_header_of s =
       recovery_since = recovery_since_of s;
     }
 
-unfoldable pub state_header_answer : Check → StateHeader → StateHeaderAnswer
-state_header_answer Passed h = header.Header h
-state_header_answer (Failed e) h = header.Refused e
+unfoldable pub state_header_answer : Check → StateHeader → Result StateHeader ProtocolError
+state_header_answer (Ok _) h = Ok h
+state_header_answer (Err e) h = Err e
 
-unfoldable pub read_state_header : List ℕ → StateHeaderAnswer
-read_state_header s = state_header_answer (decide Passed (state_header_rows s)) (state_header_of s)
+unfoldable pub read_state_header : List ℕ → Result StateHeader ProtocolError
+read_state_header s = state_header_answer (decide (Ok tt) (state_header_rows s)) (state_header_of s)
 
 -- the header that the reader gives has the reading's fields and the count of its entries
 pub record StateHeaderGives (s : List ℕ) (h : StateHeader) : Type 0 where
@@ -185,18 +177,18 @@ first_entry = record { offset = 32; least = 0 }
 unfoldable pub entry_cursor_behind : List ℕ → ℕ → EntryCursor
 entry_cursor_behind s at = record { offset = at + entry_length_of (drop at s); least = entry_slot_of (drop at s) + 1 }
 
-unfoldable pub entry_step_answer : Check → AuthenticatorEntry → EntryCursor → EntryStep
-entry_step_answer Passed e c = Entry e c
-entry_step_answer (Failed x) e c = step.Refused x
+unfoldable pub entry_step_answer : Check → AuthenticatorEntry → EntryCursor → Result (AuthenticatorEntry × EntryCursor) ProtocolError
+entry_step_answer (Ok _) e c = Ok (e, c)
+entry_step_answer (Err x) e c = Err x
 
-unfoldable pub entry_step : List ℕ → EntryCursor → EntryStep
+unfoldable pub entry_step : List ℕ → EntryCursor → Result (AuthenticatorEntry × EntryCursor) ProtocolError
 entry_step s c =
-    entry_step_answer (decide Passed (entry_rows (drop c.offset s) c.least)) (entry_at s c.offset) (entry_cursor_behind s c.offset)
+    entry_step_answer (decide (Ok tt) (entry_rows (drop c.offset s) c.least)) (entry_at s c.offset) (entry_cursor_behind s c.offset)
 
 -- 02, change 6: what a step hands out keeps the limit
-abbrev pub StepWithin : EntryStep → Type 0
-StepWithin (Entry e c) = e.aux_len ≤ aux_max_length
-StepWithin (step.Refused x) = Unit {0}
+abbrev pub StepWithin : Result (AuthenticatorEntry × EntryCursor) ProtocolError → Type 0
+StepWithin (Ok (e, c)) = e.aux_len ≤ aux_max_length
+StepWithin (Err x) = Unit {0}
 
 -- the reading of an entry that a step hands out: its numbers, and the bytes at its places; 01: "a place in the input counting as the
 -- bytes there"
@@ -222,26 +214,26 @@ entry_cursor_at s (suc i) = entry_cursor_behind s (entry_cursor_at s i).offset
 -- the i-th step of an accepted state hands out the i-th entry of the reading; 01: "Closures of `parse_authenticators` and
 -- `parse_proofs`: a step per entry."
 pub record EntryStepGives (s : List ℕ) (i : ℕ) : Type 0 where
-  pub step : entry_step s (entry_cursor_at s i) ≡ Entry (entry_at s (entry_cursor_at s i).offset) (entry_cursor_at s (suc i))
+  pub step : entry_step s (entry_cursor_at s i) ≡ Ok (entry_at s (entry_cursor_at s i).offset, entry_cursor_at s (suc i))
   pub reading : (d : EntryReading) → get_or (state_reading s).entries i d ≡ entry_reading s (entry_at s (entry_cursor_at s i).offset)
 
 -- what the state's reader gives
-unfoldable pub state_answer : Check → StateHeader → StateSummary → StateAnswer
-state_answer Passed h t = answer.Valid h t
-state_answer (Failed e) h t = answer.Refused e
+unfoldable pub state_answer : Check → StateHeader → StateSummary → Result (StateHeader × StateSummary) ProtocolError
+state_answer (Ok _) h t = Ok (h, t)
+state_answer (Err e) h t = Err e
 
-unfoldable pub read_state : List ℕ → StateAnswer
+unfoldable pub read_state : List ℕ → Result (StateHeader × StateSummary) ProtocolError
 read_state s = state_answer (state_fault s) (state_header_of s) (summary_of (state_entries s))
 
 -- 02, change 6: the reader takes its limit "and says so to all above it": the reading of an accepted state keeps it
-abbrev pub StateWithin : List ℕ → StateAnswer → Type 0
-StateWithin s (answer.Valid h t) = AuxWithin (state_reading s).entries
-StateWithin s (answer.Refused e) = Unit {0}
+abbrev pub StateWithin : List ℕ → Result (StateHeader × StateSummary) ProtocolError → Type 0
+StateWithin s (Ok (h, t)) = AuxWithin (state_reading s).entries
+StateWithin s (Err e) = Unit {0}
 
 -- likewise of what the checks of a state find
 abbrev pub CheckWithin : List ℕ → Check → Type 0
-CheckWithin s Passed = AuxWithin (state_reading s).entries
-CheckWithin s (Failed e) = Unit {0}
+CheckWithin s (Ok _) = AuxWithin (state_reading s).entries
+CheckWithin s (Err e) = Unit {0}
 
 -- what the readers hand out of a state, with the header h and the weights t of its answer, is its reading: the header's fields, the
 -- weights of the entries, and at each step the next entry; behind the last no byte follows
@@ -252,14 +244,14 @@ pub record StateGives (s : List ℕ) (h : StateHeader) (t : StateSummary) : Type
   pub ended : (entry_cursor_at s h.authenticator_count).offset ≡ length s
 
 -- document 01's number of each answer, 0 where it is accepted
-abbrev pub state_header_number : StateHeaderAnswer → ℕ
-state_header_number (header.Header h) = 0
-state_header_number (header.Refused e) = error_number e
+abbrev pub state_header_number : Result StateHeader ProtocolError → ℕ
+state_header_number (Ok h) = 0
+state_header_number (Err e) = error_number e
 
-abbrev pub entry_step_number : EntryStep → ℕ
-entry_step_number (Entry e c) = 0
-entry_step_number (step.Refused x) = error_number x
+abbrev pub entry_step_number : Result (AuthenticatorEntry × EntryCursor) ProtocolError → ℕ
+entry_step_number (Ok (e, c)) = 0
+entry_step_number (Err x) = error_number x
 
-abbrev pub state_number : StateAnswer → ℕ
-state_number (answer.Valid h t) = 0
-state_number (answer.Refused e) = error_number e
+abbrev pub state_number : Result (StateHeader × StateSummary) ProtocolError → ℕ
+state_number (Ok (h, t)) = 0
+state_number (Err e) = error_number e

@@ -1,18 +1,11 @@
 // The authenticator entries of an account state, one step for each.
-ghost use Rattle.std.specs.Prelude.{◌≡◌, ◌+◌, ◌≤◌, length};
+ghost use Rattle.std.specs.Prelude.{◌≡◌, ◌+◌, ◌≤◌, length, Ok};
 ghost use Rattle.protocol.specs.Rows.{decide};
-ghost use Rattle.protocol.specs.declared.check.Check.TheVariants.{Passed};
 ghost use Rattle.account_state.specs.State.{entry_layout_rows, entry_field_rows, entry_fields_of, entry_rows, entry_at, first_entry, entry_cursor_behind, entry_step, StepWithin};
 
-use crate::fields::{
-    CODE_HASH_OFFSET, KEY_OFFSET, abi_of, algorithm_of, aux_length_of, capabilities_of,
-    entry_length_of, entry_slot_of, hash_type_of, key_length_of, weight_of,
-};
+use crate::fields::{CODE_HASH_OFFSET, KEY_OFFSET, abi_of, algorithm_of, aux_length_of, capabilities_of, entry_length_of, entry_slot_of, hash_type_of, key_length_of, weight_of};
 use octets::rest;
-use protocol::{
-    ACCOUNT_STATE_HEADER_LEN, ACCOUNT_STATE_MAX_AUX_LEN, CAP_KNOWN_MASK, Check, ProtocolError,
-    VERIFIER_ABI_V1, is_supported_algorithm,
-};
+use protocol::{ACCOUNT_STATE_HEADER_LEN, ACCOUNT_STATE_MAX_AUX_LEN, CAP_KNOWN_MASK, ProtocolError, VERIFIER_ABI_V1, is_supported_algorithm, require};
 
 // Where the next entry begins, and the least slot that it may have: one above its predecessor's.
 #[derive(Drop)]
@@ -49,12 +42,6 @@ pub struct EntryFields {
     pub aux_len: u16,
 }
 
-#[derive(Drop)]
-pub enum EntryStep {
-    Entry(AuthenticatorEntry, EntryCursor),
-    Refused(ProtocolError),
-}
-
 impl EntryCursor {
     // The first entry follows the header.
     pub fn first() -> EntryCursor
@@ -68,22 +55,21 @@ impl EntryCursor {
 }
 
 // The lengths and the slot of the entry at the front of the bytes, which have its 48.
-fn check_layout(entry: &[u8], least: u32) -> Check
+fn check_layout(entry: &[u8], least: u32) -> Result<(), ProtocolError>
     requires { 48 ≤ length entry.now }
-    ensures { result ≡ decide Passed (entry_layout_rows entry.now least) }
+    ensures { result ≡ decide (Ok tt) (entry_layout_rows entry.now least) }
 {
     let invalid = ProtocolError::InvalidState;
     let len = entry_length_of(entry) as usize;
     let parts = 48 + key_length_of(entry) as usize + aux_length_of(entry) as usize;
-    Check::Passed
-        .require(len == parts, invalid)
-        .require(len <= entry.len(), invalid)
-        .require(least <= entry_slot_of(entry) as u32, invalid)
+    require(len == parts, invalid)?;
+    require(len <= entry.len(), invalid)?;
+    require(least <= entry_slot_of(entry) as u32, invalid)
 }
 
 // The checks of an entry's fields, where it is read or is to be written. The algorithm is looked up once the checks before it
 // passed, so that nothing has to be kept of it.
-pub fn check_entry_fields(check: Check, fields: EntryFields) -> Check
+pub fn check_entry_fields(check: Result<(), ProtocolError>, fields: EntryFields) -> Result<(), ProtocolError>
     ensures { result ≡ decide check (entry_field_rows fields) }
 {
     let invalid = ProtocolError::InvalidState;
@@ -93,16 +79,14 @@ pub fn check_entry_fields(check: Check, fields: EntryFields) -> Check
         .require(fields.capabilities <= CAP_KNOWN_MASK, invalid)
         .require(fields.verifier_hash_type <= 1, verifier)
         .require(fields.verifier_abi == VERIFIER_ABI_V1, verifier);
-    match first {
-        Check::Failed(error) => Check::Failed(error),
-        Check::Passed => Check::Passed
+    first?;
+    Ok(())
             .require(
                 is_supported_algorithm(fields.algorithm_id),
                 ProtocolError::UnsupportedAlgorithm,
             )
             .require(fields.key_len == 32, invalid)
-            .require(1 <= fields.aux_len, invalid),
-    }
+            .require(1 <= fields.aux_len, invalid)
 }
 
 fn entry_fields_of(entry: &[u8]) -> EntryFields
@@ -120,16 +104,15 @@ fn entry_fields_of(entry: &[u8]) -> EntryFields
 }
 
 // The first row stands alone, so that no read behind it looks for the end of the bytes.
-pub(crate) fn check_entry(entry: &[u8], least: u32) -> Check
-    ensures { result ≡ decide Passed (entry_rows entry.now least) }
+pub(crate) fn check_entry(entry: &[u8], least: u32) -> Result<(), ProtocolError>
+    ensures { result ≡ decide (Ok tt) (entry_rows entry.now least) }
 {
     if entry.len() < 48 {
-        return Check::Failed(ProtocolError::InvalidState);
+        return Err(ProtocolError::InvalidState);
     }
-    check_entry_fields(check_layout(entry, least), entry_fields_of(entry)).require(
-        aux_length_of(entry) as usize <= ACCOUNT_STATE_MAX_AUX_LEN,
-        ProtocolError::AuxTooLong,
-    )
+    check_entry_fields(check_layout(entry, least), entry_fields_of(entry))?;
+    require(aux_length_of(entry) as usize <= ACCOUNT_STATE_MAX_AUX_LEN,
+        ProtocolError::AuxTooLong)
 }
 
 // The fields of an entry at a place whose first 48 bytes the state has.
@@ -166,13 +149,11 @@ fn cursor_behind(state: &[u8], at: usize) -> EntryCursor
 }
 
 // The entry at the cursor, and the cursor behind it.
-pub fn next_entry(state: &[u8], cursor: EntryCursor) -> EntryStep
+pub fn next_entry(state: &[u8], cursor: EntryCursor) -> Result<(AuthenticatorEntry, EntryCursor), ProtocolError>
     ensures value { result ≡ entry_step state.now cursor }
     ensures step_within { StepWithin result }
 {
     let at = cursor.offset;
-    match check_entry(rest(state, at), cursor.least) {
-        Check::Failed(error) => EntryStep::Refused(error),
-        Check::Passed => EntryStep::Entry(entry_at(state, at), cursor_behind(state, at)),
-    }
+    check_entry(rest(state, at), cursor.least)?;
+    Ok((entry_at(state, at), cursor_behind(state, at)))
 }

@@ -1,18 +1,10 @@
 // The header of an account state.
-ghost use Rattle.std.specs.Prelude.{◌≡◌, ◌≤◌, length};
+ghost use Rattle.std.specs.Prelude.{◌≡◌, ◌≤◌, length, Ok};
 ghost use Rattle.protocol.specs.Rows.{decide};
-ghost use Rattle.protocol.specs.declared.check.Check.TheVariants.{Passed};
 ghost use Rattle.account_state.specs.State.{state_header_rows, state_header_of, read_state_header};
 
-use crate::fields::{
-    entry_count_of, flags_of, recovery_since_of, recovery_threshold_of, rotate_threshold_of,
-    sequence_of, spend_threshold_of, state_header_length_of, state_magic_of, state_reserved_of,
-    state_version_of,
-};
-use protocol::{
-    ACCOUNT_STATE_HEADER_LEN, ACCOUNT_STATE_MAGIC, ACCOUNT_STATE_MAX_LEN, ACCOUNT_STATE_VERSION,
-    AUTHENTICATOR_MAX_COUNT, Check, ProtocolError, STATE_FLAGS_KNOWN_MASK,
-};
+use crate::fields::{entry_count_of, flags_of, recovery_since_of, recovery_threshold_of, rotate_threshold_of, sequence_of, spend_threshold_of, state_header_length_of, state_magic_of, state_reserved_of, state_version_of};
+use protocol::{ACCOUNT_STATE_HEADER_LEN, ACCOUNT_STATE_MAGIC, ACCOUNT_STATE_MAX_LEN, ACCOUNT_STATE_VERSION, AUTHENTICATOR_MAX_COUNT, ProtocolError, STATE_FLAGS_KNOWN_MASK, require};
 
 #[derive(Drop)]
 pub struct StateHeader {
@@ -25,36 +17,25 @@ pub struct StateHeader {
     pub recovery_since: u64,
 }
 
-#[derive(Drop)]
-pub enum StateHeaderAnswer {
-    Header(StateHeader),
-    Refused(ProtocolError),
-}
-
 // The first row stands alone, so that no read behind it looks for the end of the bytes.
-pub(crate) fn check_head(state: &[u8]) -> Check
-    ensures { result ≡ decide Passed (state_header_rows state.now) }
+pub(crate) fn check_head(state: &[u8]) -> Result<(), ProtocolError>
+    ensures { result ≡ decide (Ok tt) (state_header_rows state.now) }
 {
     let invalid = ProtocolError::InvalidState;
     if state.len() < ACCOUNT_STATE_HEADER_LEN {
-        return Check::Failed(invalid);
+        return Err(invalid);
     }
     let count = entry_count_of(state);
-    Check::Passed
-        .require(state.len() <= ACCOUNT_STATE_MAX_LEN, invalid)
-        .require(state_magic_of(state) == ACCOUNT_STATE_MAGIC, invalid)
-        .require(
-            state_version_of(state) == ACCOUNT_STATE_VERSION,
-            ProtocolError::UnsupportedVersion,
-        )
-        .require(flags_of(state) <= STATE_FLAGS_KNOWN_MASK, invalid)
-        .require(
-            state_header_length_of(state) as usize == ACCOUNT_STATE_HEADER_LEN,
-            invalid,
-        )
-        .require(state_reserved_of(state) == 0, invalid)
-        .require(1 <= count, invalid)
-        .require(count as usize <= AUTHENTICATOR_MAX_COUNT, invalid)
+    require(state.len() <= ACCOUNT_STATE_MAX_LEN, invalid)?;
+    require(state_magic_of(state) == ACCOUNT_STATE_MAGIC, invalid)?;
+    require(state_version_of(state) == ACCOUNT_STATE_VERSION,
+            ProtocolError::UnsupportedVersion)?;
+    require(flags_of(state) <= STATE_FLAGS_KNOWN_MASK, invalid)?;
+    require(state_header_length_of(state) as usize == ACCOUNT_STATE_HEADER_LEN,
+            invalid)?;
+    require(state_reserved_of(state) == 0, invalid)?;
+    require(1 <= count, invalid)?;
+    require(count as usize <= AUTHENTICATOR_MAX_COUNT, invalid)
 }
 
 // The fields of a header that is present.
@@ -76,12 +57,10 @@ pub(crate) fn header_at(state: &[u8]) -> StateHeader
 
 impl StateHeader {
     // The header, or 21 or 32.
-    pub fn parse(state: &[u8]) -> StateHeaderAnswer
+    pub fn parse(state: &[u8]) -> Result<StateHeader, ProtocolError>
         ensures { result ≡ read_state_header state.now }
     {
-        match check_head(state) {
-            Check::Failed(error) => StateHeaderAnswer::Refused(error),
-            Check::Passed => StateHeaderAnswer::Header(header_at(state)),
-        }
+        check_head(state)?;
+        Ok(header_at(state))
     }
 }

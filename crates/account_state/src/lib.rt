@@ -7,84 +7,66 @@ mod entry; // entry.rt
 mod walk; // walk.rt
 mod thresholds; // thresholds.rt
 
-ghost use Rattle.std.specs.Prelude.{◌≡◌, ◌≤◌, length};
+ghost use Rattle.std.specs.Prelude.{◌≡◌, ◌≤◌, length, Ok};
 ghost use Rattle.protocol.specs.Rows.{decide};
 ghost use Rattle.account_state.specs.State.{state_rows, state_header_of, state_answer, read_state, StateWithin, CheckWithin};
 ghost use Rattle.account_state.specs.EntriesWalk.{end_fault};
 
-pub use self::entry::{
-    AuthenticatorEntry, EntryCursor, EntryFields, EntryStep, check_entry_fields, next_entry,
-};
-pub use self::fields::{
-    algorithm_of, aux_of, capabilities_of, code_hash_of, entry_count_of, entry_length_of,
-    entry_slot_of, flags_of, hash_type_of, key_of, recovery_enabled, recovery_since_of,
-    recovery_threshold_of, rotate_threshold_of, sequence_of, session_enabled, spend_threshold_of,
-    weight_of,
-};
+pub use self::entry::{AuthenticatorEntry, EntryCursor, EntryFields, check_entry_fields, next_entry};
+pub use self::fields::{algorithm_of, aux_of, capabilities_of, code_hash_of, entry_count_of, entry_length_of, entry_slot_of, flags_of, hash_type_of, key_of, recovery_enabled, recovery_since_of, recovery_threshold_of, rotate_threshold_of, sequence_of, session_enabled, spend_threshold_of, weight_of};
 use self::header::{check_head, header_at};
-pub use self::header::{StateHeader, StateHeaderAnswer};
+pub use self::header::StateHeader;
 pub use self::thresholds::check_thresholds;
-use self::walk::{EntriesWalk, EntriesWalkAnswer, walk_entries};
+use self::walk::{EntriesWalk, walk_entries};
 pub use self::walk::{StateSummary, capable_share};
-use protocol::{Check, ProtocolError};
-
-#[derive(Drop)]
-pub enum StateAnswer {
-    Valid(StateHeader, StateSummary),
-    Refused(ProtocolError),
-}
+use protocol::{ProtocolError, require};
 
 // The checks after the last entry.
-fn check_end(state: &[u8], walk: EntriesWalk) -> Check
+fn check_end(state: &[u8], walk: EntriesWalk) -> Result<(), ProtocolError>
     ensures { result ≡ end_fault state.now walk }
 {
     let summary = walk.summary;
-    let check = Check::Passed.require(walk.tail == 0, ProtocolError::InvalidState);
-    check.and(check_thresholds(
+    let check = Ok(()).require(walk.tail == 0, ProtocolError::InvalidState);
+    check?;
+    check_thresholds(
         flags_of(state),
         spend_threshold_of(state),
         rotate_threshold_of(state),
         recovery_threshold_of(state),
         recovery_since_of(state),
         summary,
-    ))
+    )
 }
 
 // The answer once every entry passed.
-fn state_end(state: &[u8], walk: EntriesWalk) -> StateAnswer
+fn state_end(state: &[u8], walk: EntriesWalk) -> Result<(StateHeader, StateSummary), ProtocolError>
     requires { 32 ≤ length state.now }
     ensures { result ≡ state_answer (end_fault state.now walk) (state_header_of state.now) walk.summary }
 {
-    match check_end(state, walk) {
-        Check::Failed(error) => StateAnswer::Refused(error),
-        Check::Passed => {
-            let summary = walk.summary;
-            StateAnswer::Valid(header_at(state), summary)
-        }
-    }
+    check_end(state, walk)?;
+    let summary = walk.summary;
+            Ok((header_at(state), summary))
 }
 
 // The whole state: its header, and the weights of the holders of each capability; or the number of the first check that fails.
-pub fn validate_state(state: &[u8]) -> StateAnswer
+pub fn validate_state(state: &[u8]) -> Result<(StateHeader, StateSummary), ProtocolError>
     ensures value { result ≡ read_state state.now }
     ensures state_within { StateWithin state.now result }
 {
-    match check_head(state) {
-        Check::Failed(error) => StateAnswer::Refused(error),
-        Check::Passed => match walk_entries(state, entry_count_of(state)) {
-            EntriesWalkAnswer::Refused(error) => StateAnswer::Refused(error),
-            EntriesWalkAnswer::Walked(walk) => state_end(state, walk),
-        },
-    }
+    check_head(state)?;
+    match walk_entries(state, entry_count_of(state)) {
+            Err(error) => Err(error),
+            Ok(walk) => state_end(state, walk),
+        }
 }
 
 // What the checks of the whole state find.
-pub fn check_state(state: &[u8]) -> Check
-    ensures value { result ≡ decide Check.Passed (state_rows state.now) }
+pub fn check_state(state: &[u8]) -> Result<(), ProtocolError>
+    ensures value { result ≡ decide (Ok tt) (state_rows state.now) }
     ensures check_within { CheckWithin state.now result }
 {
     match validate_state(state) {
-        StateAnswer::Valid(_, _) => Check::Passed,
-        StateAnswer::Refused(error) => Check::Failed(error),
+        Ok((_, _)) => Ok(()),
+        Err(error) => Err(error),
     }
 }

@@ -1,26 +1,25 @@
 // The thresholds of a state beside the weights of their holders.
-ghost use Rattle.std.specs.Prelude.{◌≡◌};
+ghost use Rattle.std.specs.Prelude.{◌≡◌, Ok};
 ghost use Rattle.protocol.specs.Rows.{decide};
-ghost use Rattle.protocol.specs.declared.check.Check.TheVariants.{Passed};
 ghost use Rattle.account_state.specs.State.{recovery_threshold_rows, threshold_rows};
 
 use crate::fields::recovery_enabled;
 use crate::walk::StateSummary;
-use protocol::{Check, ProtocolError};
+use protocol::{ProtocolError, require};
 
-fn check_recovery(check: Check, flags: u8, threshold: u16, since: u64, weight: u32) -> Check
+fn check_recovery(check: Result<(), ProtocolError>, flags: u8, threshold: u16, since: u64, weight: u32) -> Result<(), ProtocolError>
     ensures { result ≡ decide check (recovery_threshold_rows flags threshold since weight) }
 {
     let unmet = ProtocolError::UnsatisfiableThreshold;
     let invalid = ProtocolError::InvalidState;
     if recovery_enabled(flags) {
-        check
-            .require(1 <= threshold, unmet)
-            .require(threshold as u32 <= weight, unmet)
+        check?;
+        require(1 <= threshold, unmet)?;
+        require(threshold as u32 <= weight, unmet)
     } else {
-        check
-            .require(threshold == 0, invalid)
-            .require(since == 0, invalid)
+        check?;
+        require(threshold == 0, invalid)?;
+        require(since == 0, invalid)
     }
 }
 
@@ -32,11 +31,11 @@ pub fn check_thresholds(
     recovery: u16,
     since: u64,
     summary: StateSummary,
-) -> Check
-    ensures { result ≡ decide Passed (threshold_rows flags spend rotate recovery since summary) }
+) -> Result<(), ProtocolError>
+    ensures { result ≡ decide (Ok tt) (threshold_rows flags spend rotate recovery since summary) }
 {
     let unmet = ProtocolError::UnsatisfiableThreshold;
-    let check = Check::Passed
+    let check = Ok(())
         .require(1 <= spend, unmet)
         .require(1 <= rotate, unmet)
         .require(spend as u32 <= summary.spend_weight, unmet)

@@ -6,9 +6,7 @@ ghost use Rattle.account_state.specs.EntriesWalk.{Light, with_entry, walk_entrie
 
 use crate::entry::check_entry;
 use crate::fields::{capabilities_of, entry_length_of, entry_slot_of, weight_of};
-use protocol::{
-    ACCOUNT_STATE_HEADER_LEN, CAP_RECOVERY, CAP_ROTATE, CAP_SPEND, Check, ProtocolError,
-};
+use protocol::{ACCOUNT_STATE_HEADER_LEN, CAP_RECOVERY, CAP_ROTATE, CAP_SPEND, ProtocolError};
 
 #[derive(Clone, Copy)]
 pub struct StateSummary {
@@ -22,12 +20,6 @@ pub struct StateSummary {
 pub(crate) struct EntriesWalk {
     pub tail: usize,
     pub summary: StateSummary,
-}
-
-#[derive(Drop)]
-pub(crate) enum EntriesWalkAnswer {
-    Walked(EntriesWalk),
-    Refused(ProtocolError),
 }
 
 // The weight that an entry adds to the capability of a bit; 0 is no bit.
@@ -52,7 +44,7 @@ fn with_entry(summary: StateSummary, capabilities: u16, weight: u16) -> StateSum
     }
 }
 
-pub(crate) fn walk_entries(state: &[u8], count: u8) -> EntriesWalkAnswer
+pub(crate) fn walk_entries(state: &[u8], count: u8) -> Result<EntriesWalk, ProtocolError>
     requires { (32 ≤ length state.now) × (count ≤ 16) }
     ensures { result ≡ walk_entries count (entry_bytes_of state.now) }
 {
@@ -66,8 +58,8 @@ pub(crate) fn walk_entries(state: &[u8], count: u8) -> EntriesWalkAnswer
     let mut left = count;
     while 0 < left {
         match check_entry(entry, least) {
-            Check::Failed(error) => return EntriesWalkAnswer::Refused(error),
-            Check::Passed => {
+            Err(error) => return Err(error),
+            Ok(()) => {
                 summary = with_entry(summary, capabilities_of(entry), weight_of(entry));
                 least = entry_slot_of(entry) as u32 + 1;
                 let len = entry_length_of(entry) as usize;
@@ -76,7 +68,7 @@ pub(crate) fn walk_entries(state: &[u8], count: u8) -> EntriesWalkAnswer
         }
         left -= 1;
     }
-    EntriesWalkAnswer::Walked(EntriesWalk {
+    Ok(EntriesWalk {
         tail: entry.len(),
         summary,
     })

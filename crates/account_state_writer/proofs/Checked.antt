@@ -1,5 +1,6 @@
 -- A state that is laid out right fails the writer's rows exactly as what it says fails the writer's checks.
 -- Assumes nothing.
+use Rattle.std.specs.Prelude.{Err, Ok}
 use mathlib.Core.Path.{◌≡◌, refl, sym, ap, ◌∙◌}
 use mathlib.Core.Bool.{Bool, true, false, cond}
 use mathlib.Core.List.{List, [], ◌∷◌, ◌++◌}
@@ -11,11 +12,9 @@ use lib.ListN.{length, take, drop, length-append, length-drop}
 use Rattle.octets.specs.Layout.{layout_bytes, layout_at, field_value}
 use Rattle.octets.proofs.LayoutLaws.{length-numbers}
 use Rattle.octets.proofs.Parts.{part_length}
-use Rattle.protocol.specs.Rows.{row, ◌▷◌, ◌then◌, decide}
+use Rattle.protocol.specs.Rows.{row, ◌▷◌, ◌then◌, decide, Check}
 use Rattle.protocol.specs.declared.error.ProtocolError.{ProtocolError}
 use Rattle.protocol.specs.declared.error.ProtocolError.TheVariants.{InvalidState, AuxTooLong}
-use Rattle.protocol.specs.declared.check.Check.{Check}
-use Rattle.protocol.specs.declared.check.Check.TheVariants.{Passed, Failed}
 use Rattle.protocol.proofs.AllPass.{decide-append, decide-failed, decide-then, passed-all-pass}
 use Rattle.account_state.specs.Fields.{aux_length_of, aux_max_length, entry_length_of, key_length_of, abi_of, algorithm_of, capabilities_of, hash_type_of, state_header_length_of, state_magic_of, state_reserved_of, state_version_of, weight_of}
 use Rattle.account_state.specs.Reading.{EntryReading, StateReading, EntryTyped, EntriesTyped, StateTyped, state_magic, entry_length_fields, entry_bytes, entries_bytes, state_header_fields, state_head, state_bytes, entry_of}
@@ -30,8 +29,8 @@ use Rattle.account_state_writer.proofs.Lent.{length-entries-from, summary-lent}
 -- a row that passes finds nothing
 row-true : (c : Check) (e : ProtocolError) → c ▷ row true e ≡ c
 unfolding ◌▷◌
-row-true Passed e = refl
-row-true (Failed x) e = refl
+row-true (Ok _) e = refl
+row-true (Err x) e = refl
 
 -- an entry at the front of bytes
 module _ (e : EntryReading) (t : List ℕ) (y : EntryTyped e) (k : length e.key ≡ 32) where
@@ -88,7 +87,7 @@ module _ (r : StateReading) (y : StateTyped r) (k : Keys r.entries) (h : length 
       let l : length (layout_bytes (state_head r)) ≡ 32 = length-numbers (state_head r) in
       rw (length-append, l) (omega arith)
 
-  head-checked : decide Passed (state_header_rows b) ≡ decide Passed (head_checks r.flags n)
+  head-checked : decide (Ok tt) (state_header_rows b) ≡ decide (Ok tt) (head_checks r.flags n)
   unfolding state_header_rows head_checks decide
   head-checked =
       let e₁ : leb 32 (length b) ≡ true = le-leb 32 (length b) present in
@@ -106,28 +105,28 @@ module _ (r : StateReading) (y : StateTyped r) (k : Keys r.entries) (h : length 
       rw (entries-behind r.entries y.entries, entries-read r.entries y.entries, m.flags, m.spend, m.rotate, m.recovery, m.since)
       (ap (λ (x : Check). decide x (threshold_rows r.flags r.spend r.rotate r.recovery r.since (summary_of r.entries))) (row-true c InvalidState))
 
-  state-checked : decide Passed (original_state_rows b) ≡ decide Passed (state_checks r.flags r.spend r.rotate r.recovery r.since r.entries)
+  state-checked : decide (Ok tt) (original_state_rows b) ≡ decide (Ok tt) (state_checks r.flags r.spend r.rotate r.recovery r.since r.entries)
   unfolding original_state_rows state_checks
   state-checked =
-      decide-append Passed (state_header_rows b) _
+      decide-append (Ok tt) (state_header_rows b) _
       ∙ (rw (head-checked, m.count, behind-head r)
-      (decide-append (decide Passed (head_checks r.flags n)) (original_entries_rows n (entries_bytes r.entries) 0) _
-      ∙ (rw (entries-checked r.entries y.entries k (decide Passed (head_checks r.flags n)) 0) (end-checked _)
-      ∙ sym (decide-append (decide Passed (head_checks r.flags n)) (entries_checks r.entries 0) _)))
-      ∙ sym (decide-append Passed (head_checks r.flags n) _))
+      (decide-append (decide (Ok tt) (head_checks r.flags n)) (original_entries_rows n (entries_bytes r.entries) 0) _
+      ∙ (rw (entries-checked r.entries y.entries k (decide (Ok tt) (head_checks r.flags n)) 0) (end-checked _)
+      ∙ sym (decide-append (decide (Ok tt) (head_checks r.flags n)) (entries_checks r.entries 0) _)))
+      ∙ sym (decide-append (Ok tt) (head_checks r.flags n) _))
 
-  pub written-checked : decide Passed (written_rows r) ≡ decide Passed (written_checks r.flags r.spend r.rotate r.recovery r.since r.entries)
+  pub written-checked : decide (Ok tt) (written_rows r) ≡ decide (Ok tt) (written_checks r.flags r.spend r.rotate r.recovery r.since r.entries)
   unfolding written_rows written_checks
   written-checked =
-      decide-append Passed (original_state_rows b) _
-      ∙ (rw state-checked (sym (decide-append Passed (state_checks r.flags r.spend r.rotate r.recovery r.since r.entries) _)))
+      decide-append (Ok tt) (original_state_rows b) _
+      ∙ (rw state-checked (sym (decide-append (Ok tt) (state_checks r.flags r.spend r.rotate r.recovery r.since r.entries) _)))
 
 -- two rows with one refusal are one row
 one-row : (k : Check) (a b : Bool) (e : ProtocolError) → (k ▷ row a e) ▷ row b e ≡ k ▷ row (cond a b false) e
 unfolding ◌▷◌
-one-row Passed true b e = refl
-one-row Passed false b e = refl
-one-row (Failed x) a b e = refl
+one-row (Ok _) true b e = refl
+one-row (Ok _) false b e = refl
+one-row (Err x) a b e = refl
 
 -- the limit of the entries that the slices say
 limit-lent : (n : ℕ) (fields bytes : List ℕ) (k : Check) → needed_bytes n fields ≤ length bytes
@@ -143,7 +142,7 @@ limit-lent (suc n) fields bytes k h =
     ∙ limit-lent n (drop lent_width fields) (drop (lent_bytes fields) bytes) (k ▷ row (leb a aux_max_length) AuxTooLong) (omega arith))
 
 -- the checks, part by part
-pub head-limit : (flags count : ℕ) → decide Passed (head_checks flags count) ≡ Passed → count ≤ 16
+pub head-limit : (flags count : ℕ) → decide (Ok tt) (head_checks flags count) ≡ Ok tt → count ≤ 16
 unfolding head_checks
 head-limit flags count h = leb-true count 16 (passed-all-pass _ h).1.1.0
 
@@ -155,24 +154,24 @@ module _ (flags spend rotate recovery since count : ℕ) (fields bytes : List �
   abbrev limited : Check → Check
   limited k = decide k (aux_limit_rows es)
 
-  parted : decide Passed (written_checks flags spend rotate recovery since es) ≡ limited (decide Passed (state_checks flags spend rotate recovery since es))
+  parted : decide (Ok tt) (written_checks flags spend rotate recovery since es) ≡ limited (decide (Ok tt) (state_checks flags spend rotate recovery since es))
   unfolding written_checks
-  parted = decide-append Passed (state_checks flags spend rotate recovery since es) _
+  parted = decide-append (Ok tt) (state_checks flags spend rotate recovery since es) _
 
-  pub head-failed : (x : ProtocolError) → decide Passed (head_checks flags count) ≡ Failed x → decide Passed (written_checks flags spend rotate recovery since es) ≡ Failed x
+  pub head-failed : (x : ProtocolError) → decide (Ok tt) (head_checks flags count) ≡ Err x → decide (Ok tt) (written_checks flags spend rotate recovery since es) ≡ Err x
   unfolding state_checks
   head-failed x h =
       parted
-      ∙ (ap limited (decide-append Passed (head_checks flags (length es)) _ ∙ rw (length-entries-from count fields bytes, h) (decide-failed _ x))
+      ∙ (ap limited (decide-append (Ok tt) (head_checks flags (length es)) _ ∙ rw (length-entries-from count fields bytes, h) (decide-failed _ x))
       ∙ decide-failed (aux_limit_rows es) x)
 
-  pub head_passed : decide Passed (head_checks flags count) ≡ Passed → needed_bytes count fields ≤ length bytes
-      → ((decide Passed (entries_checks es 0) then decide Passed (threshold_rows flags spend rotate recovery since (lent_summary count fields))) ▷ row (lent_within count fields) AuxTooLong)
-      ≡ decide Passed (written_checks flags spend rotate recovery since es)
+  pub head_passed : decide (Ok tt) (head_checks flags count) ≡ Ok tt → needed_bytes count fields ≤ length bytes
+      → ((decide (Ok tt) (entries_checks es 0) then decide (Ok tt) (threshold_rows flags spend rotate recovery since (lent_summary count fields))) ▷ row (lent_within count fields) AuxTooLong)
+      ≡ decide (Ok tt) (written_checks flags spend rotate recovery since es)
   unfolding state_checks
   head_passed h l =
       limit-lent count fields bytes _ l
-      ∙ (ap limited (sym (decide-append Passed (head_checks flags (length es)) _
+      ∙ (ap limited (sym (decide-append (Ok tt) (head_checks flags (length es)) _
       ∙ rw (length-entries-from count fields bytes, h, summary-lent count fields bytes)
-      (decide-append Passed (entries_checks es 0) _ ∙ decide-then (decide Passed (entries_checks es 0)) _)))
+      (decide-append (Ok tt) (entries_checks es 0) _ ∙ decide-then (decide (Ok tt) (entries_checks es 0)) _)))
       ∙ sym parted)

@@ -1,5 +1,6 @@
 -- The lent slices, entry by entry: how many bytes they need, and what the bytes of an entry are.
 -- Assumes nothing.
+use Rattle.std.specs.Prelude.{Err, Ok}
 use mathlib.Core.Path.{◌≡◌, refl, sym, ap, ◌∙◌}
 use mathlib.Core.Bool.{Bool, true, false, cond}
 use mathlib.Core.List.{List, [], ◌∷◌, ◌++◌, append_assoc, append-nil}
@@ -23,10 +24,8 @@ use Rattle.account_state.proofs.Inverse.{Keys}
 use Rattle.account_state_writer.specs.Slices.{lent_width, lent_capabilities, lent_weight, lent_aux_length, lent_bytes}
 use Rattle.account_state_writer.specs.Writer.{entry_from, entry_field_numbers, length_numbers, entry_front, entries_from, needed_bytes}
 use Rattle.account_state_writer.specs.Checks.{entry_checks, entries_checks, lent_capable_weight, lent_summary, lent_within}
-use Rattle.protocol.specs.Rows.{decide}
+use Rattle.protocol.specs.Rows.{decide, Check}
 use Rattle.protocol.specs.declared.error.ProtocolError.{ProtocolError}
-use Rattle.protocol.specs.declared.check.Check.{Check}
-use Rattle.protocol.specs.declared.check.Check.TheVariants.{Passed, Failed}
 use Rattle.protocol.proofs.AllPass.{decide-append, decide-failed}
 
 -- a test of equality, by what decides it
@@ -265,7 +264,7 @@ unfolding state_header_fields
 length-head flags sequence spend rotate recovery count since = length-numbers (state_header_fields flags sequence spend rotate recovery count since)
 
 -- a turn of the loop that checks the entries
-module _ (fields bytes : List ℕ) (count i from least : ℕ) (h : i < count) (whole : Check) (left : decide Passed (entries_checks (entries_from (count - i) (drop (lent_width * i) fields) (drop from bytes)) least) ≡ whole) where
+module _ (fields bytes : List ℕ) (count i from least : ℕ) (h : i < count) (whole : Check) (left : decide (Ok tt) (entries_checks (entries_from (count - i) (drop (lent_width * i) fields) (drop from bytes)) least) ≡ whole) where
   abbrev first : EntryReading
   first = entry_from (drop (lent_width * i) fields) (drop from bytes)
 
@@ -276,19 +275,19 @@ module _ (fields bytes : List ℕ) (count i from least : ℕ) (h : i < count) (w
   unfolding entry_from
   slot_lent = get_or-drop (lent_width * i) fields 0 0
 
-  parted : decide (decide Passed (entry_checks first least)) (entries_checks others (lent_slot_at fields i + 1)) ≡ whole
+  parted : decide (decide (Ok tt) (entry_checks first least)) (entries_checks others (lent_slot_at fields i + 1)) ≡ whole
   unfolding entries_checks
   parted =
-      ap (λ (n : ℕ). decide (decide Passed (entry_checks first least)) (entries_checks others (n + 1))) (sym slot_lent)
-      ∙ (sym (decide-append Passed (entry_checks first least) (entries_checks others (first.slot + 1)))
-      ∙ (ap (λ (es : List EntryReading). decide Passed (entries_checks es least)) (sym (entries-turn fields count i h bytes from)) ∙ left))
+      ap (λ (n : ℕ). decide (decide (Ok tt) (entry_checks first least)) (entries_checks others (n + 1))) (sym slot_lent)
+      ∙ (sym (decide-append (Ok tt) (entry_checks first least) (entries_checks others (first.slot + 1)))
+      ∙ (ap (λ (es : List EntryReading). decide (Ok tt) (entries_checks es least)) (sym (entries-turn fields count i h bytes from)) ∙ left))
 
-  pub checks-failed : (x : ProtocolError) → decide Passed (entry_checks first least) ≡ Failed x → Failed x ≡ whole
+  pub checks-failed : (x : ProtocolError) → decide (Ok tt) (entry_checks first least) ≡ Err x → Err x ≡ whole
   checks-failed x k = sym (decide-failed (entries_checks others (lent_slot_at fields i + 1)) x) ∙ (rw k at parted)
 
-  pub checks-next : decide Passed (entry_checks first least) ≡ Passed → decide Passed (entries_checks others (lent_slot_at fields i + 1)) ≡ whole
+  pub checks-next : decide (Ok tt) (entry_checks first least) ≡ Ok tt → decide (Ok tt) (entries_checks others (lent_slot_at fields i + 1)) ≡ whole
   checks-next k = rw k at parted
 
-pub checks-none : (n : ℕ) (fields bytes : List ℕ) (least : ℕ) → n ≡ 0 → decide Passed (entries_checks (entries_from n fields bytes) least) ≡ Passed
+pub checks-none : (n : ℕ) (fields bytes : List ℕ) (least : ℕ) → n ≡ 0 → decide (Ok tt) (entries_checks (entries_from n fields bytes) least) ≡ Ok tt
 unfolding entries_from entries_checks decide
 checks-none n fields bytes least e = rw e

@@ -1,11 +1,11 @@
 -- The writer of account states: host/src/lib.rs, `encode_state`, over lent slices of numbers and bytes (Slices).
-use Rattle.std.specs.Prelude.{ℕ, zero, suc, ◌+◌, ◌*◌, ◌%◌, ◌^◌, ◌<◌, List, [], ◌∷◌, ◌++◌, leb, eqb, length, drop, get_or}
+use Rattle.std.specs.Prelude.{ℕ, zero, suc, ◌+◌, ◌*◌, ◌%◌, ◌^◌, ◌<◌, List, [], ◌∷◌, ◌++◌, leb, eqb, length, drop, get_or, Result}
+use Rattle.protocol.specs.declared.error.ProtocolError.{ProtocolError}
 use Rattle.octets.specs.Le.{Bytes}
 use Rattle.octets.specs.Layout.{Field, layout_bytes}
 use Rattle.protocol.specs.Rows.{Row, row}
 use Rattle.protocol.specs.Write.{write_fault, write_answer, after_write}
 use Rattle.protocol.specs.declared.error.ProtocolError.TheVariants.{InvalidState, SlicesDisagree}
-use Rattle.protocol.specs.declared.check.WriteAnswer.{WriteAnswer}
 use Rattle.account_state.specs.Fields.{entry_bytes_of, entry_count_of, entry_length_of, entry_slot_of}
 use Rattle.account_state.specs.Reading.{EntryReading, StateReading, StateNumbersTyped, state_bytes}
 use Rattle.account_state.specs.State.{state_header_rows, original_entry_rows, aux_limit_row, state_tail_rows}
@@ -102,14 +102,14 @@ state_from flags sequence spend rotate recovery since fields bytes =
     }
 
 -- a state that passes its checks is written as it is
-unfoldable pub valid_written : StateReading → List ℕ → WriteAnswer
+unfoldable pub valid_written : StateReading → List ℕ → Result ℕ ProtocolError
 valid_written r out = write_answer (write_fault (written_rows r) (length (state_bytes r)) (length out)) (length (state_bytes r))
 
 unfoldable pub valid_stored : StateReading → List ℕ → List ℕ
 valid_stored r out = after_write (write_fault (written_rows r) (length (state_bytes r)) (length out)) (state_bytes r) out
 
 -- what the writer answers and leaves
-unfoldable pub state_written : StateReading → List ℕ → List ℕ → List ℕ → WriteAnswer
+unfoldable pub state_written : StateReading → List ℕ → List ℕ → List ℕ → Result ℕ ProtocolError
 state_written r fields bytes out =
     write_answer (write_fault (state_writer_rows r fields bytes) (state_total fields bytes) (length out)) (state_total fields bytes)
 

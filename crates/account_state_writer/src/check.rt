@@ -1,40 +1,30 @@
 // The checks of the state that the slices say, before a byte of it is written.
-ghost use Rattle.std.specs.Prelude.{◌≡◌, ◌+◌, ◌*◌, ◌≤◌, length};
+ghost use Rattle.std.specs.Prelude.{◌≡◌, ◌+◌, ◌*◌, ◌≤◌, length, Ok};
 ghost use Rattle.protocol.specs.Rows.{decide};
-ghost use Rattle.protocol.specs.declared.check.Check.TheVariants.{Passed};
 ghost use Rattle.account_state.specs.State.{threshold_rows};
 ghost use Rattle.account_state_writer.specs.Slices.{lent_width, lent_bytes, lent_count};
 ghost use Rattle.account_state_writer.specs.Writer.{entry_from, entries_from, needed_bytes};
 ghost use Rattle.account_state_writer.specs.Checks.{head_checks, entry_checks, entries_checks, written_checks, lent_summary, lent_within};
 
-use crate::slices::{
-    LENT_ABI_OFFSET, LENT_ALGORITHM, LENT_AUX_LENGTH, LENT_AUX_OFFSET, LENT_CAPABILITIES,
-    LENT_HASH_TYPE_OFFSET, LENT_SLOT, LENT_WEIGHT, LENT_WIDTH,
-};
-use account_state::{
-    EntryFields, StateSummary, capable_share, check_entry_fields, check_thresholds,
-};
-use protocol::{
-    ACCOUNT_STATE_MAX_AUX_LEN, AUTHENTICATOR_MAX_COUNT, CAP_RECOVERY, CAP_ROTATE, CAP_SPEND, Check,
-    ProtocolError, STATE_FLAGS_KNOWN_MASK,
-};
+use crate::slices::{LENT_ABI_OFFSET, LENT_ALGORITHM, LENT_AUX_LENGTH, LENT_AUX_OFFSET, LENT_CAPABILITIES, LENT_HASH_TYPE_OFFSET, LENT_SLOT, LENT_WEIGHT, LENT_WIDTH};
+use account_state::{EntryFields, StateSummary, capable_share, check_entry_fields, check_thresholds};
+use protocol::{ACCOUNT_STATE_MAX_AUX_LEN, AUTHENTICATOR_MAX_COUNT, CAP_RECOVERY, CAP_ROTATE, CAP_SPEND, ProtocolError, STATE_FLAGS_KNOWN_MASK, require};
 
-fn check_head(flags: u8, count: usize) -> Check
-    ensures { result ≡ decide Passed (head_checks flags count) }
+fn check_head(flags: u8, count: usize) -> Result<(), ProtocolError>
+    ensures { result ≡ decide (Ok tt) (head_checks flags count) }
 {
     let invalid = ProtocolError::InvalidState;
-    Check::Passed
-        .require(flags <= STATE_FLAGS_KNOWN_MASK, invalid)
-        .require(1 <= count, invalid)
-        .require(count <= AUTHENTICATOR_MAX_COUNT, invalid)
+    require(flags <= STATE_FLAGS_KNOWN_MASK, invalid)?;
+    require(1 <= count, invalid)?;
+    require(count <= AUTHENTICATOR_MAX_COUNT, invalid)
 }
 
 // The entry at the front of the slices.
-fn check_entry(fields: &[u16], bytes: &[u8], least: u32) -> Check
+fn check_entry(fields: &[u16], bytes: &[u8], least: u32) -> Result<(), ProtocolError>
     requires { (lent_width ≤ length fields.now) × (lent_bytes fields.now ≤ length bytes.now) }
-    ensures { result ≡ decide Passed (entry_checks (entry_from fields.now bytes.now) least) }
+    ensures { result ≡ decide (Ok tt) (entry_checks (entry_from fields.now bytes.now) least) }
 {
-    let check = Check::Passed.require(
+    let check = Ok(()).require(
         least <= fields[LENT_SLOT] as u32,
         ProtocolError::InvalidState,
     );
@@ -52,9 +42,9 @@ fn check_entry(fields: &[u16], bytes: &[u8], least: u32) -> Check
     )
 }
 
-fn check_entries(fields: &[u16], bytes: &[u8], count: usize) -> Check
+fn check_entries(fields: &[u16], bytes: &[u8], count: usize) -> Result<(), ProtocolError>
     requires { (lent_width * count ≤ length fields.now) × (needed_bytes count fields.now ≡ length bytes.now) }
-    ensures { result ≡ decide Passed (entries_checks (entries_from count fields.now bytes.now) 0) }
+    ensures { result ≡ decide (Ok tt) (entries_checks (entries_from count fields.now bytes.now) 0) }
 {
     let mut i: usize = 0;
     let mut from: usize = 0;
@@ -62,15 +52,15 @@ fn check_entries(fields: &[u16], bytes: &[u8], count: usize) -> Check
     while i < count {
         let start = LENT_WIDTH * i;
         match check_entry(&fields[start..], &bytes[from..], least) {
-            Check::Failed(error) => return Check::Failed(error),
-            Check::Passed => {
+            Err(error) => return Err(error),
+            Ok(()) => {
                 least = fields[start + LENT_SLOT] as u32 + 1;
                 from += LENT_AUX_OFFSET + fields[start + LENT_AUX_LENGTH] as usize;
             }
         }
         i += 1;
     }
-    Check::Passed
+    Ok(())
 }
 
 // The weights of the holders of each capability.
@@ -107,9 +97,9 @@ fn check_end(
     since: u64,
     fields: &[u16],
     count: usize,
-) -> Check
+) -> Result<(), ProtocolError>
     requires { (lent_width * count ≤ length fields.now) × (count ≤ 16) }
-    ensures { result ≡ decide Passed (threshold_rows flags spend rotate recovery since (lent_summary count fields.now)) }
+    ensures { result ≡ decide (Ok tt) (threshold_rows flags spend rotate recovery since (lent_summary count fields.now)) }
 {
     let summary = lent_summary(fields, count);
     check_thresholds(flags, spend, rotate, recovery, since, summary)
@@ -140,16 +130,14 @@ pub(crate) fn check_state(
     since: u64,
     fields: &[u16],
     bytes: &[u8],
-) -> Check
+) -> Result<(), ProtocolError>
     requires { needed_bytes (lent_count fields.now) fields.now ≡ length bytes.now }
-    ensures { result ≡ decide Passed (written_checks flags spend rotate recovery since
+    ensures { result ≡ decide (Ok tt) (written_checks flags spend rotate recovery since
         (entries_from (lent_count fields.now) fields.now bytes.now)) }
 {
     let count = fields.len() / LENT_WIDTH;
-    match check_head(flags, count) {
-        Check::Failed(error) => Check::Failed(error),
-        Check::Passed => check_entries(fields, bytes, count)
+    check_head(flags, count)?;
+    check_entries(fields, bytes, count)
             .and(check_end(flags, spend, rotate, recovery, since, fields, count))
-            .require(lent_within(fields, count), ProtocolError::AuxTooLong),
-    }
+            .require(lent_within(fields, count), ProtocolError::AuxTooLong)
 }

@@ -6,10 +6,7 @@ ghost use Rattle.account_state.specs.Reading.{state_header_fields, state_bytes, 
 ghost use Rattle.account_state_writer.specs.Slices.{lent_width, lent_aux_length, lent_bytes, lent_count};
 ghost use Rattle.account_state_writer.specs.Writer.{entry_field_numbers, entry_front, entry_from, entries_from, needed_bytes, state_from};
 
-use crate::slices::{
-    LENT_ALGORITHM, LENT_AUX_LENGTH, LENT_AUX_OFFSET, LENT_CAPABILITIES, LENT_KEY_OFFSET,
-    LENT_SLOT, LENT_WEIGHT, LENT_WIDTH,
-};
+use crate::slices::{LENT_ALGORITHM, LENT_AUX_LENGTH, LENT_AUX_OFFSET, LENT_CAPABILITIES, LENT_KEY_OFFSET, LENT_SLOT, LENT_WEIGHT, LENT_WIDTH};
 use octets::{rest, store_bytes, store_number, u16_at, u64_at};
 use protocol::ACCOUNT_STATE_MAGIC;
 

@@ -12,7 +12,7 @@ ghost use Rattle.account_state_writer.specs.Writer.{state_from, slice_rows, vali
 use self::check::check_state;
 use self::layout::store_state;
 use self::slices::{LENT_WIDTH, check_slices};
-use protocol::{ACCOUNT_STATE_HEADER_LEN, Check, ProtocolError, WriteAnswer};
+use protocol::{ACCOUNT_STATE_HEADER_LEN, ProtocolError, require};
 
 // The state that the slices say, where they agree and it is not too long.
 fn encode_agreed(
@@ -25,7 +25,7 @@ fn encode_agreed(
     fields: &[u16],
     bytes: &[u8],
     out: &mut [u8],
-) -> WriteAnswer
+) -> Result<usize, ProtocolError>
     requires { AllPass (slice_rows fields.now bytes.now) }
     ensures value { result ≡ valid_written
         (state_from flags sequence spend rotate recovery since fields.now bytes.now)
@@ -39,15 +39,11 @@ fn encode_agreed(
         total <= out.len(),
         ProtocolError::BufferTooShort,
     );
-    match check {
-        Check::Failed(error) => WriteAnswer::Refused(error),
-        Check::Passed => {
-            store_state(
+    check?;
+    store_state(
                 flags, sequence, spend, rotate, recovery, since, fields, bytes, out,
             );
-            WriteAnswer::Written(total)
-        }
-    }
+            Ok(total)
 }
 
 // Writes the state to the front of `out` and answers its length. A refused writer writes nothing.
@@ -61,7 +57,7 @@ pub fn encode_state(
     fields: &[u16],
     bytes: &[u8],
     out: &mut [u8],
-) -> WriteAnswer
+) -> Result<usize, ProtocolError>
     ensures value { result ≡ state_written
         (state_from flags sequence spend rotate recovery since fields.now bytes.now)
         fields.now bytes.now out.old }
@@ -69,10 +65,8 @@ pub fn encode_state(
         (state_from flags sequence spend rotate recovery since fields.now bytes.now)
         fields.now bytes.now out.old }
 {
-    match check_slices(fields, bytes) {
-        Check::Failed(error) => WriteAnswer::Refused(error),
-        Check::Passed => encode_agreed(
+    check_slices(fields, bytes)?;
+    encode_agreed(
             flags, sequence, spend, rotate, recovery, since, fields, bytes, out,
-        ),
-    }
+        )
 }

@@ -1,12 +1,11 @@
 // The checks of the lent slices: that they agree with each other, and that their state is not too long.
-ghost use Rattle.std.specs.Prelude.{◌≡◌, eqb};
+ghost use Rattle.std.specs.Prelude.{◌≡◌, eqb, Ok};
 ghost use Rattle.protocol.specs.Rows.{decide};
-ghost use Rattle.protocol.specs.declared.check.Check.TheVariants.{Passed};
 ghost use Rattle.account_state_writer.specs.Slices.{lent_count};
 ghost use Rattle.account_state_writer.specs.Writer.{needed_bytes, slice_rows};
 
 use octets::fits;
-use protocol::{ACCOUNT_STATE_HEADER_LEN, ACCOUNT_STATE_MAX_LEN, Check, ProtocolError};
+use protocol::{ACCOUNT_STATE_HEADER_LEN, ACCOUNT_STATE_MAX_LEN, ProtocolError, require};
 
 // How many numbers an entry has in `fields`, and which each of them is.
 pub(crate) const LENT_WIDTH: usize = 5;
@@ -48,26 +47,19 @@ fn bytes_agree(fields: &[u16], len: usize) -> bool
     left == 0
 }
 
-pub(crate) fn check_slices(fields: &[u16], bytes: &[u8]) -> Check
-    ensures { result ≡ decide Passed (slice_rows fields.now bytes.now) }
+pub(crate) fn check_slices(fields: &[u16], bytes: &[u8]) -> Result<(), ProtocolError>
+    ensures { result ≡ decide (Ok tt) (slice_rows fields.now bytes.now) }
 {
     let count = fields.len() / LENT_WIDTH;
-    Check::Passed
-        .require(
-            fields.len() % LENT_WIDTH == 0,
-            ProtocolError::SlicesDisagree,
-        )
-        .require(
-            bytes_agree(fields, bytes.len()),
-            ProtocolError::SlicesDisagree,
-        )
-        .require(count <= 255, ProtocolError::InvalidState)
-        .require(
-            fits(
+    require(fields.len() % LENT_WIDTH == 0,
+            ProtocolError::SlicesDisagree)?;
+    require(bytes_agree(fields, bytes.len()),
+            ProtocolError::SlicesDisagree)?;
+    require(count <= 255, ProtocolError::InvalidState)?;
+    require(fits(
                 ACCOUNT_STATE_MAX_LEN,
                 ACCOUNT_STATE_HEADER_LEN + 14 * count,
                 bytes.len(),
             ),
-            ProtocolError::InvalidState,
-        )
+            ProtocolError::InvalidState)
 }

@@ -1,6 +1,7 @@
 -- Witness locks of at most 16 proofs: each that is accepted has exactly one reading, and the readers give that one. Where one is
 -- accepted, and that a refusal is 22, is in Accepted; that the steps hand out the reading's proofs in order, in Steps.
 -- Assumes nothing.
+use Rattle.std.specs.Prelude.{Ok}
 use mathlib.Core.Path.{◌≡◌, refl, sym, ap, ◌∙◌}
 use mathlib.Core.List.{List}
 use Prim.Native.Nat.{ℕ}
@@ -8,8 +9,6 @@ use Rattle.octets.specs.Le.{Bytes}
 use Rattle.protocol.specs.Rows.{AllPass}
 use Rattle.protocol.specs.Reading.{OneReading}
 use Rattle.account_witness.specs.declared.header.AccountWitnessHeader.{AccountWitnessHeader}
-use Rattle.account_witness.specs.declared.header.WitnessHeaderAnswer.TheVariants.{Header}
-use Rattle.account_witness.specs.declared.witness.WitnessAnswer.TheVariants.{Witness}
 use Rattle.account_witness.specs.Header.{witness_header_of, read_witness_header}
 use Rattle.account_witness.specs.Witness.{witness_rows, read_witness}
 use Rattle.account_witness.specs.Reading.{witness_bytes, witness_reading, WitnessTyped, WitnessHeaderGives, WitnessGives}
@@ -33,11 +32,11 @@ unfolding witness_header_of witness_reading
 header_of s = record { operation = refl; sequence = refl; count = sym (length-proofs s _ 16) }
 
 -- the header that the header's reader hands out has the reading's fields
-pub witness-header-gives : (s : List ℕ) (h : AccountWitnessHeader) → read_witness_header s ≡ Header h → WitnessHeaderGives s h
+pub witness-header-gives : (s : List ℕ) (h : AccountWitnessHeader) → read_witness_header s ≡ Ok h → WitnessHeaderGives s h
 witness-header-gives s h e = rw (sym (witness-header-answered s h e).1) (header_of s)
 
 -- a witness lock that the reader accepts passes every check, and what the readers hand out is its one reading
-pub witness-given : (s : List ℕ) (h : AccountWitnessHeader) → read_witness s ≡ Witness h → AllPass (witness_rows s) × WitnessGives s h
+pub witness-given : (s : List ℕ) (h : AccountWitnessHeader) → read_witness s ≡ Ok h → AllPass (witness_rows s) × WitnessGives s h
 unfolding witness_header_of
 witness-given s h e =
     let z = witness-answered s h e in

@@ -1,5 +1,6 @@
 -- The walk unrolled: the i-th step hands out the i-th proof of the reading, and the last cursor is at the end.
 -- Assumes nothing.
+use Rattle.std.specs.Prelude.{Ok}
 use mathlib.Core.Path.{◌≡◌, refl, ap, ◌∙◌}
 use mathlib.Core.List.{List, ◌∷◌, ◌++◌}
 use Prim.Native.Nat.{ℕ, zero, suc, ◌+◌, ◌<◌}
@@ -11,7 +12,6 @@ use Rattle.protocol.proofs.AllPass.{all-pass-split}
 use Rattle.account_witness.specs.Fields.{proof_count_of}
 use Rattle.account_witness.specs.declared.walk.Proof.{Proof}
 use Rattle.account_witness.specs.declared.walk.ProofCursor.{ProofCursor}
-use Rattle.account_witness.specs.declared.walk.ProofStep.TheVariants.{Next}
 use Rattle.account_witness.specs.Walk.{proof_layout_rows, proof_at, proof_cursor_behind, proof_step, proof_cursor_at, proofs_layout_rows}
 use Rattle.account_witness.specs.Witness.{witness_rows}
 use Rattle.account_witness.specs.Reading.{ProofReading, proof_given, proofs_of, witness_reading, ProofStepGives}
@@ -66,13 +66,13 @@ end-from s (suc n) k h =
     rw e (end-from s n (suc k) (all-pass-split (proof_layout_rows s (proof_cursor_at s k).offset (proof_cursor_at s k).least) _ (rw (rows-unrolled s n k) at h)).1)
 
 -- a step that goes on from the cursor after i proofs hands out the proof there, and comes to the cursor after the next
-pub proof-step-on : (s : List ℕ) (i : ℕ) (p : Proof) (d : ProofCursor) → proof_step s (proof_cursor_at s i) ≡ Next p d
+pub proof-step-on : (s : List ℕ) (i : ℕ) (p : Proof) (d : ProofCursor) → proof_step s (proof_cursor_at s i) ≡ Ok (p, d)
     → (proof_at s (proof_cursor_at s i).offset ≡ p) × (proof_cursor_at s (suc i) ≡ d)
 unfolding proof_cursor_at
 proof-step-on s i p d h = let z = proof-step-next s (proof_cursor_at s i) p d h in (z.1, z.2)
 
 -- so that what it hands out reads as the i-th proof, whatever follows
-pub proof-step-given : (s : List ℕ) (i : ℕ) (p : Proof) (d : ProofCursor) → i < proof_count_of s → proof_step s (proof_cursor_at s i) ≡ Next p d
+pub proof-step-given : (s : List ℕ) (i : ℕ) (p : Proof) (d : ProofCursor) → i < proof_count_of s → proof_step s (proof_cursor_at s i) ≡ Ok (p, d)
     → (q : ProofReading) → get_or (witness_reading s).proofs i q ≡ proof_given s p
 proof-step-given s i p d l h q = proof-reading-at s q i l ∙ ap (proof_given s) (proof-step-on s i p d h).0
 

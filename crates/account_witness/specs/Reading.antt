@@ -1,12 +1,11 @@
 -- The reading of a witness lock, every field but fixed bytes, lengths and counts, its written form, and what the readers hand out
 -- of it.
-use Rattle.std.specs.Prelude.{◌≡◌, ℕ, zero, suc, ◌^◌, ◌<◌, List, [], ◌∷◌, ◌++◌, map, length, take, drop, get_or}
+use Rattle.std.specs.Prelude.{◌≡◌, ℕ, zero, suc, ◌^◌, ◌<◌, List, [], ◌∷◌, ◌++◌, map, length, take, drop, get_or, Ok}
 use Rattle.octets.specs.Lists.{joined}
 use Rattle.octets.specs.Layout.{Field, layout_bytes}
 use Rattle.account_witness.specs.Fields.{operation_of, proof_count_of, witness_sequence_of, witness_header_length, proof_end_at}
 use Rattle.account_witness.specs.declared.header.AccountWitnessHeader.{AccountWitnessHeader}
 use Rattle.account_witness.specs.declared.walk.Proof.{Proof}
-use Rattle.account_witness.specs.declared.walk.ProofStep.TheVariants.{Next}
 use Rattle.account_witness.specs.Header.{witness_header_fields}
 use Rattle.account_witness.specs.Walk.{proof_at, proof_step, proof_cursor_at}
 
@@ -86,7 +85,7 @@ pub record WitnessHeaderGives (s : List ℕ) (h : AccountWitnessHeader) : Type 0
 -- the i-th step of an accepted witness lock goes on, with the i-th proof of the reading; 01: "Closures of `parse_authenticators` and
 -- `parse_proofs`: a step per entry."
 pub record ProofStepGives (s : List ℕ) (i : ℕ) : Type 0 where
-  pub step : proof_step s (proof_cursor_at s i) ≡ Next (proof_at s (proof_cursor_at s i).offset) (proof_cursor_at s (suc i))
+  pub step : proof_step s (proof_cursor_at s i) ≡ Ok (proof_at s (proof_cursor_at s i).offset, proof_cursor_at s (suc i))
   pub reading : (d : ProofReading) → get_or (witness_reading s).proofs i d ≡ proof_given s (proof_at s (proof_cursor_at s i).offset)
 
 -- what the readers hand out of a witness lock, with the header h of its answer, is its reading: the header's fields, and at each step

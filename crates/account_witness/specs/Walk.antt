@@ -1,15 +1,12 @@
 -- 01, Proof: "slot (u16), two zero bytes, length (u32, not 0), bytes; slots rise strictly; no byte follows the last; faults are 22."
-use Rattle.std.specs.Prelude.{ℕ, zero, suc, ◌+◌, List, [], ◌∷◌, ◌++◌, leb, eqb, length}
+use Rattle.std.specs.Prelude.{ℕ, zero, suc, ◌+◌, List, [], ◌∷◌, ◌++◌, leb, eqb, length, Err, Ok, Result}
+use Rattle.protocol.specs.declared.error.ProtocolError.{ProtocolError}
 use Rattle.protocol.specs.Errors.{error_number}
-use Rattle.protocol.specs.Rows.{Row, row, decide}
+use Rattle.protocol.specs.Rows.{Row, row, decide, Check}
 use Rattle.protocol.specs.declared.error.ProtocolError.TheVariants.{InvalidWitness}
-use Rattle.protocol.specs.declared.check.Check.{Check}
-use Rattle.protocol.specs.declared.check.Check.TheVariants.{Passed, Failed}
 use Rattle.account_witness.specs.Fields.{proof_count_of, witness_header_length, proof_slot_at, proof_reserved_at, proof_length_at, proof_header_length, proof_end_at}
 use Rattle.account_witness.specs.declared.walk.Proof.{Proof}
 use Rattle.account_witness.specs.declared.walk.ProofCursor.{ProofCursor}
-use Rattle.account_witness.specs.declared.walk.ProofStep.{ProofStep}
-use Rattle.account_witness.specs.declared.walk.ProofStep.TheVariants.{Next, Refused}
 
 -- the proof at `off`, whose slot is at least `least`: 8 bytes present, two zeros, its bytes present, not empty, its slot
 unfoldable pub proof_layout_rows : List ℕ → ℕ → ℕ → List Row
@@ -28,14 +25,14 @@ proof_at s off = record { slot = proof_slot_at s off; start = off + proof_header
 unfoldable pub proof_cursor_behind : List ℕ → ℕ → ProofCursor
 proof_cursor_behind s off = record { offset = proof_end_at s off; least = proof_slot_at s off + 1 }
 
-unfoldable pub proof_step_answer : Check → Proof → ProofCursor → ProofStep
-proof_step_answer Passed p c = Next p c
-proof_step_answer (Failed e) p c = Refused e
+unfoldable pub proof_step_answer : Check → Proof → ProofCursor → Result (Proof × ProofCursor) ProtocolError
+proof_step_answer (Ok _) p c = Ok (p, c)
+proof_step_answer (Err e) p c = Err e
 
 -- one step of the walk
-unfoldable pub proof_step : List ℕ → ProofCursor → ProofStep
+unfoldable pub proof_step : List ℕ → ProofCursor → Result (Proof × ProofCursor) ProtocolError
 proof_step s c =
-    proof_step_answer (decide Passed (proof_layout_rows s c.offset c.least)) (proof_at s c.offset) (proof_cursor_behind s c.offset)
+    proof_step_answer (decide (Ok tt) (proof_layout_rows s c.offset c.least)) (proof_at s c.offset) (proof_cursor_behind s c.offset)
 
 -- the walk begins behind the header, where any slot may come
 abbrev pub first_proof : ProofCursor
@@ -57,6 +54,6 @@ abbrev pub witness_proof_rows : List ℕ → List Row
 witness_proof_rows s = proofs_layout_rows s (proof_count_of s) witness_header_length 0
 
 -- document 01's number of a step
-abbrev pub proof_step_number : ProofStep → ℕ
-proof_step_number (Next p c) = 0
-proof_step_number (Refused e) = error_number e
+abbrev pub proof_step_number : Result (Proof × ProofCursor) ProtocolError → ℕ
+proof_step_number (Ok (p, c)) = 0
+proof_step_number (Err e) = error_number e

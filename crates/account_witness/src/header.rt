@@ -1,16 +1,10 @@
 // The header of a witness lock.
-ghost use Rattle.std.specs.Prelude.{◌≡◌};
+ghost use Rattle.std.specs.Prelude.{◌≡◌, Ok};
 ghost use Rattle.protocol.specs.Rows.{decide};
 ghost use Rattle.account_witness.specs.Header.{witness_header_rows, witness_header_of, read_witness_header};
 
-use crate::fields::{
-    operation_of, proof_count_of, witness_magic_of, witness_reserved_of, witness_sequence_of,
-    witness_version_of,
-};
-use protocol::{
-    ACCOUNT_WITNESS_HEADER_LEN, ACCOUNT_WITNESS_MAGIC, ACCOUNT_WITNESS_MAX_LOCK_LEN,
-    ACCOUNT_WITNESS_VERSION, Check, ProtocolError, is_operation,
-};
+use crate::fields::{operation_of, proof_count_of, witness_magic_of, witness_reserved_of, witness_sequence_of, witness_version_of};
+use protocol::{ACCOUNT_WITNESS_HEADER_LEN, ACCOUNT_WITNESS_MAGIC, ACCOUNT_WITNESS_MAX_LOCK_LEN, ACCOUNT_WITNESS_VERSION, ProtocolError, is_operation, require};
 
 #[derive(Drop)]
 pub struct AccountWitnessHeader {
@@ -19,26 +13,17 @@ pub struct AccountWitnessHeader {
     pub state_sequence: u64,
 }
 
-#[derive(Drop)]
-pub enum WitnessHeaderAnswer {
-    Header(AccountWitnessHeader),
-    Refused(ProtocolError),
-}
-
-pub fn check_witness_header(witness: &[u8]) -> Check
-    ensures { result ≡ decide Check.Passed (witness_header_rows witness.now) }
+pub fn check_witness_header(witness: &[u8]) -> Result<(), ProtocolError>
+    ensures { result ≡ decide (Ok tt) (witness_header_rows witness.now) }
 {
     let invalid = ProtocolError::InvalidWitness;
-    Check::Passed
-        .require(ACCOUNT_WITNESS_HEADER_LEN <= witness.len(), invalid)
-        .require(witness.len() <= ACCOUNT_WITNESS_MAX_LOCK_LEN, invalid)
-        .require(witness_magic_of(witness) == ACCOUNT_WITNESS_MAGIC, invalid)
-        .require(
-            witness_version_of(witness) == ACCOUNT_WITNESS_VERSION,
-            invalid,
-        )
-        .require(is_operation(operation_of(witness)), invalid)
-        .require(witness_reserved_of(witness) == 0, invalid)
+    require(ACCOUNT_WITNESS_HEADER_LEN <= witness.len(), invalid)?;
+    require(witness.len() <= ACCOUNT_WITNESS_MAX_LOCK_LEN, invalid)?;
+    require(witness_magic_of(witness) == ACCOUNT_WITNESS_MAGIC, invalid)?;
+    require(witness_version_of(witness) == ACCOUNT_WITNESS_VERSION,
+            invalid)?;
+    require(is_operation(operation_of(witness)), invalid)?;
+    require(witness_reserved_of(witness) == 0, invalid)
 }
 
 // The fields of a header.
@@ -53,11 +38,9 @@ pub(crate) fn header_at(witness: &[u8]) -> AccountWitnessHeader
 }
 
 // The header of a witness lock, or 22.
-pub fn parse_witness_header(witness: &[u8]) -> WitnessHeaderAnswer
+pub fn parse_witness_header(witness: &[u8]) -> Result<AccountWitnessHeader, ProtocolError>
     ensures { result ≡ read_witness_header witness.now }
 {
-    match check_witness_header(witness) {
-        Check::Failed(error) => WitnessHeaderAnswer::Refused(error),
-        Check::Passed => WitnessHeaderAnswer::Header(header_at(witness)),
-    }
+    check_witness_header(witness)?;
+    Ok(header_at(witness))
 }

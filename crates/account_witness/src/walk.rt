@@ -1,5 +1,5 @@
 // The walk over the proofs of a witness lock, a step for each.
-ghost use Rattle.std.specs.Prelude.{◌≡◌, ◌+◌, ◌≤◌, length};
+ghost use Rattle.std.specs.Prelude.{◌≡◌, ◌+◌, ◌≤◌, length, Ok};
 ghost use Rattle.protocol.specs.Rows.{decide};
 ghost use Rattle.account_witness.specs.Fields.{witness_header_length, proof_header_length};
 ghost use Rattle.account_witness.specs.Walk.{proof_layout_rows, proof_step, first_proof, proofs_layout_rows};
@@ -7,7 +7,7 @@ ghost use Rattle.account_witness.specs.Walk.{proof_layout_rows, proof_step, firs
 use crate::fields::{proof_length_at, proof_reserved_at, proof_slot_at};
 use crate::offsets::PROOF_HEADER_LEN;
 use octets::fits;
-use protocol::{ACCOUNT_WITNESS_HEADER_LEN, Check, ProtocolError};
+use protocol::{ACCOUNT_WITNESS_HEADER_LEN, ProtocolError, require};
 
 // Where the next proof begins, and the least slot that it may have.
 #[derive(Drop)]
@@ -24,13 +24,6 @@ pub struct Proof {
     pub len: usize,
 }
 
-// A proof with the cursor behind it, or the refusal.
-#[derive(Drop)]
-pub enum ProofStep {
-    Next(Proof, ProofCursor),
-    Refused(ProtocolError),
-}
-
 // The cursor behind the header.
 pub fn first_proof() -> ProofCursor
     ensures { result ≡ first_proof }
@@ -42,29 +35,26 @@ pub fn first_proof() -> ProofCursor
 }
 
 // The checks of a proof whose first 8 bytes are present.
-fn check_proof(witness: &[u8], offset: usize, least: u32) -> Check
+fn check_proof(witness: &[u8], offset: usize, least: u32) -> Result<(), ProtocolError>
     requires { offset + proof_header_length ≤ length witness.now }
-    ensures { result ≡ decide Check.Passed (proof_layout_rows witness.now offset least) }
+    ensures { result ≡ decide (Ok tt) (proof_layout_rows witness.now offset least) }
 {
     let invalid = ProtocolError::InvalidWitness;
     let slot = proof_slot_at(witness, offset) as u32;
     let len = proof_length_at(witness, offset) as usize;
-    Check::Passed
-        .require(proof_reserved_at(witness, offset) == 0, invalid)
-        .require(fits(witness.len(), offset + PROOF_HEADER_LEN, len), invalid)
-        .require(1 <= len, invalid)
-        .require(least <= slot, invalid)
+    require(proof_reserved_at(witness, offset) == 0, invalid)?;
+    require(fits(witness.len(), offset + PROOF_HEADER_LEN, len), invalid)?;
+    require(1 <= len, invalid)?;
+    require(least <= slot, invalid)
 }
 
 // The step at an offset where 8 bytes are present.
-fn step_at(witness: &[u8], offset: usize, least: u32) -> ProofStep
+fn step_at(witness: &[u8], offset: usize, least: u32) -> Result<(Proof, ProofCursor), ProtocolError>
     requires { offset + proof_header_length ≤ length witness.now }
     ensures { result ≡ proof_step witness.now (record { offset = offset; least = least }) }
 {
-    match check_proof(witness, offset, least) {
-        Check::Failed(error) => ProofStep::Refused(error),
-        Check::Passed => {
-            let slot = proof_slot_at(witness, offset);
+    check_proof(witness, offset, least)?;
+    let slot = proof_slot_at(witness, offset);
             let start = offset + PROOF_HEADER_LEN;
             let len = proof_length_at(witness, offset) as usize;
             let proof = Proof { slot, start, len };
@@ -72,39 +62,35 @@ fn step_at(witness: &[u8], offset: usize, least: u32) -> ProofStep
                 offset: start + len,
                 least: slot as u32 + 1,
             };
-            ProofStep::Next(proof, next)
-        }
-    }
+            Ok((proof, next))
 }
 
 // The proof at the cursor.
-pub fn next_proof(witness: &[u8], cursor: ProofCursor) -> ProofStep
+pub fn next_proof(witness: &[u8], cursor: ProofCursor) -> Result<(Proof, ProofCursor), ProtocolError>
     ensures { result ≡ proof_step witness.now cursor }
 {
     if fits(witness.len(), cursor.offset, PROOF_HEADER_LEN) {
         step_at(witness, cursor.offset, cursor.least)
     } else {
-        ProofStep::Refused(ProtocolError::InvalidWitness)
+        Err(ProtocolError::InvalidWitness)
     }
 }
 
 // The checks of `count` proofs behind the header, and that no byte follows the last.
-pub(crate) fn check_proofs(witness: &[u8], count: u8) -> Check
-    ensures { result ≡ decide Check.Passed (proofs_layout_rows witness.now count witness_header_length 0) }
+pub(crate) fn check_proofs(witness: &[u8], count: u8) -> Result<(), ProtocolError>
+    ensures { result ≡ decide (Ok tt) (proofs_layout_rows witness.now count witness_header_length 0) }
 {
     let mut cursor = first_proof();
     let mut left = count;
     while 0 < left {
         match next_proof(witness, cursor) {
-            ProofStep::Refused(error) => return Check::Failed(error),
-            ProofStep::Next(_, next) => {
+            Err(error) => return Err(error),
+            Ok((_, next)) => {
                 cursor = next;
             }
         }
         left -= 1;
     }
-    Check::Passed.require(
-        cursor.offset == witness.len(),
-        ProtocolError::InvalidWitness,
-    )
+    require(cursor.offset == witness.len(),
+        ProtocolError::InvalidWitness)
 }

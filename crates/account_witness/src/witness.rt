@@ -5,32 +5,22 @@ ghost use Rattle.account_witness.specs.Witness.{witness_fault, read_witness};
 use crate::fields::proof_count_of;
 use crate::header::{AccountWitnessHeader, check_witness_header, header_at};
 use crate::walk::check_proofs;
-use protocol::{AUTHENTICATOR_MAX_COUNT, Check, ProtocolError};
+use protocol::{AUTHENTICATOR_MAX_COUNT, ProtocolError, require};
 
-#[derive(Drop)]
-pub enum WitnessAnswer {
-    Witness(AccountWitnessHeader),
-    Refused(ProtocolError),
-}
-
-fn check_witness(witness: &[u8]) -> Check
+fn check_witness(witness: &[u8]) -> Result<(), ProtocolError>
     ensures { result ≡ witness_fault witness.now }
 {
     let count = proof_count_of(witness);
-    check_witness_header(witness)
-        .require(
-            count as usize <= AUTHENTICATOR_MAX_COUNT,
-            ProtocolError::InvalidWitness,
-        )
-        .and(check_proofs(witness, count))
+    check_witness_header(witness)?;
+    require(count as usize <= AUTHENTICATOR_MAX_COUNT,
+            ProtocolError::InvalidWitness)?;
+    check_proofs(witness, count)
 }
 
 // The header of a witness lock whose every part passes.
-pub fn validate_witness(witness: &[u8]) -> WitnessAnswer
+pub fn validate_witness(witness: &[u8]) -> Result<AccountWitnessHeader, ProtocolError>
     ensures { result ≡ read_witness witness.now }
 {
-    match check_witness(witness) {
-        Check::Failed(error) => WitnessAnswer::Refused(error),
-        Check::Passed => WitnessAnswer::Witness(header_at(witness)),
-    }
+    check_witness(witness)?;
+    Ok(header_at(witness))
 }

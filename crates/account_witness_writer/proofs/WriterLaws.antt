@@ -1,5 +1,6 @@
 -- The writer's laws: a turn of each of its loops, the lengths of what the slices lend, and the parts stored one behind another.
 -- Assumes nothing.
+use Rattle.std.specs.Prelude.{Ok}
 use mathlib.Core.Path.{◌≡◌, refl, sym, ap, ◌∙◌}
 use mathlib.Core.Bool.{Bool, true, false, ◌&&◌}
 use mathlib.Core.List.{List, [], ◌∷◌, ◌++◌}
@@ -18,7 +19,6 @@ use Rattle.octets.proofs.Parts.{part_length}
 use Rattle.octets.proofs.Stores.{sets-append, sets-front}
 use Rattle.octets.proofs.LayoutLaws.{store_numbers, numbers-stored, length-numbers}
 use Rattle.protocol.specs.Write.{after_write}
-use Rattle.protocol.specs.declared.check.Check.TheVariants.{Passed}
 use Rattle.protocol.proofs.Back.{write-passed}
 use Rattle.account_witness.specs.Header.{witness_header_fields}
 use Rattle.account_witness.proofs.Unique.{length-proof}
@@ -109,7 +109,7 @@ pub record WitnessWriterHolds (slots lengths bytes : List ℕ) (room : ℕ) : Ty
   pub most : witness_total slots bytes ≤ 131072
   pub fits : witness_total slots bytes ≤ room
 
-pub witness-writer-holds : (operation : ℕ) (slots lengths bytes : List ℕ) (room : ℕ) → witness_writer_fault operation slots lengths bytes room ≡ Passed → WitnessWriterHolds slots lengths bytes room
+pub witness-writer-holds : (operation : ℕ) (slots lengths bytes : List ℕ) (room : ℕ) → witness_writer_fault operation slots lengths bytes room ≡ Ok tt → WitnessWriterHolds slots lengths bytes room
 unfolding witness_writer_fault witness_writer_rows lent_proof_rows
 witness-writer-holds operation slots lengths bytes room h =
     let z = write-passed (witness_writer_rows operation slots lengths bytes) (witness_total slots bytes) room h in
@@ -123,7 +123,7 @@ witness-writer-holds operation slots lengths bytes room h =
 -- the header and the proofs, stored one behind another
 pub witness-stored : (operation sequence : ℕ) (slots lengths bytes out : List ℕ) → WitnessWriterHolds slots lengths bytes (length out)
     → sets (sets out 0 (layout_bytes (witness_header_fields operation (length slots) sequence))) 16 (proofs_bytes (lent_proofs slots lengths bytes))
-    ≡ after_write Passed (witness_bytes (witness_from operation sequence slots lengths bytes)) out
+    ≡ after_write (Ok tt) (witness_bytes (witness_from operation sequence slots lengths bytes)) out
 unfolding after_write witness_bytes witness_from witness_header_fields
 witness-stored operation sequence slots lengths bytes out z =
     let h = layout_bytes (witness_header_fields operation (length slots) sequence) in

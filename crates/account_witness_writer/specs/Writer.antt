@@ -1,13 +1,12 @@
 -- The writer of witness locks. Proofs are lent as slices: a slot and a length for each, and the bytes of all proofs end to end.
-use Rattle.std.specs.Prelude.{ℕ, ◌+◌, ◌*◌, ◌^◌, ◌<◌, List, [], ◌∷◌, map, leb, eqb, length, take, drop}
+use Rattle.std.specs.Prelude.{ℕ, ◌+◌, ◌*◌, ◌^◌, ◌<◌, List, [], ◌∷◌, map, leb, eqb, length, take, drop, Result}
+use Rattle.protocol.specs.declared.error.ProtocolError.{ProtocolError}
 use Rattle.octets.specs.Le.{Bytes}
 use Rattle.octets.specs.Lists.{every, is_rising, sum, joined}
 use Rattle.protocol.specs.Policy.{is_operation}
-use Rattle.protocol.specs.Rows.{Row, row}
+use Rattle.protocol.specs.Rows.{Row, row, Check}
 use Rattle.protocol.specs.Write.{write_fault, write_answer, after_write}
 use Rattle.protocol.specs.declared.error.ProtocolError.TheVariants.{SlicesDisagree, InvalidOperation, InvalidWitness}
-use Rattle.protocol.specs.declared.check.Check.{Check}
-use Rattle.protocol.specs.declared.check.WriteAnswer.{WriteAnswer}
 use Rattle.account_witness.specs.Fields.{witness_header_length, proof_header_length}
 use Rattle.account_witness.specs.Reading.{ProofReading, WitnessReading, WitnessTyped, witness_bytes}
 
@@ -50,7 +49,7 @@ witness_writer_fault operation slots lengths bytes room =
     write_fault (witness_writer_rows operation slots lengths bytes) (witness_total slots bytes) room
 
 -- what the writer answers, and the buffer afterwards
-unfoldable pub witness_written : ℕ → List ℕ → List ℕ → List ℕ → List ℕ → WriteAnswer
+unfoldable pub witness_written : ℕ → List ℕ → List ℕ → List ℕ → List ℕ → Result ℕ ProtocolError
 witness_written operation slots lengths bytes out =
     write_answer (witness_writer_fault operation slots lengths bytes (length out)) (witness_total slots bytes)
 

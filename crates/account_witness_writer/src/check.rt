@@ -7,10 +7,7 @@ ghost use Rattle.account_witness_writer.specs.Writer.{lent_proof_rows, witness_w
 
 use account_witness::PROOF_HEADER_LEN;
 use octets::{fits, is_rising};
-use protocol::{
-    ACCOUNT_WITNESS_HEADER_LEN, ACCOUNT_WITNESS_MAX_LOCK_LEN, AUTHENTICATOR_MAX_COUNT, Check,
-    ProtocolError, is_operation,
-};
+use protocol::{ACCOUNT_WITNESS_HEADER_LEN, ACCOUNT_WITNESS_MAX_LOCK_LEN, AUTHENTICATOR_MAX_COUNT, ProtocolError, is_operation, require};
 
 // Whether the lengths add up to `total`. What is left of it never falls below zero.
 fn adds_up(lengths: &[u32], total: usize) -> bool
@@ -58,17 +55,15 @@ fn total_within(limit: usize, count: usize, len: usize) -> bool
 }
 
 // The checks of the proofs, after what was found before them.
-fn check_lent(before: Check, slots: &[u16], lengths: &[u32], bytes: &[u8]) -> Check
+fn check_lent(before: Result<(), ProtocolError>, slots: &[u16], lengths: &[u32], bytes: &[u8]) -> Result<(), ProtocolError>
     ensures { result ≡ decide before (lent_proof_rows slots.now lengths.now bytes.now) }
 {
     let invalid = ProtocolError::InvalidWitness;
-    before
-        .require(all_filled(lengths), invalid)
-        .require(
-            total_within(ACCOUNT_WITNESS_MAX_LOCK_LEN, slots.len(), bytes.len()),
-            invalid,
-        )
-        .require(is_rising(slots), invalid)
+    before?;
+    require(all_filled(lengths), invalid)?;
+    require(total_within(ACCOUNT_WITNESS_MAX_LOCK_LEN, slots.len(), bytes.len()),
+            invalid)?;
+    require(is_rising(slots), invalid)
 }
 
 // The writer's refusals.
@@ -78,11 +73,11 @@ pub(crate) fn check_encode(
     lengths: &[u32],
     bytes: &[u8],
     room: usize,
-) -> Check
+) -> Result<(), ProtocolError>
     ensures { result ≡ witness_writer_fault operation slots.now lengths.now bytes.now room }
 {
     let disagree = ProtocolError::SlicesDisagree;
-    let first = Check::Passed
+    let first = Ok(())
         .require(slots.len() == lengths.len(), disagree)
         .require(adds_up(lengths, bytes.len()), disagree)
         .require(is_operation(operation), ProtocolError::InvalidOperation)
@@ -90,8 +85,7 @@ pub(crate) fn check_encode(
             slots.len() <= AUTHENTICATOR_MAX_COUNT,
             ProtocolError::InvalidWitness,
         );
-    check_lent(first, slots, lengths, bytes).require(
-        total_within(room, slots.len(), bytes.len()),
-        ProtocolError::BufferTooShort,
-    )
+    check_lent(first, slots, lengths, bytes)?;
+    require(total_within(room, slots.len(), bytes.len()),
+        ProtocolError::BufferTooShort)
 }

@@ -8,11 +8,7 @@ ghost use Rattle.account_witness.specs.Header.{witness_header_fields};
 ghost use Rattle.account_witness.specs.Reading.{proof_bytes, proofs_bytes};
 ghost use Rattle.account_witness_writer.specs.Writer.{lent_proofs, witness_total};
 
-use account_witness::{
-    PROOF_COUNT_OFFSET, PROOF_HEADER_LEN, PROOF_LENGTH_OFFSET, PROOF_RESERVED_OFFSET,
-    WITNESS_MAGIC_OFFSET, WITNESS_OPERATION_OFFSET, WITNESS_RESERVED_OFFSET,
-    WITNESS_SEQUENCE_OFFSET, WITNESS_VERSION_OFFSET,
-};
+use account_witness::{PROOF_COUNT_OFFSET, PROOF_HEADER_LEN, PROOF_LENGTH_OFFSET, PROOF_RESERVED_OFFSET, WITNESS_MAGIC_OFFSET, WITNESS_OPERATION_OFFSET, WITNESS_RESERVED_OFFSET, WITNESS_SEQUENCE_OFFSET, WITNESS_VERSION_OFFSET};
 use octets::{part, store_bytes, store_number};
 use protocol::{ACCOUNT_WITNESS_HEADER_LEN, ACCOUNT_WITNESS_MAGIC, ACCOUNT_WITNESS_VERSION};
 

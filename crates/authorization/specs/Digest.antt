@@ -1,11 +1,9 @@
 -- 01, main.rs: "Digest input: `CKB_ACCOUNT_LOCK_V1`, operation, account id, sequence (u64), hash of the state, sighash."
-use Rattle.std.specs.Prelude.{ℕ, List, [], ◌∷◌, ◌++◌, replicate}
+use Rattle.std.specs.Prelude.{ℕ, List, [], ◌∷◌, ◌++◌, replicate, Err, Ok}
 use Rattle.octets.specs.Le.{to_le}
 use Rattle.blake2b.specs.State.{ckb_hash}
 use Rattle.protocol.specs.Policy.{operation_rows}
-use Rattle.protocol.specs.Rows.{decide}
-use Rattle.protocol.specs.declared.check.Check.{Check}
-use Rattle.protocol.specs.declared.check.Check.TheVariants.{Passed, Failed}
+use Rattle.protocol.specs.Rows.{decide, Check}
 use Rattle.authorization.specs.declared.digest.AuthorizationDigest.{AuthorizationDigest}
 
 -- `CKB_ACCOUNT_LOCK_V1`
@@ -25,9 +23,9 @@ digest_of operation account sequence state sighash = ckb_hash (digest_input oper
 
 -- a digest, or a refusal beside 32 zeros
 unfoldable pub digest_answer : Check → List ℕ → AuthorizationDigest
-digest_answer Passed digest = record { found = Passed; digest = digest }
-digest_answer (Failed e) digest = record { found = Failed e; digest = replicate 32 0 }
+digest_answer (Ok _) digest = record { found = (Ok tt); digest = digest }
+digest_answer (Err e) digest = record { found = Err e; digest = replicate 32 0 }
 
 unfoldable pub authorization_of : ℕ → List ℕ → ℕ → List ℕ → List ℕ → AuthorizationDigest
 authorization_of operation account sequence state sighash =
-    digest_answer (decide Passed (operation_rows operation)) (digest_of operation account sequence state sighash)
+    digest_answer (decide (Ok tt) (operation_rows operation)) (digest_of operation account sequence state sighash)

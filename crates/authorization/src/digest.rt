@@ -5,12 +5,12 @@ ghost use Rattle.authorization.specs.Digest.{digest_head, digest_of, authorizati
 
 use crate::number::u64_bytes;
 use blake2b::{Blake2b, ckb_hash};
-use protocol::{AUTH_DOMAIN, Check, ProtocolError, is_operation};
+use protocol::{AUTH_DOMAIN, ProtocolError, is_operation, require};
 
 // What was found, and the digest: zeros where the operation is refused.
 #[derive(Drop)]
 pub struct AuthorizationDigest {
-    pub found: Check,
+    pub found: Result<(), ProtocolError>,
     pub digest: [u8; 32],
 }
 
@@ -55,17 +55,17 @@ pub fn authorization_digest(
 ) -> AuthorizationDigest
     ensures { result ≡ authorization_of operation account sequence state.now sighash }
 {
-    let found = Check::Passed.require(is_operation(operation), ProtocolError::InvalidOperation);
+    let found = Ok(()).require(is_operation(operation), ProtocolError::InvalidOperation);
     let none = [0u8; 32];
     match found {
-        Check::Failed(error) => AuthorizationDigest {
-            found: Check::Failed(error),
+        Err(error) => AuthorizationDigest {
+            found: Err(error),
             digest: none,
         },
-        Check::Passed => {
+        Ok(()) => {
             let digest = digest_of(operation, account, sequence, state, sighash);
             AuthorizationDigest {
-                found: Check::Passed,
+                found: Ok(()),
                 digest: digest,
             }
         }

@@ -1,5 +1,6 @@
 -- A total in the code is the sum, as far as a u64 holds it: capacity by capacity, and what is found of two totals.
 -- Assumes nothing.
+use Rattle.std.specs.Prelude.{None, Option, Some}
 use mathlib.Core.Path.{◌≡◌, refl, sym}
 use mathlib.Core.Bool.{Bool, true, false, cond}
 use mathlib.Core.List.{List, [], ◌∷◌}
@@ -16,8 +17,6 @@ use Rattle.scene_table.proofs.Records.{Listed, map-listed}
 use Rattle.scene_table.proofs.PlaceLaws.{lent_input, lent_output, lent-given}
 use Rattle.capacity.specs.declared.total.Side.{Side}
 use Rattle.capacity.specs.declared.total.Side.TheVariants.{Inputs, Outputs}
-use Rattle.capacity.specs.declared.total.Total.{Total}
-use Rattle.capacity.specs.declared.total.Total.TheVariants.{Sum, Above}
 use Rattle.capacity.specs.Capacity.{capacities}
 use Rattle.capacity.specs.Totals.{total_of, total_with, side_count, side_capacity}
 
@@ -27,7 +26,7 @@ unfolding total_of total_with
 total-with n c = go (leb n (2 ^ 64 - 1)) refl (leb (n + c) (2 ^ 64 - 1)) refl
   where
     go : (a : Bool) → leb n (2 ^ 64 - 1) ≡ a → (b : Bool) → leb (n + c) (2 ^ 64 - 1) ≡ b
-        → total_with (cond a (Sum n) Above) c ≡ cond b (Sum (n + c)) Above
+        → total_with (cond a (Some n) None) c ≡ cond b (Some (n + c)) None
     go true p true q =
         let h = leb-true n (2 ^ 64 - 1) p in
         let k = leb-true (n + c) (2 ^ 64 - 1) q in
@@ -43,7 +42,7 @@ total-with n c = go (leb n (2 ^ 64 - 1)) refl (leb (n + c) (2 ^ 64 - 1)) refl
     go false p false q = refl
 
 -- the total of what is left, behind one that is worked out
-unfoldable pub total_from : Total → List ℕ → Total
+unfoldable pub total_from : Option ℕ → List ℕ → Option ℕ
 total_from t [] = t
 total_from t (c ∷ cs) = total_from (total_with t c) cs
 
@@ -52,7 +51,7 @@ unfolding total_from sum
 total-from n [] = rw add-zero
 total-from n (c ∷ cs) = rw (total-with n c, total-from (n + c) cs, add_assoc)
 
-pub total-whole : (cs : List ℕ) → total_of (sum cs) ≡ total_from (Sum 0) cs
+pub total-whole : (cs : List ℕ) → total_of (sum cs) ≡ total_from (Some 0) cs
 unfolding total_of
 total-whole cs = sym (rw (zero-add (sum cs)) at (total-from 0 cs))
 
@@ -65,7 +64,7 @@ capacities-listed Inputs table store =
 capacities-listed Outputs table store =
     map-listed (λ (o : Output). o.capacity) (scene_in table store).outputs _ (lent_output table store) (lent-given table store).outputs
 
-module _ {cs : List ℕ} {n : ℕ} {g : ℕ → ℕ} (l : Listed cs n g) (t : Total) (i : ℕ) where
+module _ {cs : List ℕ} {n : ℕ} {g : ℕ → ℕ} (l : Listed cs n g) (t : Option ℕ) (i : ℕ) where
   -- a turn of the loop over them, and its end
   pub total-turn : i < n → total_from t (drop i cs) ≡ total_from (total_with t (g i)) (drop (i + 1) cs)
   unfolding total_from

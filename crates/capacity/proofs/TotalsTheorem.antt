@@ -1,6 +1,7 @@
 -- What the rows of the totals say, for any scene: they pass where both totals are within a u64 and the inputs cover the outputs; they
 -- give 39 where a total is above, and 48 where the outputs exceed the inputs and neither is.
 -- Assumes nothing.
+use Rattle.std.specs.Prelude.{Ok}
 use mathlib.Core.Path.{◌≡◌, refl}
 use mathlib.Core.Logic.{◌↔◌, ◌⊎◌, inl, inr}
 use mathlib.Core.Bool.{Bool, true, false}
@@ -9,7 +10,6 @@ use native.Mathlib.Omega.{arith}
 use borrow.Author.Tests.{le-leb, leb-true, leb-false}
 use lib.Dec.{leb}
 use Rattle.protocol.specs.Rows.{AllPass, decide, ◌▷◌, check_number}
-use Rattle.protocol.specs.declared.check.Check.TheVariants.{Passed}
 use Rattle.scene_table.specs.Scene.{Scene}
 use Rattle.capacity.specs.Capacity.{input_total, output_total, total_rows, capacity_rows, TotalsPass, TotalAbove, OutputsExceed}
 
@@ -35,12 +35,12 @@ module _ (n m : ℕ) where
     exceed : n ≤ 2 ^ 64 - 1 → m ≤ 2 ^ 64 - 1 → n < m → Outcome 48
     pass : n ≤ 2 ^ 64 - 1 → m ≤ 2 ^ 64 - 1 → m ≤ n → Outcome 0
 
-  outcome : Outcome (check_number (decide Passed (total_rows n m)))
+  outcome : Outcome (check_number (decide (Ok tt) (total_rows n m)))
   unfolding total_rows decide ◌▷◌
   outcome = go (leb n (2 ^ 64 - 1)) refl (leb m (2 ^ 64 - 1)) refl (leb m n) refl
     where
       go : (a : Bool) → leb n (2 ^ 64 - 1) ≡ a → (b : Bool) → leb m (2 ^ 64 - 1) ≡ b → (c : Bool) → leb m n ≡ c
-          → Outcome (check_number (decide Passed (total_rows n m)))
+          → Outcome (check_number (decide (Ok tt) (total_rows n m)))
       go false p b q c r = rw p (above (inl (leb-false n (2 ^ 64 - 1) p)))
       go true p false q c r = rw (p, q) (above (inr (leb-false m (2 ^ 64 - 1) q)))
       go true p true q false r = rw (p, q, r) (exceed (leb-true n (2 ^ 64 - 1) p) (leb-true m (2 ^ 64 - 1) q) (leb-false m n r))
@@ -70,13 +70,13 @@ module _ (n m : ℕ) where
   exceed-back k (pass h i j) a b c = absurd (omega arith)
 
 module _ (s : Scene) where
-  pub totals-above : (check_number (decide Passed (capacity_rows s)) ≡ 39) ↔ TotalAbove s
+  pub totals-above : (check_number (decide (Ok tt) (capacity_rows s)) ≡ 39) ↔ TotalAbove s
   unfolding capacity_rows
   totals-above =
       let o = outcome (input_total s) (output_total s) in
       (above-there (input_total s) (output_total s) _ o, above-back (input_total s) (output_total s) _ o)
 
-  pub totals-exceed : (check_number (decide Passed (capacity_rows s)) ≡ 48) ↔ OutputsExceed s
+  pub totals-exceed : (check_number (decide (Ok tt) (capacity_rows s)) ≡ 48) ↔ OutputsExceed s
   unfolding capacity_rows
   totals-exceed =
       let o = outcome (input_total s) (output_total s) in (
@@ -85,7 +85,7 @@ module _ (s : Scene) where
       )
 
   -- and nothing else but 0
-  pub totals-number : (check_number (decide Passed (capacity_rows s)) ≡ 0) ⊎ (check_number (decide Passed (capacity_rows s)) ≡ 39) ⊎ (check_number (decide Passed (capacity_rows s)) ≡ 48)
+  pub totals-number : (check_number (decide (Ok tt) (capacity_rows s)) ≡ 0) ⊎ (check_number (decide (Ok tt) (capacity_rows s)) ≡ 39) ⊎ (check_number (decide (Ok tt) (capacity_rows s)) ≡ 48)
   unfolding capacity_rows
   totals-number = go _ (outcome (input_total s) (output_total s))
     where

@@ -1,10 +1,8 @@
 -- 02, change 9: the totals of all inputs and of all outputs, the lock's rows for them, and the fee.
-use Rattle.std.specs.Prelude.{ℕ, ◌-◌, ◌^◌, ◌≤◌, ◌<◌, List, [], ◌∷◌, map, ◌⊎◌, leb}
+use Rattle.std.specs.Prelude.{ℕ, ◌-◌, ◌^◌, ◌≤◌, ◌<◌, List, [], ◌∷◌, map, ◌⊎◌, leb, Err, Ok}
 use Rattle.octets.specs.Lists.{sum}
-use Rattle.protocol.specs.Rows.{Row, row, decide}
+use Rattle.protocol.specs.Rows.{Row, row, decide, Check}
 use Rattle.protocol.specs.declared.error.ProtocolError.TheVariants.{LengthOverflow, OutputsExceedInputs}
-use Rattle.protocol.specs.declared.check.Check.{Check}
-use Rattle.protocol.specs.declared.check.Check.TheVariants.{Passed, Failed}
 use Rattle.scene_table.specs.Scene.{Input, Output, Scene}
 use Rattle.capacity.specs.declared.total.Side.{Side}
 use Rattle.capacity.specs.declared.total.Side.TheVariants.{Inputs, Outputs}
@@ -53,14 +51,14 @@ pub record OutputsExceed (s : Scene) : Type 0 where
 
 -- "On acceptance the answer line ends with a further field FEE .. On refusal that field is empty": the fee is 0 there
 abbrev pub fee_where : Check → ℕ → ℕ
-fee_where Passed fee = fee
-fee_where (Failed e) fee = 0
+fee_where (Ok _) fee = fee
+fee_where (Err e) fee = 0
 
 -- "inputs' total less outputs' total"
 unfoldable pub fee_for : ℕ → ℕ → FeeFound
 fee_for inputs outputs = record {
-  found = decide Passed (total_rows inputs outputs);
-  fee = fee_where (decide Passed (total_rows inputs outputs)) (inputs - outputs);
+  found = decide (Ok tt) (total_rows inputs outputs);
+  fee = fee_where (decide (Ok tt) (total_rows inputs outputs)) (inputs - outputs);
 }
 
 unfoldable pub fee_of : Scene → FeeFound

@@ -4,23 +4,23 @@ ghost use Rattle.scene_table.specs.Lent.{scene_in};
 ghost use Rattle.capacity.specs.Capacity.{fee_where, fee_of};
 ghost use Rattle.capacity.specs.Totals.{fee_refused, TotalsCompared};
 
-use crate::total::{Side, Total, total_of};
-use protocol::{Check, ProtocolError};
+use crate::total::{Side, total_of};
+use protocol::ProtocolError;
 
 // What the checks of the totals found; and the fee, 0 where they refuse.
 #[derive(Drop)]
 pub struct FeeFound {
-    pub found: Check,
+    pub found: Result<(), ProtocolError>,
     pub fee: u64,
 }
 
 // The fee where all checks passed, else 0.
-pub fn fee_where(found: Check, fee: u64) -> u64
+pub fn fee_where(found: Result<(), ProtocolError>, fee: u64) -> u64
     ensures { result ≡ fee_where found fee }
 {
     match found {
-        Check::Failed(_) => 0,
-        Check::Passed => fee,
+        Err(_) => 0,
+        Ok(()) => fee,
     }
 }
 
@@ -28,25 +28,25 @@ fn refused(error: ProtocolError) -> FeeFound
     ensures { result ≡ fee_refused error }
 {
     FeeFound {
-        found: Check::Failed(error),
+        found: Err(error),
         fee: 0,
     }
 }
 
 // The inputs' total less the outputs', or what refuses them.
-fn compare_totals(inputs: Total, outputs: Total) -> FeeFound
+fn compare_totals(inputs: Option<u64>, outputs: Option<u64>) -> FeeFound
     ensures { TotalsCompared inputs outputs result }
 {
     match inputs {
-        Total::Above => refused(ProtocolError::LengthOverflow),
-        Total::Sum(whole) => match outputs {
-            Total::Above => refused(ProtocolError::LengthOverflow),
-            Total::Sum(paid) => {
+        None => refused(ProtocolError::LengthOverflow),
+        Some(whole) => match outputs {
+            None => refused(ProtocolError::LengthOverflow),
+            Some(paid) => {
                 if whole < paid {
                     refused(ProtocolError::OutputsExceedInputs)
                 } else {
                     FeeFound {
-                        found: Check::Passed,
+                        found: Ok(()),
                         fee: whole - paid,
                     }
                 }

@@ -13,25 +13,18 @@ pub(crate) enum Side {
     Outputs,
 }
 
-// A total that a u64 holds, or that it is above that.
-#[derive(Drop)]
-pub(crate) enum Total {
-    Sum(u64),
-    Above,
-}
-
-impl Total {
+impl Option<u64> {
     // One capacity more.
-    fn with(self, capacity: u64) -> Total
+    fn with(self, capacity: u64) -> Option<u64>
         ensures { result ≡ total_with self capacity }
     {
         match self {
-            Total::Above => Total::Above,
-            Total::Sum(sum) => {
+            None => None,
+            Some(sum) => {
                 if 18446744073709551615 - sum < capacity {
-                    Total::Above
+                    None
                 } else {
-                    Total::Sum(sum + capacity)
+                    Some(sum + capacity)
                 }
             }
         }
@@ -59,12 +52,12 @@ fn side_capacity(table: &[u32], side: Side, i: u32) -> u64
 }
 
 // The total of a list.
-pub(crate) fn total_of(table: &[u32], store: &[u8], side: Side) -> Total
+pub(crate) fn total_of(table: &[u32], store: &[u8], side: Side) -> Option<u64>
     ensures { result ≡ total_of (total_capacity side (scene_in table.now store.now)) }
 {
     let count = side_count(table, side);
     let mut i: u32 = 0;
-    let mut total = Total::Sum(0);
+    let mut total = Some(0);
     while i < count {
         total = total.with(side_capacity(table, side, i));
         i += 1;

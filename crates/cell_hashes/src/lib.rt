@@ -1,7 +1,7 @@
 // Whether the hashes of a transaction's cells are those of what the cells hold.
 #![tactic(auto)]
 
-ghost use Rattle.std.specs.Prelude.{◌≡◌};
+ghost use Rattle.std.specs.Prelude.{◌≡◌, Ok};
 ghost use Rattle.protocol.specs.Rows.{decide};
 ghost use Rattle.scene_table.specs.Lent.{scene_in};
 ghost use Rattle.scene_table.specs.Places.{cell_in};
@@ -11,7 +11,7 @@ ghost use Rattle.cell_hashes.specs.Hashes.{hash_agrees, cell_hash_rows, cells_ha
 use blake2b::ckb_hash;
 use cell_search::{Source, cell_count, cell_places};
 use octets::{part_at, same_bytes};
-use protocol::{Check, ProtocolError};
+use protocol::{ProtocolError, require};
 use scene_table::CellPlaces;
 
 // Whether there are no bytes, or the hash is CKB's hash of them.
@@ -26,40 +26,37 @@ fn hash_agrees(hash: &[u8], bytes: &[u8]) -> bool
 }
 
 // The hashes of the cell at its places: type before data.
-fn check_cell(store: &[u8], cell: CellPlaces) -> Check
-    ensures { result ≡ decide Check.Passed (cell_hash_rows (cell_in store.now cell)) }
+fn check_cell(store: &[u8], cell: CellPlaces) -> Result<(), ProtocolError>
+    ensures { result ≡ decide (Ok tt) (cell_hash_rows (cell_in store.now cell)) }
 {
     let type_agrees = hash_agrees(
         part_at(store, cell.type_hash),
         part_at(store, cell.type_script),
     );
     let data_agrees = hash_agrees(part_at(store, cell.data_hash), part_at(store, cell.content));
-    Check::Passed
-        .require(type_agrees, ProtocolError::HashMismatch)
-        .require(data_agrees, ProtocolError::HashMismatch)
+    require(type_agrees, ProtocolError::HashMismatch)?;
+    require(data_agrees, ProtocolError::HashMismatch)
 }
 
 // The hashes of the cells of a list, up to the first that differs.
-fn check_cells(table: &[u32], store: &[u8], source: Source) -> Check
-    ensures { result ≡ decide Check.Passed (cells_hash_rows (cells_of source (scene_in table.now store.now))) }
+fn check_cells(table: &[u32], store: &[u8], source: Source) -> Result<(), ProtocolError>
+    ensures { result ≡ decide (Ok tt) (cells_hash_rows (cells_of source (scene_in table.now store.now))) }
 {
     let count = cell_count(table, source);
     let mut i: u32 = 0;
     while i < count {
         let found = check_cell(store, cell_places(table, source, i));
-        match found {
-            Check::Failed(error) => return Check::Failed(error),
-            Check::Passed => i += 1,
-        }
+        found?;
+        i += 1
     }
-    Check::Passed
+    Ok(())
 }
 
 // The hashes of all cells: 40 where one differs from what the cell holds.
-pub fn check_hashes(table: &[u32], store: &[u8]) -> Check
-    ensures { result ≡ decide Check.Passed (hash_rows (scene_in table.now store.now)) }
+pub fn check_hashes(table: &[u32], store: &[u8]) -> Result<(), ProtocolError>
+    ensures { result ≡ decide (Ok tt) (hash_rows (scene_in table.now store.now)) }
 {
-    check_cells(table, store, Source::Input)
-        .and(check_cells(table, store, Source::Output))
-        .and(check_cells(table, store, Source::CellDep))
+    check_cells(table, store, Source::Input)?;
+    check_cells(table, store, Source::Output)?;
+    check_cells(table, store, Source::CellDep)
 }

@@ -6,9 +6,7 @@ ghost use Rattle.cell_search.specs.Search.{cells_of, cell_at, cell_hash};
 ghost use Rattle.cell_search.specs.Cells.{cell_count, source_places, places_within};
 
 use octets::{Place, part_at};
-use scene_table::{
-    CellPlaces, dep_cell, dep_count, input_cell, input_count, output_cell, output_count,
-};
+use scene_table::{CellPlaces, dep_cell, dep_count, input_cell, input_count, output_cell, output_count};
 
 // Which list of the transaction.
 #[derive(Clone, Copy)]

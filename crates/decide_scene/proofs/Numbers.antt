@@ -1,5 +1,6 @@
 -- A scene read and decided never gives 7; and the program, its buffers being long enough, never gives 5 or 6 either.
 -- Assumes nothing.
+use Rattle.std.specs.Prelude.{Err, Ok}
 use Prim.Native.Nat.{ℕ, ◌≤◌}
 use mathlib.Core.Path.{◌≡◌, refl, ap}
 use mathlib.Core.Logic.{◌≢◌, ◌⊎◌, inl, inr}
@@ -10,11 +11,9 @@ use borrow.Author.Tests.{ltb-false}
 use lib.Dec.{ltb}
 use lib.ListN.{length}
 use Rattle.protocol.specs.Errors.{error_number}
-use Rattle.protocol.specs.Rows.{decide, check_number}
+use Rattle.protocol.specs.Rows.{decide, check_number, Check}
 use Rattle.protocol.specs.declared.error.ProtocolError.{ProtocolError}
 use Rattle.protocol.specs.declared.error.ProtocolError.TheVariants.{SceneTooLong}
-use Rattle.protocol.specs.declared.check.Check.{Check}
-use Rattle.protocol.specs.declared.check.Check.TheVariants.{Passed, Failed}
 use Rattle.protocol.proofs.Each.{Each, Refuses, each_append, each-refuses}
 use Rattle.text.specs.Text.{pieces, line_end}
 use Rattle.scene_reader.specs.Reader.{ReaderState, ReaderOutcome, reader_refuses, reader_holds, outcome_after, line_rows, rows_of_line, line_put, scene_end_rows, lines_rows, lines_put, reader_start, scene_limit_rows, scene_rows, read_of, reader_check}
@@ -57,11 +56,11 @@ scene-errors scene n m = (inl (omega arith), (inr refl, lines-errors (reader_sta
 -- every number that the reader gives is 0 to 4, or 6
 pub reader-numbers : (scene : List ℕ) (n m : ℕ) → ReaderNumber (check_number (reader_check (read_of scene n m)))
 unfolding read_of
-reader-numbers scene n m = go (decide Passed (scene_rows scene n m)) (each-refuses ReaderError (scene_rows scene n m) (scene-errors scene n m))
+reader-numbers scene n m = go (decide (Ok tt) (scene_rows scene n m)) (each-refuses ReaderError (scene_rows scene n m) (scene-errors scene n m))
   where
     go : (c : Check) → Refuses ReaderError c → ReaderNumber (check_number (reader_check (outcome_after c (lines_put (reader_start n m) (pieces line_end scene)))))
-    go Passed f = inl (omega arith)
-    go (Failed e) f = f
+    go (Ok _) f = inl (omega arith)
+    go (Err e) f = f
 
 -- 5 and 7 are not among them
 not_five : (n : ℕ) → ReaderNumber n → n ≢ 5
@@ -98,7 +97,7 @@ module _ (scene : List ℕ) (n m room : ℕ) where
   -- the table of an accepted scene passes the lock's row for 7
   held-valid : (h : ReaderState) → read_of scene n m ≡ reader_holds h → valid_table h.table (length h.store) ≡ true
   held-valid h e =
-      let p : reader_check (read_of scene n m) ≡ Passed = ap reader_check e in
+      let p : reader_check (read_of scene n m) ≡ Ok tt = ap reader_check e in
       let long : length h.store ≡ n = rw e at (left-store-length scene n m p) in
       rw long (rw e at (reader-leaves-valid scene n m p))
 
@@ -122,7 +121,7 @@ module _ (scene : List ℕ) where
   program-never k long short = go (ltb program_scene_max_length (length scene)) refl
     where
       go : (b : Bool) → ltb program_scene_max_length (length scene) ≡ b
-          → check_number (cond b (lock.refused (Failed SceneTooLong)) (decided scene program_scene_max_length table_min_entries answer_buffer_length)).found ≢ k
+          → check_number (cond b (lock.refused (Err SceneTooLong)) (decided scene program_scene_max_length table_min_entries answer_buffer_length)).found ≢ k
       go true e = long
       go false e = short (ltb-false program_scene_max_length (length scene) e)
 

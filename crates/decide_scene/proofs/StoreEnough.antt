@@ -1,5 +1,6 @@
 -- A store as long as the scene is long enough: the reader never gives 6 with it.
 -- Assumes nothing.
+use Rattle.std.specs.Prelude.{Err, Ok}
 use Prim.Native.Nat.{ℕ, suc, ◌+◌, ◌≤◌}
 use mathlib.Core.Bool.{Bool, true, false, cond}
 use mathlib.Core.Logic.{inl, inr}
@@ -12,10 +13,8 @@ use lib.ListN.{length, length-append, length-replicate}
 use lib.Seq.{length-sets}
 use Rattle.octets.specs.Lists.{joined}
 use Rattle.protocol.specs.Errors.{error_number}
-use Rattle.protocol.specs.Rows.{decide, FirstFailed, check_number}
+use Rattle.protocol.specs.Rows.{decide, FirstFailed, check_number, Check}
 use Rattle.protocol.specs.declared.error.ProtocolError.{ProtocolError}
-use Rattle.protocol.specs.declared.check.Check.{Check}
-use Rattle.protocol.specs.declared.check.Check.TheVariants.{Passed, Failed}
 use Rattle.protocol.proofs.AllPass.{failed-first}
 use Rattle.protocol.proofs.Each.{Refuses, each-refuses}
 use Rattle.text.specs.Text.{pieces, before, hex_bytes, comma, line_end}
@@ -92,11 +91,11 @@ put-fits h l =
 -- nor does the end of the scene give 6
 end-never : (h : ReaderState) (l : List ℕ) → Never (scene_end_outcome h l)
 unfolding scene_end_rows Never
-end-never h l = go (decide Passed (scene_end_rows h l)) (each-refuses (λ a. error_number a ≡ 6 → ⊥) (scene_end_rows h l) (λ q. absurd (omega arith), (λ q. absurd (omega arith), tt)))
+end-never h l = go (decide (Ok tt) (scene_end_rows h l)) (each-refuses (λ a. error_number a ≡ 6 → ⊥) (scene_end_rows h l) (λ q. absurd (omega arith), (λ q. absurd (omega arith), tt)))
   where
     go : (c : Check) → Refuses (λ a. error_number a ≡ 6 → ⊥) c → Never (outcome_after c h)
-    go Passed f q = absurd (omega arith)
-    go (Failed a) f q = f q
+    go (Ok _) f q = absurd (omega arith)
+    go (Err a) f q = f q
 
 -- the lines, with a store that has room for all of them
 run-never : (l : List ℕ) (ls : List (List ℕ)) (h : ReaderState) → h.used + length (joined (l ∷ ls)) ≤ length h.store → Never (lines_outcome h (l ∷ ls))
@@ -105,11 +104,11 @@ run-never l [] h room = rw (run-last h l _ refl) (end-never h l)
 run-never l (m ∷ ls) h room =
     let n = length-append l (joined (m ∷ ls)) in
     let f = put-fits h l in
-    go (decide Passed (rows_of_line h l)) refl (run-never m ls (line_put h l) (omega (arith, f.0, f.1)))
+    go (decide (Ok tt) (rows_of_line h l)) refl (run-never m ls (line_put h l) (omega (arith, f.0, f.1)))
   where
-    go : (c : Check) → decide Passed (rows_of_line h l) ≡ c → Never (lines_outcome (line_put h l) (m ∷ ls)) → Never (lines_outcome h (l ∷ m ∷ ls))
-    go Passed e next = rw (run-passed h l m ls e) next
-    go (Failed a) e next =
+    go : (c : Check) → decide (Ok tt) (rows_of_line h l) ≡ c → Never (lines_outcome (line_put h l) (m ∷ ls)) → Never (lines_outcome h (l ∷ m ∷ ls))
+    go (Ok _) e next = rw (run-passed h l m ls e) next
+    go (Err a) e next =
         let n = length-append l (joined (m ∷ ls)) in
         rw (run-failed h l m ls a e) (line-never h l a (omega arith) (failed-first (rows_of_line h l) a e))
 
@@ -123,11 +122,11 @@ limits-never scene m a hm (inr (p, inr f)) q = absurd f.1
 -- 01: "The program's buffers are long enough that it never gives 5 or 6": 6, for the reader
 pub reader-never-six : (scene : List ℕ) (n m : ℕ) → length scene ≤ n → table_min_entries ≤ m → check_number (reader_check (read_of scene n m)) ≡ 6 → ⊥
 unfolding reader_start Never
-reader-never-six scene n m hn hm = go (decide Passed (scene_limit_rows scene m)) refl
+reader-never-six scene n m hn hm = go (decide (Ok tt) (scene_limit_rows scene m)) refl
   where
-    go : (c : Check) → decide Passed (scene_limit_rows scene m) ≡ c → Never (read_of scene n m)
-    go Passed e =
+    go : (c : Check) → decide (Ok tt) (scene_limit_rows scene m) ≡ c → Never (read_of scene n m)
+    go (Ok _) e =
         let z = pieces-some line_end scene in
         let short : length (joined (z.0 ∷ z.1)) ≤ length scene = rw z.2 at (pieces-short line_end scene) in
         rw (limits-passed scene n m e, z.2) (run-never z.0 z.1 (reader_start n m) (omega (arith, length-replicate {0} {A = ℕ} n 0)))
-    go (Failed a) e = rw (limits-failed scene n m a e) (limits-never scene m a hm (failed-first (scene_limit_rows scene m) a e))
+    go (Err a) e = rw (limits-failed scene n m a e) (limits-never scene m a hm (failed-first (scene_limit_rows scene m) a e))

@@ -1,7 +1,6 @@
 -- What is decided of a scene's text, and the line that the program prints of it.
-use Rattle.std.specs.Prelude.{ℕ, cond, List, ltb, length}
+use Rattle.std.specs.Prelude.{ℕ, cond, List, ltb, length, Err}
 use Rattle.protocol.specs.declared.error.ProtocolError.TheVariants.{SceneTooLong}
-use Rattle.protocol.specs.declared.check.Check.TheVariants.{Failed}
 use Rattle.protocol.specs.Rows.{check_number}
 use Rattle.scene_reader.specs.Reader.{ReaderOutcome, reader_refuses, reader_holds, read_of}
 use Rattle.account_lock.specs.declared.answer.LockAnswer.{LockAnswer}
@@ -12,7 +11,7 @@ use Rattle.protocol.specs.Limits.{table_min_entries, answer_buffer_length}
 -- the lock over what the reader leaves, with an answer buffer of `room` bytes; 01: "COUNT and LENGTH being 0 where the reader
 -- refuses", and there is no digest
 unfoldable pub decided_by : ReaderOutcome → ℕ → lock.Result
-decided_by (reader_refuses e) room = lock.refused (Failed e)
+decided_by (reader_refuses e) room = lock.refused (Err e)
 decided_by (reader_holds h) room = lock.lock_of h.table h.store room
 
 -- what is decided of a scene, with a store of n bytes and a table of m entries
@@ -30,7 +29,7 @@ program_scene_max_length = 65536
 -- its store is as long as the longest scene; "The program's buffers are long enough that it never gives 5 or 6"
 unfoldable pub program_decides : List ℕ → lock.Result
 program_decides scene =
-    cond (ltb program_scene_max_length (length scene)) (lock.refused (Failed SceneTooLong))
+    cond (ltb program_scene_max_length (length scene)) (lock.refused (Err SceneTooLong))
     (decided scene program_scene_max_length table_min_entries answer_buffer_length)
 
 -- "prints one line `answer,NUMBER,COUNT,LENGTH,DIGEST`"; 02, change 9: "On acceptance the answer line ends with a further field FEE"

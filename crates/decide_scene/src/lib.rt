@@ -11,7 +11,7 @@ ghost use Rattle.decide_scene.specs.Decided.{program_decides, program_line, deci
 
 use account_lock::{LockAnswer, lock, refused};
 use answer_line::answer_line;
-use protocol::{ANSWER_BUFFER_LEN, Check, ProtocolError, TABLE_MIN_ENTRIES, check_number};
+use protocol::{ANSWER_BUFFER_LEN, ProtocolError, TABLE_MIN_ENTRIES, check_number};
 use scene_reader::read_scene;
 
 // The longest scene that the program reads.
@@ -38,8 +38,8 @@ pub fn decide_scene(
         ≡ answered answer.old (decided_into scene.now store.old table.old answer.old).made }
 {
     match read_scene(scene, store, table) {
-        Check::Failed(error) => refused(error),
-        Check::Passed => lock(table, store, answer),
+        Err(error) => refused(error),
+        Ok(()) => lock(table, store, answer),
     }
 }
 

@@ -1,6 +1,7 @@
 -- Demand 3 for the proofs of a witness lock: the walk passes exactly where every row before the one for 28 passes and there is a
 -- quorum, and then it has made one request per proof; its number is 0 or 28 exactly where those rows pass.
 -- Assumes nothing.
+use Rattle.std.specs.Prelude.{Ok}
 use mathlib.Core.Path.{◌≡◌}
 use mathlib.Core.Logic.{◌↔◌}
 use mathlib.Core.Bool.{true}
@@ -8,7 +9,6 @@ use mathlib.Core.List.{List, []}
 use Prim.Native.Nat.{ℕ}
 use lib.ListN.{length, take}
 use Rattle.protocol.specs.Rows.{AllPass, check_number}
-use Rattle.protocol.specs.declared.check.Check.TheVariants.{Passed}
 use Rattle.account_witness.specs.Fields.{proof_count_of}
 use Rattle.account_witness.specs.Walk.{witness_proof_rows}
 use Rattle.decision.specs.Proofs.{Context, requests_of}
@@ -23,21 +23,21 @@ pub listed-witness-proofs : (lock : List ℕ) → AllPass (witness_proof_rows lo
 listed-witness-proofs lock h = listed-proofs lock (proof_count_of lock) 16 0 h
 
 pub witness-decides : (c : Context) (lock : List ℕ)
-    → ((walk_lock c lock).found ≡ Passed) ↔ (ProofsPass c lock × Quorum c (witness_proofs lock))
+    → ((walk_lock c lock).found ≡ Ok tt) ↔ (ProofsPass c lock × Quorum c (witness_proofs lock))
 unfolding walk_lock walk_list
 witness-decides c lock = (there, back)
   where
-    decides : ((walk_from c (proof_list_of lock).clean 0 0 [] (proof_list_of lock).proofs).found ≡ Passed)
+    decides : ((walk_from c (proof_list_of lock).clean 0 0 [] (proof_list_of lock).proofs).found ≡ Ok tt)
         ↔ (((proof_list_of lock).clean ≡ true) × EachPasses c 0 0 (proof_list_of lock).proofs × Quorum c (proof_list_of lock).proofs)
     decides = walk-decides c (proof_list_of lock).clean (proof_list_of lock).proofs (listed-rising lock (proof_count_of lock) 16 0)
 
-    back : ProofsPass c lock × Quorum c (witness_proofs lock) → (walk_lock c lock).found ≡ Passed
+    back : ProofsPass c lock × Quorum c (witness_proofs lock) → (walk_lock c lock).found ≡ Ok tt
     back h =
         let l = h.0.layout in
         let e = listed-witness-proofs lock l in
         decides.1 ((listed-clean lock (proof_count_of lock) 16 0).1 l, rw e h.0.each, rw e h.1)
 
-    there : (walk_lock c lock).found ≡ Passed → ProofsPass c lock × Quorum c (witness_proofs lock)
+    there : (walk_lock c lock).found ≡ Ok tt → ProofsPass c lock × Quorum c (witness_proofs lock)
     there h =
         let z = decides.0 h in
         let l = (listed-clean lock (proof_count_of lock) 16 0).0 z.0 in

@@ -1,5 +1,6 @@
 -- The list of a witness lock's proofs, as the walk has it, against the rows and the reading of account_witness.
 -- Assumes nothing.
+use Rattle.std.specs.Prelude.{Err, Ok}
 use mathlib.Core.Path.{◌≡◌, refl, ap, ◌∙◌}
 use mathlib.Core.Logic.{◌↔◌}
 use mathlib.Core.Bool.{true, false}
@@ -7,10 +8,8 @@ use mathlib.Core.List.{List, [], ◌∷◌}
 use Prim.Native.Nat.{ℕ, zero, suc, ◌+◌}
 use native.Mathlib.Omega.{arith}
 use Rattle.octets.specs.Lists.{Rising}
-use Rattle.protocol.specs.Rows.{decide, AllPass}
+use Rattle.protocol.specs.Rows.{decide, AllPass, Check}
 use Rattle.protocol.specs.declared.error.ProtocolError.{ProtocolError}
-use Rattle.protocol.specs.declared.check.Check.{Check}
-use Rattle.protocol.specs.declared.check.Check.TheVariants.{Passed, Failed}
 use Rattle.protocol.proofs.AllPass.{passed-all-pass, all-pass-passed, all-pass-append, all-pass-split}
 use Rattle.account_witness.specs.Fields.{proof_length_at, proof_slot_at}
 use Rattle.account_witness.specs.Walk.{proof_layout_rows, proof_at, proofs_layout_rows}
@@ -21,7 +20,7 @@ use Rattle.decision.specs.Walk.{ProofList, unless_faulty, proofs_until_fault}
 -- The two ways on from an offset of the lock where a proof is due.
 module _ (lock : List ℕ) (n at least : ℕ) where
   -- its layout is faulty,
-  pub listed-stops : (e : ProtocolError) → decide Passed (proof_layout_rows lock at least) ≡ Failed e
+  pub listed-stops : (e : ProtocolError) → decide (Ok tt) (proof_layout_rows lock at least) ≡ Err e
       → proofs_until_fault lock (suc n) at least ≡ record { proofs = []; clean = false }
   unfolding proofs_until_fault unless_faulty
   listed-stops e h = rw h
@@ -30,22 +29,22 @@ module _ (lock : List ℕ) (n at least : ℕ) where
   abbrev pub ListBehind : ProofList
   ListBehind = proofs_until_fault lock n (at + 8 + proof_length_at lock at) (proof_slot_at lock at + 1)
 
-  pub listed-goes : decide Passed (proof_layout_rows lock at least) ≡ Passed
+  pub listed-goes : decide (Ok tt) (proof_layout_rows lock at least) ≡ Ok tt
       → proofs_until_fault lock (suc n) at least ≡ record { proofs = proof_given lock (proof_at lock at) ∷ ListBehind.proofs; clean = ListBehind.clean }
   unfolding proofs_until_fault unless_faulty
   listed-goes h = rw h refl
 
-faulty-clean : (ps : ProofList) (k : Check) → (unless_faulty k ps).clean ≡ true → (k ≡ Passed) × (ps.clean ≡ true)
+faulty-clean : (ps : ProofList) (k : Check) → (unless_faulty k ps).clean ≡ true → (k ≡ Ok tt) × (ps.clean ≡ true)
 unfolding unless_faulty
-faulty-clean ps Passed h = (refl, h)
-faulty-clean ps (Failed e) h = absurd (let z : ◌≡◌ {A = ℕ} 0 1 = cc in omega arith)
+faulty-clean ps (Ok _) h = (refl, h)
+faulty-clean ps (Err e) h = absurd (let z : ◌≡◌ {A = ℕ} 0 1 = cc in omega arith)
 
 module _ (lock : List ℕ) where
   clean-holds : (n at least : ℕ) → (proofs_until_fault lock n at least).clean ≡ true → AllPass (proofs_layout_rows lock n at least)
   unfolding proofs_until_fault proofs_layout_rows
   clean-holds zero at least h = (h, tt)
   clean-holds (suc n) at least h =
-      let z = faulty-clean _ (decide Passed (proof_layout_rows lock at least)) h in
+      let z = faulty-clean _ (decide (Ok tt) (proof_layout_rows lock at least)) h in
       all-pass-append (proof_layout_rows lock at least) _ (passed-all-pass (proof_layout_rows lock at least) z.0) (clean-holds n _ _ z.1)
 
   holds-clean : (n at least : ℕ) → AllPass (proofs_layout_rows lock n at least) → (proofs_until_fault lock n at least).clean ≡ true
@@ -73,10 +72,10 @@ module _ (lock : List ℕ) where
   pub listed-rising : (n at least : ℕ) → Rising least (proof_slots (proofs_until_fault lock n at least).proofs)
   unfolding proofs_until_fault proof_given proof_at
   listed-rising zero at least = tt
-  listed-rising (suc n) at least = go (decide Passed (proof_layout_rows lock at least)) refl (listed-rising n _ _)
+  listed-rising (suc n) at least = go (decide (Ok tt) (proof_layout_rows lock at least)) refl (listed-rising n _ _)
     where
-      go : (k : Check) → decide Passed (proof_layout_rows lock at least) ≡ k → Rising (proof_slot_at lock at + 1) (proof_slots (ListBehind lock n at least).proofs)
+      go : (k : Check) → decide (Ok tt) (proof_layout_rows lock at least) ≡ k → Rising (proof_slot_at lock at + 1) (proof_slots (ListBehind lock n at least).proofs)
           → Rising least (proof_slots (proofs_until_fault lock (suc n) at least).proofs)
-      go Passed h rest =
+      go (Ok _) h rest =
           rw (listed-goes lock n at least h) ((proof-holds lock at least (passed-all-pass (proof_layout_rows lock at least) h)).above, rest)
-      go (Failed e) h rest = rw (listed-stops lock n at least e h) tt
+      go (Err e) h rest = rw (listed-stops lock n at least e h) tt

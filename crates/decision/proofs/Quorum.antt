@@ -1,6 +1,7 @@
 -- The walk over a list of proofs passes exactly where every proof's rows pass and there is a quorum; its number is 0 or 28 exactly
 -- where every proof's rows pass; and what it has written.
 -- Assumes nothing.
+use Rattle.std.specs.Prelude.{Err, Ok}
 use mathlib.Core.Path.{◌≡◌, refl, sym, ap, ◌∙◌}
 use mathlib.Core.Logic.{◌↔◌, ◌≢◌, ◌⊎◌, inl, inr, ⊎_elim}
 use mathlib.Core.Bool.{Bool, true, false, cond}
@@ -15,11 +16,9 @@ use borrow.Author.Tests.{eq-eqb, ne_eqb, eqb-true, eqb-false, leb-true, le-leb, 
 use Rattle.octets.specs.Lists.{Rising}
 use Rattle.octets.proofs.RisingLaws.{rising-less}
 use Rattle.protocol.specs.Errors.{error_number}
-use Rattle.protocol.specs.Rows.{◌▷◌, decide, check_number}
+use Rattle.protocol.specs.Rows.{◌▷◌, decide, check_number, Check}
 use Rattle.protocol.specs.declared.error.ProtocolError.{ProtocolError}
 use Rattle.protocol.specs.declared.error.ProtocolError.TheVariants.{BufferTooShort, InvalidWitness, InvalidCapability, InvalidVerifierRef, VerifierFailure, InvalidRequest, LengthOverflow}
-use Rattle.protocol.specs.declared.check.Check.{Check}
-use Rattle.protocol.specs.declared.check.Check.TheVariants.{Passed, Failed}
 use Rattle.protocol.proofs.ErrorNumbers.{not-0}
 use Rattle.protocol.proofs.AllPass.{passed-all-pass, all-pass-passed}
 use Rattle.protocol.proofs.Each.{Each, Refuses, each-refuses}
@@ -34,19 +33,19 @@ use Rattle.decision.specs.Decision.{EachPasses, Approved, Quorum}
 -- The three ways on from a proof.
 module _ (c : Context) (clean : Bool) (i weight : ℕ) (made : List ℕ) (p : ProofReading) (ps : List ProofReading) where
   -- a row refuses it,
-  pub walk-stops : (e : ProtocolError) → decide Passed (proof_rows c (length made) p) ≡ Failed e
-      → walk_from c clean i weight made (p ∷ ps) ≡ walk_outcome (Failed e) i made
+  pub walk-stops : (e : ProtocolError) → decide (Ok tt) (proof_rows c (length made) p) ≡ Err e
+      → walk_from c clean i weight made (p ∷ ps) ≡ walk_outcome (Err e) i made
   unfolding walk_from unless_failed
   walk-stops e h = rw h
 
   -- its request was made and its verdict is 2,
-  pub walk-fails : decide Passed (proof_rows c (length made) p) ≡ Passed → verdict c i ≡ 2
-      → walk_from c clean i weight made (p ∷ ps) ≡ walk_outcome (Failed VerifierFailure) (i + 1) (made ++ request_of c p)
+  pub walk-fails : decide (Ok tt) (proof_rows c (length made) p) ≡ Ok tt → verdict c i ≡ 2
+      → walk_from c clean i weight made (p ∷ ps) ≡ walk_outcome (Err VerifierFailure) (i + 1) (made ++ request_of c p)
   unfolding walk_from unless_failed
   walk-fails h v = rw (h, eq-eqb (verdict c i) 2 v)
 
   -- or the next proof comes
-  pub walk-goes : decide Passed (proof_rows c (length made) p) ≡ Passed → verdict c i ≢ 2
+  pub walk-goes : decide (Ok tt) (proof_rows c (length made) p) ≡ Ok tt → verdict c i ≢ 2
       → walk_from c clean i weight made (p ∷ ps) ≡ walk_from c clean (i + 1) (weight + approved_weight c i p) (made ++ request_of c p) ps
   unfolding walk_from unless_failed
   walk-goes h v = rw (h, ne_eqb (verdict c i) 2 v)
@@ -79,18 +78,18 @@ proof-earlier c used p =
 
 -- A walk that came behind its last proof: each turn's rows passed and its verdict was not 2.
 turn_last : (k : Check) (v : ℕ) (onward : WalkOutcome) (i j : ℕ) (m l : List ℕ) → Refuses Earlier k
-    → ZeroOr28 (check_number (unless_failed k i m (cond (eqb v 2) (walk_outcome (Failed VerifierFailure) j l) onward)).found)
-    → (k ≡ Passed) × (v ≢ 2) × ZeroOr28 (check_number onward.found)
+    → ZeroOr28 (check_number (unless_failed k i m (cond (eqb v 2) (walk_outcome (Err VerifierFailure) j l) onward)).found)
+    → (k ≡ Ok tt) × (v ≢ 2) × ZeroOr28 (check_number onward.found)
 unfolding unless_failed
-turn_last (Failed e) v onward i j m l r h = absurd (r h)
-turn_last Passed v onward i j m l r h = go (eqb v 2) refl h
+turn_last (Err e) v onward i j m l r h = absurd (r h)
+turn_last (Ok _) v onward i j m l r h = go (eqb v 2) refl h
   where
-    go : (b : Bool) → eqb v 2 ≡ b → ZeroOr28 (check_number (cond b (walk_outcome (Failed VerifierFailure) j l) onward).found)
-        → (◌≡◌ {A = Check} Passed Passed) × (v ≢ 2) × ZeroOr28 (check_number onward.found)
+    go : (b : Bool) → eqb v 2 ≡ b → ZeroOr28 (check_number (cond b (walk_outcome (Err VerifierFailure) j l) onward).found)
+        → (◌≡◌ {A = Check} (Ok tt) (Ok tt)) × (v ≢ 2) × ZeroOr28 (check_number onward.found)
     go true q h = absurd (earlier VerifierFailure (λ z. omega arith) h)
     go false q h = (refl, eqb-false v 2 q, h)
 
-end-last : (clean : Bool) (weight threshold : ℕ) → ZeroOr28 (check_number (decide Passed (last_rows clean weight threshold))) → clean ≡ true
+end-last : (clean : Bool) (weight threshold : ℕ) → ZeroOr28 (check_number (decide (Ok tt) (last_rows clean weight threshold))) → clean ≡ true
 unfolding last_rows decide ◌▷◌
 end-last true weight threshold h = refl
 end-last false weight threshold h = absurd (earlier InvalidWitness (λ z. omega arith) h)
@@ -102,33 +101,33 @@ module _ (c : Context) (clean : Bool) where
   last-each i weight made [] h = (end-last clean weight c.threshold h, tt)
   last-each i weight made (p ∷ ps) h =
       let k = each-refuses Earlier _ (proof-earlier c (length made) p) in
-      let z = turn_last (decide Passed (proof_rows c (length made) p)) (verdict c i) _ _ _ _ _ k h in
+      let z = turn_last (decide (Ok tt) (proof_rows c (length made) p)) (verdict c i) _ _ _ _ _ k h in
       let r = last-each (i + 1) (weight + approved_weight c i p) (made ++ request_of c p) ps z.2 in
       (r.0, (passed-all-pass (proof_rows c (length made) p) z.0, z.1, rw length-append at r.1))
 
 -- Behind the last proof, with nothing that follows it, only 28 refuses,
-end-number : (weight threshold : ℕ) → ZeroOr28 (check_number (decide Passed (last_rows true weight threshold)))
+end-number : (weight threshold : ℕ) → ZeroOr28 (check_number (decide (Ok tt) (last_rows true weight threshold)))
 unfolding last_rows decide ◌▷◌
 end-number weight threshold =
     let later = drop 1 (last_rows true weight threshold) in
-    go (decide Passed later) (each-refuses (λ e. error_number e ≡ 28) later (refl, (refl, tt)))
+    go (decide (Ok tt) later) (each-refuses (λ e. error_number e ≡ 28) later (refl, (refl, tt)))
   where
     go : (k : Check) → Refuses (λ e. error_number e ≡ 28) k → ZeroOr28 (check_number k)
-    go Passed h = inl refl
-    go (Failed e) h = inr h
+    go (Ok _) h = inl refl
+    go (Err e) h = inr h
 
 -- and nothing is found exactly where the weight reaches a threshold above zero.
 end-passes : (clean : Bool) (weight threshold : ℕ)
-    → (decide Passed (last_rows clean weight threshold) ≡ Passed) ↔ ((clean ≡ true) × (0 < threshold) × (threshold ≤ weight))
+    → (decide (Ok tt) (last_rows clean weight threshold) ≡ Ok tt) ↔ ((clean ≡ true) × (0 < threshold) × (threshold ≤ weight))
 unfolding last_rows
 end-passes clean weight threshold = (there, back)
   where
-    there : decide Passed (last_rows clean weight threshold) ≡ Passed → (clean ≡ true) × (0 < threshold) × (threshold ≤ weight)
+    there : decide (Ok tt) (last_rows clean weight threshold) ≡ Ok tt → (clean ≡ true) × (0 < threshold) × (threshold ≤ weight)
     there h =
         let z = passed-all-pass (last_rows clean weight threshold) h in
         (z.0, omega (arith, ltb-true, z.1.0), omega (arith, leb-true, z.1.1.0))
 
-    back : (clean ≡ true) × (0 < threshold) × (threshold ≤ weight) → decide Passed (last_rows clean weight threshold) ≡ Passed
+    back : (clean ≡ true) × (0 < threshold) × (threshold ≤ weight) → decide (Ok tt) (last_rows clean weight threshold) ≡ Ok tt
     back h = all-pass-passed (last_rows clean weight threshold) (h.0, (lt-ltb _ _ h.1, (le-leb _ _ h.2, tt)))
 
 module _ (c : Context) where
@@ -198,7 +197,7 @@ module _ (c : Context) where
   -- where every proof's rows pass, the walk makes every request and weighs the approved
   walk-each : (clean : Bool) (i weight : ℕ) (made : List ℕ) (ps : List ProofReading) → EachPasses c i (length made) ps
       → walk_from c clean i weight made ps
-      ≡ walk_outcome (decide Passed (last_rows clean (weight + slots_weight c.entries (approved i ps)) c.threshold)) (i + length ps) (made ++ requests_of c ps)
+      ≡ walk_outcome (decide (Ok tt) (last_rows clean (weight + slots_weight c.entries (approved i ps)) c.threshold)) (i + length ps) (made ++ requests_of c ps)
   unfolding walk_from requests_of
   walk-each clean i weight made [] pass =
       let a : weight + 0 ≡ weight = omega arith in
@@ -220,18 +219,18 @@ module _ (c : Context) where
   unfolding walk_from requests_of unless_failed
   written clean i weight made [] = (zero, zero-le, omega arith, sym (append-nil made))
   written clean i weight made (p ∷ ps) =
-      go (decide Passed (proof_rows c (length made) p)) (eqb (verdict c i) 2) _
+      go (decide (Ok tt) (proof_rows c (length made) p)) (eqb (verdict c i) 2) _
       (written clean (i + 1) (weight + approved_weight c i p) (made ++ request_of c p) ps)
     where
       go : (k : Check) (b : Bool) (o : WalkOutcome) → Written (i + 1) (made ++ request_of c p) ps o
-          → Written i made (p ∷ ps) (unless_failed k i made (cond b (walk_outcome (Failed VerifierFailure) (i + 1) (made ++ request_of c p)) o))
-      go Passed true o h = (1, omega arith, refl, rw append-nil)
-      go Passed false o h = (suc h.0, suc-le-suc h.1, omega (arith, h.2), h.3 ∙ append_assoc made (request_of c p) (requests_of c (take h.0 ps)))
-      go (Failed e) b o h = (zero, zero-le, omega arith, sym (append-nil made))
+          → Written i made (p ∷ ps) (unless_failed k i made (cond b (walk_outcome (Err VerifierFailure) (i + 1) (made ++ request_of c p)) o))
+      go (Ok _) true o h = (1, omega arith, refl, rw append-nil)
+      go (Ok _) false o h = (suc h.0, suc-le-suc h.1, omega (arith, h.2), h.3 ∙ append_assoc made (request_of c p) (requests_of c (take h.0 ps)))
+      go (Err e) b o h = (zero, zero-le, omega arith, sym (append-nil made))
 
 -- where every proof's rows pass, the walk finds what the approved weight makes of the rows behind the last proof
 each-found : (c : Context) (clean : Bool) (ps : List ProofReading) → EachPasses c 0 0 ps
-    → (walk_from c clean 0 0 [] ps).found ≡ decide Passed (last_rows clean (slots_weight c.entries (approved c 0 ps)) c.threshold)
+    → (walk_from c clean 0 0 [] ps).found ≡ decide (Ok tt) (last_rows clean (slots_weight c.entries (approved c 0 ps)) c.threshold)
 each-found c clean ps pass =
     let z : 0 + slots_weight c.entries (approved c 0 ps) ≡ slots_weight c.entries (approved c 0 ps) = omega arith in
     ap (λ (o : WalkOutcome). o.found) (walk-each c clean 0 0 [] ps pass) ∙ rw z
@@ -246,7 +245,7 @@ walk-zero-or-28 c clean ps = (last-each c clean 0 0 [] ps, back)
 
 -- Passed exactly where nothing follows the proofs, each proof's rows pass, and there is a quorum.
 pub walk-decides : (c : Context) (clean : Bool) (ps : List ProofReading) → Rising 0 (proof_slots ps)
-    → ((walk_from c clean 0 0 [] ps).found ≡ Passed) ↔ ((clean ≡ true) × EachPasses c 0 0 ps × Quorum c ps)
+    → ((walk_from c clean 0 0 [] ps).found ≡ Ok tt) ↔ ((clean ≡ true) × EachPasses c 0 0 ps × Quorum c ps)
 walk-decides c clean ps rises = (there, back)
   where
     approves : EachPasses c 0 0 ps → (s : ℕ) → Memᴰ s (approved c 0 ps) → Approved c ps s
@@ -255,7 +254,7 @@ walk-decides c clean ps rises = (there, back)
         let z : 0 + f.2 ≡ f.2 = omega arith in
         record { in_state = f.0; has_capability = f.1; index = f.2; is_proof = f.3; its_slot = f.4; is_approved = rw z at f.5 }
 
-    there : (walk_from c clean 0 0 [] ps).found ≡ Passed → (clean ≡ true) × EachPasses c 0 0 ps × Quorum c ps
+    there : (walk_from c clean 0 0 [] ps).found ≡ Ok tt → (clean ≡ true) × EachPasses c 0 0 ps × Quorum c ps
     there h =
         let z = (walk-zero-or-28 c clean ps).0 (inl (ap check_number h)) in
         let e = (end-passes clean (slots_weight c.entries (approved c 0 ps)) c.threshold).0 (sym (each-found c clean ps z.1) ∙ h) in
@@ -274,7 +273,7 @@ walk-decides c clean ps rises = (there, back)
         let z : 0 + a.index ≡ a.index = omega arith in
         Memᴰ.cast (sym a.its_slot) (approved-has c 0 ps a.index a.is_proof (rw z a.is_approved))
 
-    back : (clean ≡ true) × EachPasses c 0 0 ps × Quorum c ps → (walk_from c clean 0 0 [] ps).found ≡ Passed
+    back : (clean ≡ true) × EachPasses c 0 0 ps × Quorum c ps → (walk_from c clean 0 0 [] ps).found ≡ Ok tt
     back h =
         let q = h.2 in
         let le = weight-subset c.entries q.set (approved c 0 ps) 0 0 q.is_set (approved-rising c 0 0 ps rises) (member q) in

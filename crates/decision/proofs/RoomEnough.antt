@@ -2,6 +2,7 @@
 -- most 131,072 bytes and 16 proofs, never gives 5. A request has 96 bytes, the proof, which stands in the witness lock, and the aux
 -- of an entry of the current state; the proofs' slots rise, so no entry's aux comes twice.
 -- Assumes nothing.
+use Rattle.std.specs.Prelude.{Err, Ok}
 use mathlib.Core.Path.{◌≡◌, refl}
 use mathlib.Core.Logic.{◌≢◌}
 use mathlib.Core.Bool.{Bool, true, false, cond}
@@ -14,10 +15,8 @@ use borrow.Author.Tests.{leb-true, leb-false, eqb-true, le-leb, lt-leb}
 use Rattle.octets.specs.Lists.{Rising}
 use Rattle.octets.proofs.Arrays.{length-array}
 use Rattle.protocol.specs.Errors.{error_number}
-use Rattle.protocol.specs.Rows.{Row, decide, AllPass, check_number}
+use Rattle.protocol.specs.Rows.{Row, decide, AllPass, check_number, Check}
 use Rattle.protocol.specs.declared.error.ProtocolError.TheVariants.{BufferTooShort, VerifierFailure}
-use Rattle.protocol.specs.declared.check.Check.{Check}
-use Rattle.protocol.specs.declared.check.Check.TheVariants.{Passed, Failed}
 use Rattle.protocol.proofs.AllPass.{passed-all-pass, all-pass-split}
 use Rattle.protocol.proofs.Each.{EachFailing, Refuses, failing-refuses}
 use Rattle.account_state.specs.Fields.{aux_length_of, entry_count_of, entry_length_of, key_length_of, entry_slot_of}
@@ -106,12 +105,12 @@ module _ (c : Context) (d : length c.digest ≡ 32) where
 -- ---- a buffer with room for all requests is not too short
 
 -- where no row that can fail first has the number n, what is found has not
-without-found : (n : ℕ) (rs : List Row) → 0 ≢ n → EachFailing (λ e. error_number e ≢ n) rs → check_number (decide Passed rs) ≢ n
-without-found n rs z w = go (decide Passed rs) (failing-refuses (λ e. error_number e ≢ n) rs w)
+without-found : (n : ℕ) (rs : List Row) → 0 ≢ n → EachFailing (λ e. error_number e ≢ n) rs → check_number (decide (Ok tt) rs) ≢ n
+without-found n rs z w = go (decide (Ok tt) rs) (failing-refuses (λ e. error_number e ≢ n) rs w)
   where
     go : (k : Check) → Refuses (λ e. error_number e ≢ n) k → check_number k ≢ n
-    go Passed h = z
-    go (Failed e) h = h
+    go (Ok _) h = z
+    go (Err e) h = h
 
 -- a request that has room is not refused with 5
 room-kept : (size left : ℕ) → size ≤ left → leb size left ≡ false → error_number BufferTooShort ≢ 5
@@ -120,7 +119,7 @@ room-kept size left h q = absurd (let z = leb-false size left q in omega arith)
 -- so its proof's rows find another number, or nothing
 rows-room : (c : Context) (used : ℕ) (p : ProofReading)
     → request_size (length (entry_for p.slot c.entries).aux) (length p.bytes) ≤ c.room - used
-    → check_number (decide Passed (proof_rows c used p)) ≢ 5
+    → check_number (decide (Ok tt) (proof_rows c used p)) ≢ 5
 unfolding proof_rows authenticator_rows request_limit_rows
 rows-room c used p h =
     let size = request_size (length (entry_for p.slot c.entries).aux) (length p.bytes) in
@@ -131,11 +130,11 @@ rows-room c used p h =
 turn-room : (k : Check) (i : ℕ) (made : List ℕ) (onward : WalkOutcome) → check_number k ≢ 5 → check_number onward.found ≢ 5
     → check_number (unless_failed k i made onward).found ≢ 5
 unfolding unless_failed
-turn-room Passed i made onward k o = o
-turn-room (Failed e) i made onward k o = k
+turn-room (Ok _) i made onward k o = o
+turn-room (Err e) i made onward k o = k
 
 -- what follows the proofs is 22, 28 or nothing
-end-room : (clean : Bool) (weight threshold : ℕ) → check_number (decide Passed (last_rows clean weight threshold)) ≢ 5
+end-room : (clean : Bool) (weight threshold : ℕ) → check_number (decide (Ok tt) (last_rows clean weight threshold)) ≢ 5
 unfolding last_rows
 end-room clean weight threshold =
     without-found 5 (last_rows clean weight threshold) (λ z. omega arith) (λ _ z. omega arith, λ _. (λ _ z. omega arith, λ _. (λ _ z. omega arith, λ _. tt)))
@@ -149,12 +148,12 @@ walk-room c d clean i weight made (p ∷ ps) h =
     let n = length-append (request_of c p) (requests_of c ps) in
     let m = length-append made (request_of c p) in
     let k = request-length c d p in
-    turn-room (decide Passed (proof_rows c (length made) p)) i made _
+    turn-room (decide (Ok tt) (proof_rows c (length made) p)) i made _
     (rows-room c (length made) p (omega arith))
     (go (eqb (verdict c i) 2) _ (walk-room c d clean (i + 1) (weight + approved_weight c i p) (made ++ request_of c p) ps (omega arith)))
   where
     go : (b : Bool) (o : WalkOutcome) → check_number o.found ≢ 5
-        → check_number (cond b (walk_outcome (Failed VerifierFailure) (i + 1) (made ++ request_of c p)) o).found ≢ 5
+        → check_number (cond b (walk_outcome (Err VerifierFailure) (i + 1) (made ++ request_of c p)) o).found ≢ 5
     go true o h = λ z. omega arith
     go false o h = h
 
@@ -165,27 +164,27 @@ module _ (lock : List ℕ) where
   pub listed-few : (n at least : ℕ) → length (proofs_until_fault lock n at least).proofs ≤ n
   unfolding proofs_until_fault
   listed-few zero at least = omega arith
-  listed-few (suc n) at least = go (decide Passed (witness.proof_layout_rows lock at least)) refl (listed-few n _ _)
+  listed-few (suc n) at least = go (decide (Ok tt) (witness.proof_layout_rows lock at least)) refl (listed-few n _ _)
     where
-      go : (k : Check) → decide Passed (witness.proof_layout_rows lock at least) ≡ k → length (ListBehind lock n at least).proofs ≤ n
+      go : (k : Check) → decide (Ok tt) (witness.proof_layout_rows lock at least) ≡ k → length (ListBehind lock n at least).proofs ≤ n
           → length (proofs_until_fault lock (suc n) at least).proofs ≤ suc n
-      go Passed h rest = rw (listed-goes lock n at least h) (omega arith)
-      go (Failed e) h rest = rw (listed-stops lock n at least e h) (omega arith)
+      go (Ok _) h rest = rw (listed-goes lock n at least h) (omega arith)
+      go (Err e) h rest = rw (listed-stops lock n at least e h) (omega arith)
 
   -- their bytes stand in the lock behind the offset where they begin
   pub listed-length : (n at least : ℕ) → proofs_length (proofs_until_fault lock n at least).proofs ≤ length lock - at
   unfolding proofs_until_fault proof_given witness.proof_at
   listed-length zero at least = omega arith
-  listed-length (suc n) at least = go (decide Passed (witness.proof_layout_rows lock at least)) refl (listed-length n _ _)
+  listed-length (suc n) at least = go (decide (Ok tt) (witness.proof_layout_rows lock at least)) refl (listed-length n _ _)
     where
-      go : (k : Check) → decide Passed (witness.proof_layout_rows lock at least) ≡ k
+      go : (k : Check) → decide (Ok tt) (witness.proof_layout_rows lock at least) ≡ k
           → proofs_length (ListBehind lock n at least).proofs ≤ length lock - (at + 8 + proof_length_at lock at)
           → proofs_length (proofs_until_fault lock (suc n) at least).proofs ≤ length lock - at
-      go Passed h rest =
+      go (Ok _) h rest =
           let z = (proof-holds lock at least (passed-all-pass (witness.proof_layout_rows lock at least) h)).inside in
           let t = length-take (proof_length_at lock at) (drop (at + 8) lock) in
           rw (listed-goes lock n at least h) (omega arith)
-      go (Failed e) h rest = rw (listed-stops lock n at least e h) (omega arith)
+      go (Err e) h rest = rw (listed-stops lock n at least e h) (omega arith)
 
 -- the aux of entries whose rows pass stands in their bytes
 entries-aux : (n : ℕ) (e : List ℕ) (least : ℕ) → AllPass (state.entries_rows n e least) → aux_from 0 (entries_of n e) ≤ length e

@@ -1,9 +1,7 @@
 -- 01, main.rs: "Proofs are walked one by one. A fault in the third comes after two requests were made."
-use Rattle.std.specs.Prelude.{ℕ, zero, suc, ◌+◌, Bool, false, cond, List, [], ◌∷◌, ◌++◌, length, drop, eqb, leb, ltb}
-use Rattle.protocol.specs.Rows.{Row, row, decide}
+use Rattle.std.specs.Prelude.{ℕ, zero, suc, ◌+◌, Bool, false, cond, List, [], ◌∷◌, ◌++◌, length, drop, eqb, leb, ltb, Err, Ok}
+use Rattle.protocol.specs.Rows.{Row, row, decide, Check}
 use Rattle.protocol.specs.declared.error.ProtocolError.TheVariants.{InvalidWitness, VerifierFailure, ThresholdUnsatisfied}
-use Rattle.protocol.specs.declared.check.Check.{Check}
-use Rattle.protocol.specs.declared.check.Check.TheVariants.{Passed, Failed}
 use Rattle.account_witness.specs.Fields.{proof_count_of, witness_header_length, proof_slot_at, proof_end_at}
 use Rattle.account_witness.specs.Reading.{ProofReading, proof_of}
 use Rattle.account_witness.specs.Walk as witness
@@ -39,15 +37,15 @@ last_rows clean weight threshold =
 
 -- a refusal ends the walk
 unfoldable pub unless_failed : Check → ℕ → List ℕ → WalkOutcome → WalkOutcome
-unless_failed Passed count made onward = onward
-unless_failed (Failed e) count made onward = walk_outcome (Failed e) count made
+unless_failed (Ok _) count made onward = onward
+unless_failed (Err e) count made onward = walk_outcome (Err e) count made
 
 -- from proof i on, with this approved weight and these bytes made. A verdict of 2 is 31, after its request was made
 unfoldable pub walk_from : Context → Bool → ℕ → ℕ → List ℕ → List ProofReading → WalkOutcome
-walk_from c clean i weight made [] = walk_outcome (decide Passed (last_rows clean weight c.threshold)) i made
+walk_from c clean i weight made [] = walk_outcome (decide (Ok tt) (last_rows clean weight c.threshold)) i made
 walk_from c clean i weight made (p ∷ ps) =
-    unless_failed (decide Passed (proof_rows c (length made) p)) i made
-    (cond (eqb (verdict c i) 2) (walk_outcome (Failed VerifierFailure) (i + 1) (made ++ request_of c p))
+    unless_failed (decide (Ok tt) (proof_rows c (length made) p)) i made
+    (cond (eqb (verdict c i) 2) (walk_outcome (Err VerifierFailure) (i + 1) (made ++ request_of c p))
     (walk_from c clean (i + 1) (weight + approved_weight c i p) (made ++ request_of c p) ps))
 
 -- the proofs of a witness lock up to the first with a faulty layout; clean where there is none and no byte follows the last
@@ -56,13 +54,13 @@ pub record ProofList : Type 0 where
   pub clean : Bool
 
 unfoldable pub unless_faulty : Check → ProofList → ProofList
-unless_faulty Passed ps = ps
-unless_faulty (Failed e) ps = record { proofs = []; clean = false }
+unless_faulty (Ok _) ps = ps
+unless_faulty (Err e) ps = record { proofs = []; clean = false }
 
 unfoldable pub proofs_until_fault : List ℕ → ℕ → ℕ → ℕ → ProofList
 proofs_until_fault lock zero at least = record { proofs = []; clean = eqb at (length lock) }
 proofs_until_fault lock (suc n) at least =
-    unless_faulty (decide Passed (witness.proof_layout_rows lock at least))
+    unless_faulty (decide (Ok tt) (witness.proof_layout_rows lock at least))
     (record {
       proofs = proof_of lock at ∷ (proofs_until_fault lock n (proof_end_at lock at) (proof_slot_at lock at + 1)).proofs;
       clean = (proofs_until_fault lock n (proof_end_at lock at) (proof_slot_at lock at + 1)).clean;

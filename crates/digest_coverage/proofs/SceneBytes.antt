@@ -1,6 +1,9 @@
 -- What a scene is made of is bytes, where a text can say it: its hashed witnesses, its account's state, and the inputs of its sighash
 -- and of its digest.
 -- Assumes nothing.
+use Rattle.std.specs.Prelude.{Err, Ok, Result}
+use Rattle.protocol.specs.declared.error.ProtocolError.{ProtocolError}
+use Rattle.octets.specs.declared.place.Place.{Place}
 use mathlib.Core.Path.{◌≡◌, refl}
 use mathlib.Core.Bool.{true, cond, ◌&&◌}
 use mathlib.Core.List.{List, [], ◌∷◌, ◌++◌}
@@ -21,8 +24,6 @@ use Rattle.blake2b.specs.Rfc7693.{bytes_of, hash_words, hash_of}
 use Rattle.blake2b.specs.State.{ckb_parameters, ckb_hash}
 use Rattle.protocol.specs.Args.{account_of}
 use Rattle.molecule.specs.Bytes.{bytes_in, read_witness_lock, read_script_args}
-use Rattle.molecule.specs.declared.bytes.PlaceAnswer.{PlaceAnswer}
-use Rattle.molecule.specs.declared.bytes.PlaceAnswer.TheVariants.{At, Refused}
 use Rattle.molecule.specs.Canonical.{canonical_of}
 use Rattle.molecule.specs.Molecule.{bytes_vector, table_head, table_bytes}
 use Rattle.molecule.specs.Table3.{second_offset_of, third_offset_of, between, field2, field3}
@@ -75,10 +76,10 @@ unfolding auth_domain bytes_ok every
 domain-bytes = ok-bytes auth_domain refl
 
 -- a part of bytes is, read or not
-part_bytes : (s : List ℕ) (a : PlaceAnswer) → Bytes s → Bytes (bytes_in s a)
+part_bytes : (s : List ℕ) (a : Result Place ProtocolError) → Bytes s → Bytes (bytes_in s a)
 unfolding bytes_in bytes_at
-part_bytes s (At p) b = bytes_take p.len (drop p.start s) (bytes_drop p.start s b)
-part_bytes s (Refused e) b = no_bytes
+part_bytes s (Ok p) b = bytes_take p.len (drop p.start s) (bytes_drop p.start s b)
+part_bytes s (Err e) b = no_bytes
 
 -- the canonical witness
 canonical-bytes : (w : List ℕ) → Bytes w → Bytes (canonical_of w)

@@ -1,6 +1,7 @@
 -- The sizes that the parts of a sighash have in every scene: lent as a table that passes its test and a store, read from a text, or
 -- with a digest that the lock reaches.
 -- Assumes nothing.
+use Rattle.std.specs.Prelude.{Ok}
 use mathlib.Core.Path.{◌≡◌, refl}
 use mathlib.Core.Bool.{Bool, true}
 use mathlib.Core.List.{List}
@@ -13,7 +14,6 @@ use Rattle.octets.specs.Le.{Bytes}
 use Rattle.octets.specs.Lists.{every}
 use Rattle.octets.proofs.Every.{every_more}
 use Rattle.protocol.specs.Rows.{AllPass}
-use Rattle.protocol.specs.declared.check.Check.TheVariants.{Passed}
 use Rattle.molecule.proofs.CanonicalForm.{length-canonical, fields_within}
 use Rattle.scene_reader.specs.Reader.{read_of, reader_check}
 use Rattle.scene_table.specs.Scene.{Scene, scene_bytes}
@@ -62,7 +62,7 @@ pub lent-sizes : (table store : List ℕ) → valid_table table (length store) �
 lent-sizes table store valid bytes short =
     scene-sizes (scene_in table store) (lent-sayable table store valid bytes) (omega (arith, lent-bytes table store valid))
 
-pub text-sizes : (text : List ℕ) (n m : ℕ) → reader_check (read_of text n m) ≡ Passed → (p : LinesAccepted text n)
+pub text-sizes : (text : List ℕ) (n m : ℕ) → reader_check (read_of text n m) ≡ Ok tt → (p : LinesAccepted text n)
     → SighashSizes (sighash_parts (scene_of p.lines))
 text-sizes text n m e p =
     let within = ((reader-accepts text n m).0 e).0 in

@@ -1,12 +1,11 @@
 -- What exported functions answer and store. A reader, a hash or a part: its number, and its bytes at the front of the buffer,
 -- with their length where it is asked for. A writer: its number, and the length that it wrote.
-use Rattle.std.specs.Prelude.{ℕ, cond, List, ◌≡◌, eqb, leb, length}
+use Rattle.std.specs.Prelude.{ℕ, cond, List, ◌≡◌, eqb, leb, length, Err, Ok, Result}
+use Rattle.protocol.specs.declared.error.ProtocolError.{ProtocolError}
 use Rattle.std.proofs.lemmas.List.Edits.{sets}
 use Rattle.protocol.specs.Errors.{error_number}
 use Rattle.protocol.specs.Write.{write_number}
 use Rattle.protocol.specs.declared.error.ProtocolError.TheVariants.{BufferTooShort}
-use Rattle.protocol.specs.declared.check.WriteAnswer.{WriteAnswer}
-use Rattle.protocol.specs.declared.check.WriteAnswer.TheVariants.{Written, Refused}
 
 -- 01, of writers: "then with 5 if the buffer is short; a refused writer writes nothing". So it is of all that is stored: its
 -- own refusal's number, then 5 where the bytes do not fit.
@@ -22,9 +21,9 @@ unfoldable pub stored_length : ℕ → List ℕ → ℕ → ℕ → ℕ
 stored_length number bytes room before = cond (eqb (stored_number number bytes room) 0) (length bytes) before
 
 -- the length that a writer wrote; a refusal leaves what was there
-unfoldable pub length_after : WriteAnswer → ℕ → ℕ
-length_after (Written n) before = n
-length_after (Refused e) before = before
+unfoldable pub length_after : Result ℕ ProtocolError → ℕ → ℕ
+length_after (Ok n) before = n
+length_after (Err e) before = before
 
 -- The whole promise of a function that stores bytes: the number r that it returns, and the buffer, `out` before the call.
 abbrev pub StoresBytes : ℕ → List ℕ → List ℕ → ℕ → List ℕ → Type 0
@@ -37,6 +36,6 @@ StoresPart number bytes out len r after len_after =
     StoresBytes number bytes out r after × (len_after ≡ stored_length number bytes (length out) len)
 
 -- of one that calls a writer, which leaves the buffer so
-abbrev pub Writes : WriteAnswer → List ℕ → ℕ → ℕ → List ℕ → ℕ → Type 0
+abbrev pub Writes : Result ℕ ProtocolError → List ℕ → ℕ → ℕ → List ℕ → ℕ → Type 0
 Writes answer stored len r after len_after =
     (r ≡ write_number answer) × (after ≡ stored) × (len_after ≡ length_after answer len)

@@ -2,14 +2,13 @@
 ghost use Rattle.std.specs.Prelude.{◌≡◌};
 ghost use Rattle.export_answers.specs.Lent.{sizes_fault};
 
-use protocol::{Check, ProtocolError};
+use protocol::{ProtocolError, require};
 
 // Both slices have 32 bytes, or 7.
-pub fn check_sizes(a: &[u8], b: &[u8]) -> Check
+pub fn check_sizes(a: &[u8], b: &[u8]) -> Result<(), ProtocolError>
     ensures { result ≡ sizes_fault a.now b.now }
 {
     let disagree = ProtocolError::SlicesDisagree;
-    Check::Passed
-        .require(a.len() == 32, disagree)
-        .require(b.len() == 32, disagree)
+    require(a.len() == 32, disagree)?;
+    require(b.len() == 32, disagree)
 }

@@ -3,16 +3,16 @@ ghost use Rattle.std.specs.Prelude.{◌≡◌};
 ghost use Rattle.protocol.specs.Write.{write_number};
 ghost use Rattle.export_answers.specs.Stored.{length_after};
 
-use protocol::{WriteAnswer, error_number};
+use protocol::error_number;
 
 // A writer's number; the length that it wrote goes to `len`.
-pub fn written(answer: WriteAnswer, len: &mut usize) -> u32
+pub fn written(answer: Result<usize, ProtocolError>, len: &mut usize) -> u32
     ensures value { result ≡ write_number answer }
     ensures len_after { len.new ≡ length_after answer len.old }
 {
     match answer {
-        WriteAnswer::Refused(error) => error_number(error) as u32,
-        WriteAnswer::Written(n) => {
+        Err(error) => error_number(error) as u32,
+        Ok(n) => {
             *len = n;
             0
         }

@@ -4,7 +4,7 @@ ghost use Rattle.protocol.specs.Rows.{check_number};
 ghost use Rattle.export_answers.specs.Stored.{StoresBytes, StoresPart};
 
 use octets::store_bytes;
-use protocol::{Check, ProtocolError, error_number};
+use protocol::{ProtocolError, error_number};
 
 pub(crate) fn too_short() -> u32
     ensures { result ≡ 5 }
@@ -25,12 +25,12 @@ fn store_front(bytes: &[u8], out: &mut [u8]) -> u32
 }
 
 // The number of what was found; where all passed the hash is stored, or 5.
-pub fn store_hash(found: Check, hash: [u8; 32], out: &mut [u8]) -> u32
+pub fn store_hash(found: Result<(), ProtocolError>, hash: [u8; 32], out: &mut [u8]) -> u32
     ensures { StoresBytes (check_number found) hash out.old result out.new }
 {
     match found {
-        Check::Failed(error) => error_number(error) as u32,
-        Check::Passed => store_front(&hash, out),
+        Err(error) => error_number(error) as u32,
+        Ok(()) => store_front(&hash, out),
     }
 }
 

@@ -1,12 +1,10 @@
 -- What the exported writers answer and leave where they do more than the writer they call, and the promise of each: the
 -- writer's number, the buffer, and in `len` the length that it wrote.
-use Rattle.std.specs.Prelude.{ℕ, List, [], ◌∷◌, length}
+use Rattle.std.specs.Prelude.{ℕ, List, [], ◌∷◌, length, Err, Ok, Result}
+use Rattle.protocol.specs.declared.error.ProtocolError.{ProtocolError}
+use Rattle.protocol.specs.Rows.{Check}
 use Rattle.protocol.specs.Args.{args_bytes}
 use Rattle.protocol.specs.Write.{write_fault, write_answer, after_write}
-use Rattle.protocol.specs.declared.check.Check.{Check}
-use Rattle.protocol.specs.declared.check.Check.TheVariants.{Passed, Failed}
-use Rattle.protocol.specs.declared.check.WriteAnswer.{WriteAnswer}
-use Rattle.protocol.specs.declared.check.WriteAnswer.TheVariants.{Refused}
 use Rattle.export_answers.specs.Lent.{size_row, sizes_fault}
 use Rattle.export_answers.specs.Stored.{Writes}
 use Rattle.account_state_writer.specs.Writer.{state_from, state_written, state_stored}
@@ -20,7 +18,7 @@ use Rattle.verifier_request.specs.Writer.{request_written, request_stored}
 unfoldable pub args_writer_fault : List ℕ → ℕ → Check
 args_writer_fault account room = write_fault (size_row account ∷ []) 33 room
 
-unfoldable pub args_written : List ℕ → List ℕ → WriteAnswer
+unfoldable pub args_written : List ℕ → List ℕ → Result ℕ ProtocolError
 args_written account out = write_answer (args_writer_fault account (length out)) 33
 
 unfoldable pub args_stored : List ℕ → List ℕ → List ℕ
@@ -43,15 +41,15 @@ WritesPublicKeyProof p out len r after len_after =
     Writes (public_key_proof_written p out) (public_key_proof_stored p out) len r after len_after
 
 -- the request: digest and key are tested before the writer's own refusals
-unfoldable pub answer_after : Check → WriteAnswer → WriteAnswer
-answer_after Passed answer = answer
-answer_after (Failed e) answer = Refused e
+unfoldable pub answer_after : Check → Result ℕ ProtocolError → Result ℕ ProtocolError
+answer_after (Ok _) answer = answer
+answer_after (Err e) answer = Err e
 
 unfoldable pub buffer_after : Check → List ℕ → List ℕ → List ℕ
-buffer_after Passed stored out = stored
-buffer_after (Failed e) stored out = out
+buffer_after (Ok _) stored out = stored
+buffer_after (Err e) stored out = out
 
-unfoldable pub lent_written : RequestReading → List ℕ → WriteAnswer
+unfoldable pub lent_written : RequestReading → List ℕ → Result ℕ ProtocolError
 lent_written r out = answer_after (sizes_fault r.digest r.key) (request_written r out)
 
 unfoldable pub lent_stored : RequestReading → List ℕ → List ℕ

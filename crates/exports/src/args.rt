@@ -7,10 +7,7 @@ ghost use Rattle.exports.specs.Writers.{args_writer_fault, args_written, args_st
 
 use export_answers::{store_words, written};
 use octets::{array_32, store_bytes};
-use protocol::{
-    ACCOUNT_LOCK_ARGS_LEN, AccountLockArgs, ArgsAnswer, Check, OperationCapability, ProtocolError,
-    WriteAnswer, account_lock_args, capability_for_operation, error_number, is_supported_algorithm,
-};
+use protocol::{ACCOUNT_LOCK_ARGS_LEN, AccountLockArgs, ProtocolError, account_lock_args, capability_for_operation, error_number, is_supported_algorithm, require};
 
 // Stores the version and the place of the account id.
 #[unsafe(no_mangle)]
@@ -18,8 +15,8 @@ pub extern "C" fn fowlcredenza_parse_args(args: &[u8], out: &mut [u8]) -> u32
     ensures { StoresArgs (read_args args.now) out.old result out.new }
 {
     match AccountLockArgs::parse(args) {
-        ArgsAnswer::Refused(error) => error_number(error) as u32,
-        ArgsAnswer::Args(fields) => {
+        Err(error) => error_number(error) as u32,
+        Ok(fields) => {
             let words = [fields.version as u64, fields.account_id as u64];
             store_words(&words, out)
         }
@@ -44,35 +41,30 @@ pub extern "C" fn fowlcredenza_capability_for_operation(operation: u8, out: &mut
     ensures { StoresCapability (capability_for operation) out.old result out.new }
 {
     match capability_for_operation(operation) {
-        OperationCapability::Refused(error) => error_number(error) as u32,
-        OperationCapability::Capability(bit) => {
+        Err(error) => error_number(error) as u32,
+        Ok(bit) => {
             let words = [bit as u64];
             store_words(&words, out)
         }
     }
 }
 
-fn check_account(account: &[u8], room: usize) -> Check
+fn check_account(account: &[u8], room: usize) -> Result<(), ProtocolError>
     ensures { result ≡ args_writer_fault account.now room }
 {
-    Check::Passed
-        .require(account.len() == 32, ProtocolError::SlicesDisagree)
-        .require(ACCOUNT_LOCK_ARGS_LEN <= room, ProtocolError::BufferTooShort)
+    require(account.len() == 32, ProtocolError::SlicesDisagree)?;
+    require(ACCOUNT_LOCK_ARGS_LEN <= room, ProtocolError::BufferTooShort)
 }
 
 // The args of an account. An account of another length than 32 is 7.
-fn write_args(account: &[u8], out: &mut [u8]) -> WriteAnswer
+fn write_args(account: &[u8], out: &mut [u8]) -> Result<usize, ProtocolError>
     ensures value { result ≡ args_written account.now out.old }
     ensures out_after { out.new ≡ args_stored account.now out.old }
 {
-    match check_account(account, out.len()) {
-        Check::Failed(error) => WriteAnswer::Refused(error),
-        Check::Passed => {
-            let args = account_lock_args(array_32(account));
+    check_account(account, out.len())?;
+    let args = account_lock_args(array_32(account));
             store_bytes(out, 0, &args);
-            WriteAnswer::Written(ACCOUNT_LOCK_ARGS_LEN)
-        }
-    }
+            Ok(ACCOUNT_LOCK_ARGS_LEN)
 }
 
 // Writes the args of an account: 0x01 and the account.

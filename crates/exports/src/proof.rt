@@ -6,7 +6,7 @@ ghost use Rattle.exports.specs.Writers.{WritesPublicKeyProof};
 
 use export_answers::{store_words, written};
 use protocol::error_number;
-use public_key_proof::{PublicKeyProofAnswer, encode_public_key_proof, parse_public_key_proof};
+use public_key_proof::{encode_public_key_proof, parse_public_key_proof};
 
 // Stores place and length of the key and of the signature.
 #[unsafe(no_mangle)]
@@ -14,8 +14,8 @@ pub extern "C" fn fowlcredenza_parse_public_key_proof(proof: &[u8], out: &mut [u
     ensures { StoresPublicKeyProof (read_public_key_proof proof.now) out.old result out.new }
 {
     match parse_public_key_proof(proof) {
-        PublicKeyProofAnswer::Refused(error) => error_number(error) as u32,
-        PublicKeyProofAnswer::Proof(places) => {
+        Err(error) => error_number(error) as u32,
+        Ok(places) => {
             let words = [
                 places.public_key as u64,
                 places.public_key_len as u64,

@@ -7,8 +7,8 @@ ghost use Rattle.exports.specs.Writers.{lent_written, lent_stored, WritesRequest
 
 use export_answers::{check_sizes, store_words, written};
 use octets::array_32;
-use protocol::{Check, WriteAnswer, error_number};
-use verifier_request::{RequestAnswer, encode_verifier_request, parse_verifier_request};
+use protocol::{error_number, ProtocolError};
+use verifier_request::{encode_verifier_request, parse_verifier_request};
 
 // Stores algorithm, slot, operation, profile, the places of digest and key, and place and length of the aux and of the proof.
 #[unsafe(no_mangle)]
@@ -16,8 +16,8 @@ pub extern "C" fn fowlcredenza_parse_verifier_request(request: &[u8], out: &mut 
     ensures { StoresRequest (read_request request.now) out.old result out.new }
 {
     match parse_verifier_request(request) {
-        RequestAnswer::Refused(error) => error_number(error) as u32,
-        RequestAnswer::Request(fields) => {
+        Err(error) => error_number(error) as u32,
+        Ok(fields) => {
             let words = [
                 fields.algorithm_id as u64,
                 fields.slot as u64,
@@ -46,7 +46,7 @@ fn write_request(
     aux: &[u8],
     proof: &[u8],
     out: &mut [u8],
-) -> WriteAnswer
+) -> Result<usize, ProtocolError>
     ensures value { result ≡ lent_written
         (request_with algorithm slot operation profile digest.now key.now aux.now proof.now)
         out.old }
@@ -54,9 +54,8 @@ fn write_request(
         (request_with algorithm slot operation profile digest.now key.now aux.now proof.now)
         out.old }
 {
-    match check_sizes(digest, key) {
-        Check::Failed(error) => WriteAnswer::Refused(error),
-        Check::Passed => encode_verifier_request(
+    check_sizes(digest, key)?;
+    encode_verifier_request(
             algorithm,
             slot,
             operation,
@@ -66,8 +65,7 @@ fn write_request(
             aux,
             proof,
             out,
-        ),
-    }
+        )
 }
 
 // Writes a request. A digest or a key of another length than 32 is 7.

@@ -3,9 +3,7 @@ ghost use Rattle.account_state.specs.State.{read_state_header, read_state, entry
 ghost use Rattle.exports.specs.Readers.{StoresStateHeader, StoresState, StoresEntry};
 ghost use Rattle.exports.specs.Writers.{WritesState};
 
-use account_state::{
-    EntryCursor, EntryStep, StateAnswer, StateHeader, StateHeaderAnswer, next_entry, validate_state,
-};
+use account_state::{EntryCursor, StateHeader, next_entry, validate_state};
 use account_state_writer::encode_state;
 use export_answers::{store_words, written};
 use protocol::error_number;
@@ -16,8 +14,8 @@ pub extern "C" fn fowlcredenza_parse_state_header(state: &[u8], out: &mut [u8]) 
     ensures { StoresStateHeader (read_state_header state.now) out.old result out.new }
 {
     match StateHeader::parse(state) {
-        StateHeaderAnswer::Refused(error) => error_number(error) as u32,
-        StateHeaderAnswer::Header(header) => {
+        Err(error) => error_number(error) as u32,
+        Ok(header) => {
             let words = [
                 header.flags as u64,
                 header.sequence,
@@ -38,8 +36,8 @@ pub extern "C" fn fowlcredenza_validate_state(state: &[u8], out: &mut [u8]) -> u
     ensures { StoresState (read_state state.now) out.old result out.new }
 {
     match validate_state(state) {
-        StateAnswer::Refused(error) => error_number(error) as u32,
-        StateAnswer::Valid(header, summary) => {
+        Err(error) => error_number(error) as u32,
+        Ok((header, summary)) => {
             let words = [
                 header.flags as u64,
                 header.sequence,
@@ -69,8 +67,8 @@ pub extern "C" fn fowlcredenza_next_entry(
     ensures { StoresEntry (entry_step state.now (record { offset = offset; least = least })) out.old result out.new }
 {
     match next_entry(state, EntryCursor { offset, least }) {
-        EntryStep::Refused(error) => error_number(error) as u32,
-        EntryStep::Entry(entry, next) => {
+        Err(error) => error_number(error) as u32,
+        Ok((entry, next)) => {
             let words = [
                 entry.slot as u64,
                 entry.algorithm_id as u64,

@@ -7,10 +7,7 @@ ghost use Rattle.export_answers.specs.Stored.{StoresBytes};
 ghost use Rattle.exports.specs.Readers.{witness_fields, StoresWitnessHeader, StoresProof, StoresWitness};
 ghost use Rattle.exports.specs.Writers.{WritesWitness};
 
-use account_witness::{
-    AccountWitnessHeader, ProofCursor, ProofStep, WitnessAnswer, WitnessHeaderAnswer, next_proof,
-    parse_witness_header, validate_witness,
-};
+use account_witness::{AccountWitnessHeader, ProofCursor, next_proof, parse_witness_header, validate_witness};
 use account_witness_writer::encode_witness;
 use export_answers::{store_words, written};
 use protocol::error_number;
@@ -33,8 +30,8 @@ pub extern "C" fn fowlcredenza_parse_witness_header(witness: &[u8], out: &mut [u
     ensures { StoresWitnessHeader (read_witness_header witness.now) out.old result out.new }
 {
     match parse_witness_header(witness) {
-        WitnessHeaderAnswer::Refused(error) => error_number(error) as u32,
-        WitnessHeaderAnswer::Header(header) => store_witness_header(header, out),
+        Err(error) => error_number(error) as u32,
+        Ok(header) => store_witness_header(header, out),
     }
 }
 
@@ -49,8 +46,8 @@ pub extern "C" fn fowlcredenza_next_proof(
     ensures { StoresProof (proof_step witness.now (record { offset = offset; least = least })) out.old result out.new }
 {
     match next_proof(witness, ProofCursor { offset, least }) {
-        ProofStep::Refused(error) => error_number(error) as u32,
-        ProofStep::Next(proof, next) => {
+        Err(error) => error_number(error) as u32,
+        Ok((proof, next)) => {
             let words = [
                 proof.slot as u64,
                 proof.start as u64,
@@ -69,8 +66,8 @@ pub extern "C" fn fowlcredenza_validate_witness(witness: &[u8], out: &mut [u8]) 
     ensures { StoresWitness (read_witness witness.now) out.old result out.new }
 {
     match validate_witness(witness) {
-        WitnessAnswer::Refused(error) => error_number(error) as u32,
-        WitnessAnswer::Witness(header) => store_witness_header(header, out),
+        Err(error) => error_number(error) as u32,
+        Ok(header) => store_witness_header(header, out),
     }
 }
 

@@ -1,5 +1,8 @@
 -- What is handed out of a request, by what its reader found.
 -- Assumes nothing.
+use Rattle.std.specs.Prelude.{Err, Ok, Result}
+use Rattle.verifier_request.specs.declared.reader.RequestFields.{RequestFields}
+use Rattle.protocol.specs.declared.error.ProtocolError.{ProtocolError}
 use mathlib.Core.Path.{◌≡◌, refl, sym, ap, subst, ◌∙◌}
 use mathlib.Core.List.{List}
 use Prim.Native.Nat.{ℕ, ◌*◌}
@@ -10,8 +13,6 @@ use Rattle.octets.proofs.Stores.{sets_over}
 use Rattle.protocol.proofs.ErrorNumbers.{not-0}
 use Rattle.verifier_request.specs.Reader.{request_number, read_request}
 use Rattle.verifier_request.specs.Reading.{RequestReading, request_reading}
-use Rattle.verifier_request.specs.declared.reader.RequestAnswer.{RequestAnswer}
-use Rattle.verifier_request.specs.declared.reader.RequestAnswer.TheVariants.{Request, Refused}
 use Rattle.held_request.specs.Held.{request_places_of, held_reading}
 use Rattle.held_request.proofs.HeldTheorem.{held-accepts, held-reading}
 use Rattle.export_answers.specs.Words.{word_bytes}
@@ -20,10 +21,10 @@ use Rattle.export_answers.proofs.Table64.{length-words, words-fit}
 use Rattle.export_answers.proofs.Fits.{part-refused}
 
 -- the struct's refusal is the reader's number
-refusal-number : (k : RequestAnswer) → (request_places_of k).refusal ≡ request_number k
+refusal-number : (k : Result RequestFields ProtocolError) → (request_places_of k).refusal ≡ request_number k
 unfolding request_places_of
-refusal-number (Request f) = refl
-refusal-number (Refused e) = refl
+refusal-number (Ok f) = refl
+refusal-number (Err e) = refl
 
 -- of a refusal, whatever the bytes
 other-bytes : (number : ℕ) → (number ≡ 0 → ⊥) → (bytes others out : List ℕ) (len r : ℕ) (after : List ℕ) (len_after : ℕ)
@@ -45,11 +46,11 @@ handed s out len of r after len_after h = by_answer (read_request s) refl
     numbered : StoresPart (request_number (read_request s)) held out len r after len_after
     numbered = subst (λ (n : ℕ). StoresPart n (of (held_reading s (request_places_of (read_request s)))) out len r after len_after) (refusal-number (read_request s)) h
 
-    by_answer : (k : RequestAnswer) → read_request s ≡ k → StoresPart (request_number (read_request s)) (of (request_reading s)) out len r after len_after
-    by_answer (Request f) e =
+    by_answer : (k : Result RequestFields ProtocolError) → read_request s ≡ k → StoresPart (request_number (read_request s)) (of (request_reading s)) out len r after len_after
+    by_answer (Ok f) e =
         let accepted = (held-accepts s).0 (refusal-number (read_request s) ∙ ap request_number e) in
         subst (λ (bytes : List ℕ). StoresPart (request_number (read_request s)) bytes out len r after len_after) (ap of (held-reading s accepted)) numbered
-    by_answer (Refused x) e =
+    by_answer (Err x) e =
         other-bytes (request_number (read_request s)) (λ q. not-0 x (sym (ap request_number e) ∙ q)) held (of (request_reading s)) out len r after len_after numbered
 
 -- words stored where there is room for them and for no more

@@ -9,11 +9,7 @@ ghost use Rattle.held_request.specs.Held.{request_places_of, held_reading};
 ghost use Rattle.exports_request.specs.Parts.{number_words, StoresNumbers, StoresField};
 
 use export_answers::{store_part, store_words};
-use held_request::{
-    request_algorithm_id_of, request_authorization_digest_of, request_aux_of, request_key_id_of,
-    request_operation_of, request_proof_of, request_refusal_of, request_slot_of,
-    request_verifier_profile_of,
-};
+use held_request::{request_algorithm_id_of, request_authorization_digest_of, request_aux_of, request_key_id_of, request_operation_of, request_proof_of, request_refusal_of, request_slot_of, request_verifier_profile_of};
 
 // The request's four numbers, as 64-bit words.
 fn number_words(request: &[u8]) -> [u8; 32]

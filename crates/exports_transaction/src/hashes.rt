@@ -6,7 +6,7 @@ use authorization::{AuthorizationDigest, authorization_digest};
 use export_answers::{check_sizes, store_hash};
 use group_sighash::{Sighash, canonical_group_sighash};
 use octets::array_32;
-use protocol::{Check, ProtocolError};
+use protocol::ProtocolError;
 use scene_table::table_valid;
 
 // The digest over an account and a sighash that are lent as slices. One of another length than 32 is 7.
@@ -20,14 +20,14 @@ fn digest_lent(
     ensures { result ≡ lent_digest operation account.now sequence state.now sighash.now }
 {
     match check_sizes(account, sighash) {
-        Check::Failed(error) => {
+        Err(error) => {
             let none = [0u8; 32];
             AuthorizationDigest {
-                found: Check::Failed(error),
+                found: Err(error),
                 digest: none,
             }
         }
-        Check::Passed => authorization_digest(
+        Ok(()) => authorization_digest(
             operation,
             array_32(account),
             sequence,
@@ -65,7 +65,7 @@ fn sighash_lent(table: &[u32], store: &[u8]) -> Sighash
     } else {
         let none = [0u8; 32];
         Sighash {
-            found: Check::Failed(ProtocolError::SlicesDisagree),
+            found: Err(ProtocolError::SlicesDisagree),
             hash: none,
         }
     }

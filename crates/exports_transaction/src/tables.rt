@@ -3,16 +3,16 @@ ghost use Rattle.molecule.specs.Bytes.{read_witness_lock, read_script_args};
 ghost use Rattle.exports_transaction.specs.Answers.{StoresPlace, WritesCanonical};
 
 use export_answers::{store_words, written};
-use molecule::{PlaceAnswer, canonical_witness, script_args, witness_lock};
+use molecule::{canonical_witness, script_args, witness_lock};
 use protocol::error_number;
 
 // A place's number; its start and length are stored.
-fn place_stored(answer: PlaceAnswer, out: &mut [u8]) -> u32
+fn place_stored(answer: Result<Place, ProtocolError>, out: &mut [u8]) -> u32
     ensures { StoresPlace answer out.old result out.new }
 {
     match answer {
-        PlaceAnswer::Refused(error) => error_number(error) as u32,
-        PlaceAnswer::At(place) => {
+        Err(error) => error_number(error) as u32,
+        Ok(place) => {
             let words = [place.start as u64, place.len as u64];
             store_words(&words, out)
         }

@@ -1,5 +1,6 @@
 -- The rows of the group's first witness, read as empty where it is missing: they find what they find behind the row for a missing one.
 -- Assumes nothing.
+use Rattle.std.specs.Prelude.{Err, Ok}
 use mathlib.Core.Path.{◌≡◌, sym, ◌∙◌}
 use mathlib.Core.List.{List, [], ◌∷◌, ◌++◌}
 use Prim.Native.Nat.{ℕ}
@@ -10,7 +11,6 @@ use native.Mathlib.Omega.{arith}
 use Rattle.protocol.specs.Rows.{Row, row, decide, ◌▷◌}
 use Rattle.protocol.proofs.AllPass.{decide-failed}
 use Rattle.protocol.specs.declared.error.ProtocolError.TheVariants.{InvalidWitness}
-use Rattle.protocol.specs.declared.check.Check.TheVariants.{Passed, Failed}
 use Rattle.molecule.specs.Table3.{table_rows}
 use Rattle.molecule.specs.Bytes.{witness_lock_rows}
 use Rattle.scene_table.specs.Scene.{Scene}
@@ -18,25 +18,25 @@ use Rattle.group_sighash.specs.Witnesses.{group_of, head_of, first_witness, witn
 use Rattle.group_sighash.specs.GroupSighash.{sighash_rows}
 
 -- rows that refuse an empty witness with 22 need no row for a missing one
-missing-row : (rows : List ℕ → List Row) → decide Passed (rows []) ≡ Failed InvalidWitness → (ws : List (List ℕ))
-    → decide Passed (row (leb 1 (length ws)) InvalidWitness ∷ rows (head_of ws)) ≡ decide Passed (rows (head_of ws))
+missing-row : (rows : List ℕ → List Row) → decide (Ok tt) (rows []) ≡ Err InvalidWitness → (ws : List (List ℕ))
+    → decide (Ok tt) (row (leb 1 (length ws)) InvalidWitness ∷ rows (head_of ws)) ≡ decide (Ok tt) (rows (head_of ws))
 unfolding head_of decide ◌▷◌
 missing-row rows h [] = decide-failed (rows []) InvalidWitness ∙ sym h
 missing-row rows h (w ∷ ws) = rw (le-leb 1 (length (w ∷ ws)) (omega arith))
 
-empty-first : decide Passed (first_witness_rows []) ≡ Failed InvalidWitness
+empty-first : decide (Ok tt) (first_witness_rows []) ≡ Err InvalidWitness
 unfolding first_witness_rows witness_lock_rows table_rows decide ◌▷◌
 empty-first = decide-failed (drop 2 (first_witness_rows [])) InvalidWitness
 
-pub group-first : (s : Scene) → decide Passed (first_witness_rows (first_witness s)) ≡ decide Passed (group_rows s)
+pub group-first : (s : Scene) → decide (Ok tt) (first_witness_rows (first_witness s)) ≡ decide (Ok tt) (group_rows s)
 unfolding group_rows first_witness
 group-first s = sym (missing-row first_witness_rows empty-first (group_of s))
 
-empty-hashed : (s : Scene) → decide Passed (row (witness_fits []) InvalidWitness ∷ (table_rows InvalidWitness [] ++ other_rows s)) ≡ Failed InvalidWitness
+empty-hashed : (s : Scene) → decide (Ok tt) (row (witness_fits []) InvalidWitness ∷ (table_rows InvalidWitness [] ++ other_rows s)) ≡ Err InvalidWitness
 unfolding witness_fits table_rows decide ◌▷◌
 empty-hashed s = decide-failed (other_rows s) InvalidWitness
 
 pub sighash-first : (s : Scene)
-    → decide Passed (row (witness_fits (first_witness s)) InvalidWitness ∷ (table_rows InvalidWitness (first_witness s) ++ other_rows s)) ≡ decide Passed (sighash_rows s)
+    → decide (Ok tt) (row (witness_fits (first_witness s)) InvalidWitness ∷ (table_rows InvalidWitness (first_witness s) ++ other_rows s)) ≡ decide (Ok tt) (sighash_rows s)
 unfolding sighash_rows first_witness
 sighash-first s = sym (missing-row (λ w. row (witness_fits w) InvalidWitness ∷ (table_rows InvalidWitness w ++ other_rows s)) (empty-hashed s) (group_of s))

@@ -1,5 +1,6 @@
 -- The hashed witnesses, one by one.
 -- Assumes nothing.
+use Rattle.std.specs.Prelude.{Err, Ok}
 use mathlib.Core.Path.{◌≡◌, refl, sym, ap, ◌∙◌}
 use mathlib.Core.Bool.{Bool, true, false, cond, true≢false}
 use mathlib.Core.List.{List, [], ◌∷◌, ◌++◌}
@@ -15,7 +16,6 @@ use Rattle.blake2b.specs.State.{fed_all}
 use Rattle.blake2b.proofs.Feed.{fed-append}
 use Rattle.protocol.specs.Rows.{decide, ◌▷◌}
 use Rattle.protocol.specs.declared.error.ProtocolError.TheVariants.{InvalidWitness}
-use Rattle.protocol.specs.declared.check.Check.TheVariants.{Passed, Failed}
 use Rattle.authorization.specs.Hashed.{hashed_witness}
 use Rattle.authorization.specs.Sighash.{hashed_witnesses}
 use Rattle.scene_table.specs.Scene.{Input, Scene}
@@ -210,11 +210,11 @@ unfolding every
 fits-none = refl
 
 module _ (s : Scene) where
-  pub others-pass : every witness_fits (other_witnesses s) ≡ true → decide Passed (other_rows s) ≡ Passed
+  pub others-pass : every witness_fits (other_witnesses s) ≡ true → decide (Ok tt) (other_rows s) ≡ Ok tt
   unfolding other_rows decide ◌▷◌
   others-pass e = rw e
 
-  pub others-fail : every witness_fits (other_witnesses s) ≡ false → decide Passed (other_rows s) ≡ Failed InvalidWitness
+  pub others-fail : every witness_fits (other_witnesses s) ≡ false → decide (Ok tt) (other_rows s) ≡ Err InvalidWitness
   unfolding other_rows decide ◌▷◌
   others-fail e = rw e
 

@@ -1,10 +1,8 @@
 -- 01, main.rs: "Sighash input: transaction hash; canonical first group witness; other group witnesses; witnesses whose index is
 -- at least the number of inputs." The sighash of a scene, and what its function answers.
-use Rattle.std.specs.Prelude.{ℕ, List, ◌∷◌, ◌++◌, length, replicate, leb}
-use Rattle.protocol.specs.Rows.{Row, row, decide}
+use Rattle.std.specs.Prelude.{ℕ, List, ◌∷◌, ◌++◌, length, replicate, leb, Err, Ok}
+use Rattle.protocol.specs.Rows.{Row, row, decide, Check}
 use Rattle.protocol.specs.declared.error.ProtocolError.TheVariants.{InvalidWitness}
-use Rattle.protocol.specs.declared.check.Check.{Check}
-use Rattle.protocol.specs.declared.check.Check.TheVariants.{Passed, Failed}
 use Rattle.molecule.specs.Table3.{table_rows}
 use Rattle.authorization.specs.Sighash.{sighash_of}
 use Rattle.scene_table.specs.Scene.{Scene}
@@ -28,8 +26,8 @@ sighash_rows s =
 
 -- a sighash, or a refusal beside 32 zeros
 unfoldable pub sighash_found : Check → List ℕ → Sighash
-sighash_found Passed hash = record { found = Passed; hash = hash }
-sighash_found (Failed e) hash = record { found = Failed e; hash = replicate 32 0 }
+sighash_found (Ok _) hash = record { found = (Ok tt); hash = hash }
+sighash_found (Err e) hash = record { found = Err e; hash = replicate 32 0 }
 
 unfoldable pub group_answer : Scene → Sighash
-group_answer s = sighash_found (decide Passed (sighash_rows s)) (group_sighash s)
+group_answer s = sighash_found (decide (Ok tt) (sighash_rows s)) (group_sighash s)

@@ -11,13 +11,13 @@ use crate::witnesses::{check_hashed, first_witness};
 use authorization::{feed_canonical_witness, feed_witness};
 use blake2b::Blake2b;
 use octets::part_at;
-use protocol::Check;
+use protocol::ProtocolError;
 use scene_table::{transaction_hash, witness_count};
 
 // What was found, and the hash: zeros where a witness is refused.
 #[derive(Drop)]
 pub struct Sighash {
-    pub found: Check,
+    pub found: Result<(), ProtocolError>,
     pub hash: [u8; 32],
 }
 
@@ -52,17 +52,17 @@ pub fn canonical_group_sighash(table: &[u32], store: &[u8]) -> Sighash
 {
     let first = first_witness(table, store);
     match check_hashed(table, store, first) {
-        Check::Failed(error) => {
+        Err(error) => {
             let none = [0u8; 32];
             Sighash {
-                found: Check::Failed(error),
+                found: Err(error),
                 hash: none,
             }
         }
-        Check::Passed => {
+        Ok(()) => {
             let hash = sighash_with(table, store, first);
             Sighash {
-                found: Check::Passed,
+                found: Ok(()),
                 hash: hash,
             }
         }

@@ -1,5 +1,5 @@
 // The witness of the group's first input, and the checks of the hashed witnesses.
-ghost use Rattle.std.specs.Prelude.{◌≡◌};
+ghost use Rattle.std.specs.Prelude.{◌≡◌, Ok};
 ghost use Rattle.protocol.specs.Rows.{decide};
 ghost use Rattle.scene_table.specs.Lent.{scene_in};
 ghost use Rattle.group_sighash.specs.Witnesses.{first_witness, first_witness_rows, other_rows};
@@ -9,7 +9,7 @@ use crate::hashed::{first_other, is_input, next_hashed, witness_at};
 use account_witness::{check_witness_header, proof_count_of};
 use molecule::{check_table, check_witness_lock, lock_of};
 use octets::part;
-use protocol::{AUTHENTICATOR_MAX_COUNT, Check, ProtocolError};
+use protocol::{AUTHENTICATOR_MAX_COUNT, ProtocolError, require};
 use scene_table::witness_count;
 
 const MAX_WITNESS: usize = 132096;
@@ -28,43 +28,39 @@ pub fn first_witness<'a>(table: &[u32], store: &'a [u8]) -> &'a [u8]
 
 // The rows of the group's first witness. A missing one is read as empty, and the table's first row refuses it with the same
 // number as the row for a missing one.
-pub fn check_first_witness(witness: &[u8]) -> Check
-    ensures { result ≡ decide Check.Passed (first_witness_rows witness.now) }
+pub fn check_first_witness(witness: &[u8]) -> Result<(), ProtocolError>
+    ensures { result ≡ decide (Ok tt) (first_witness_rows witness.now) }
 {
     let invalid = ProtocolError::InvalidWitness;
     let lock = lock_of(witness);
-    Check::Passed
-        .require(witness.len() <= MAX_WITNESS, invalid)
-        .and(check_witness_lock(witness))
-        .and(check_witness_header(lock))
-        .require(
-            proof_count_of(lock) as usize <= AUTHENTICATOR_MAX_COUNT,
-            invalid,
-        )
+    require(witness.len() <= MAX_WITNESS, invalid)?;
+    check_witness_lock(witness)?;
+    check_witness_header(lock)?;
+    require(proof_count_of(lock) as usize <= AUTHENTICATOR_MAX_COUNT,
+            invalid)
 }
 
-pub fn check_others(table: &[u32], store: &[u8]) -> Check
-    ensures { result ≡ decide Check.Passed (other_rows (scene_in table.now store.now)) }
+pub fn check_others(table: &[u32], store: &[u8]) -> Result<(), ProtocolError>
+    ensures { result ≡ decide (Ok tt) (other_rows (scene_in table.now store.now)) }
 {
     let count = witness_count(table);
     let mut i = next_hashed(table, first_other(table));
     while i < count {
         if MAX_WITNESS < witness_at(table, store, i).len() {
-            return Check::Failed(ProtocolError::InvalidWitness);
+            return Err(ProtocolError::InvalidWitness);
         }
         i = next_hashed(table, i + 1);
     }
-    Check::Passed
+    Ok(())
 }
 
 // The witnesses that are hashed, as the sighash needs them; the first is tested as above.
-pub(crate) fn check_hashed(table: &[u32], store: &[u8], first: &[u8]) -> Check
+pub(crate) fn check_hashed(table: &[u32], store: &[u8], first: &[u8]) -> Result<(), ProtocolError>
     requires { first.now ≡ first_witness (scene_in table.now store.now) }
-    ensures { result ≡ decide Check.Passed (sighash_rows (scene_in table.now store.now)) }
+    ensures { result ≡ decide (Ok tt) (sighash_rows (scene_in table.now store.now)) }
 {
     let invalid = ProtocolError::InvalidWitness;
-    Check::Passed
-        .require(first.len() <= MAX_WITNESS, invalid)
-        .and(check_table(first, invalid))
-        .and(check_others(table, store))
+    require(first.len() <= MAX_WITNESS, invalid)?;
+    check_table(first, invalid)?;
+    check_others(table, store)
 }

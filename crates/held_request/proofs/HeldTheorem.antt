@@ -1,6 +1,8 @@
 -- A request that holds its bytes: it is not refused exactly where every check passes, and then what its functions hand out,
 -- together, is the one reading of the bytes, which the writer writes back. And what `is_for` decides.
 -- Assumes nothing.
+use Rattle.std.specs.Prelude.{Err, Ok, Result}
+use Rattle.protocol.specs.declared.error.ProtocolError.{ProtocolError}
 use mathlib.Core.Path.{◌≡◌, refl, sym, ap, ◌∙◌}
 use mathlib.Core.Bool.{true, and-eq-true_iff}
 use mathlib.Core.List.{List}
@@ -12,14 +14,10 @@ use Rattle.octets.specs.Le.{Bytes}
 use Rattle.octets.specs.Lists.{same}
 use Rattle.octets.specs.Places.{bytes_at}
 use Rattle.octets.proofs.Same.{same-eq, eq-same}
-use Rattle.protocol.specs.Rows.{AllPass, check_number}
+use Rattle.protocol.specs.Rows.{AllPass, check_number, Check}
 use Rattle.protocol.specs.Reading.{OneReading, WritesBack}
-use Rattle.protocol.specs.declared.check.Check.{Check}
-use Rattle.protocol.specs.declared.check.Check.TheVariants.{Passed, Failed}
 use Rattle.protocol.proofs.ErrorNumbers.{not-0}
 use Rattle.verifier_request.specs.declared.reader.RequestFields.{RequestFields}
-use Rattle.verifier_request.specs.declared.reader.RequestAnswer.{RequestAnswer}
-use Rattle.verifier_request.specs.declared.reader.RequestAnswer.TheVariants.{Request, Refused}
 use Rattle.verifier_request.specs.Reader.{request_rows, request_fault, request_fields_of, request_answer, read_request}
 use Rattle.verifier_request.specs.Reading.{RequestReading, RequestTyped, request_given, request_reading, request_bytes}
 use Rattle.verifier_request.specs.Writer.{request_written, request_stored}
@@ -32,15 +30,15 @@ abbrev found : List ℕ → RequestPlaces
 found s = request_places_of (read_request s)
 
 -- the functions hand out what the fields of the answer say
-held-given : (s : List ℕ) (f : RequestFields) → read_request s ≡ Request f → held_reading s (found s) ≡ request_given s f
+held-given : (s : List ℕ) (f : RequestFields) → read_request s ≡ Ok f → held_reading s (found s) ≡ request_given s f
 unfolding request_places_of held_reading bytes_at request_given
 held-given s f e = rw e
 
 -- an answer that is not refused has fields
-accepted : (s : List ℕ) (a : RequestAnswer) → read_request s ≡ a → (request_places_of a).refusal ≡ 0 → read_request s ≡ Request (request_fields_of s)
+accepted : (s : List ℕ) (a : Result RequestFields ProtocolError) → read_request s ≡ a → (request_places_of a).refusal ≡ 0 → read_request s ≡ Ok (request_fields_of s)
 unfolding request_places_of
-accepted s (Request f) e z = (request-accepts s).1 (request-given s f e).0
-accepted s (Refused x) e z = absurd (not-0 x z)
+accepted s (Ok f) e z = (request-accepts s).1 (request-given s f e).0
+accepted s (Err x) e z = absurd (not-0 x z)
 
 -- not refused exactly where every check passes
 pub held-accepts : (s : List ℕ) → ((found s).refusal ≡ 0) ↔ AllPass (request_rows s)
@@ -53,8 +51,8 @@ unfolding request_places_of read_request request_answer
 held-refusal s = by-check (request_fault s)
   where
     by-check : (k : Check) → (request_places_of (request_answer k (request_fields_of s))).refusal ≡ check_number k
-    by-check Passed = refl
-    by-check (Failed e) = refl
+    by-check (Ok _) = refl
+    by-check (Err e) = refl
 
 -- The theorem: what the functions hand out is the one reading, and writing it gives the same bytes or 5.
 pub held-theorem : (s : List ℕ) → Bytes s → (found s).refusal ≡ 0

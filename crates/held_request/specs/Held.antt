@@ -1,14 +1,13 @@
 -- 01, From these files: "`VerifierRequest` holds slices: places by value first; then its reader keeps the request's bytes in
 -- the struct it hands out." What that struct has: the request's bytes, and what was read in them.
-use Rattle.std.specs.Prelude.{ℕ, Bool, ◌&&◌, List, eqb}
+use Rattle.std.specs.Prelude.{ℕ, Bool, ◌&&◌, List, eqb, Err, Ok, Result}
+use Rattle.protocol.specs.declared.error.ProtocolError.{ProtocolError}
 use Rattle.std.specs.Borrow.{Bor}
 use Rattle.octets.specs.declared.place.Place.{Place}
 use Rattle.octets.specs.Lists.{same}
 use Rattle.octets.specs.Places.{bytes_at}
 use Rattle.protocol.specs.Errors.{error_number}
 use Rattle.verifier_request.specs.declared.reader.RequestFields.{RequestFields}
-use Rattle.verifier_request.specs.declared.reader.RequestAnswer.{RequestAnswer}
-use Rattle.verifier_request.specs.declared.reader.RequestAnswer.TheVariants.{Request, Refused}
 use Rattle.verifier_request.specs.Reader.{read_request}
 use Rattle.verifier_request.specs.Reading.{RequestReading, request_with}
 use Rattle.held_request.specs.declared.places.RequestPlaces.{RequestPlaces}
@@ -47,9 +46,9 @@ refused_places number =
       proof = nowhere;
     }
 
-unfoldable pub request_places_of : RequestAnswer → RequestPlaces
-request_places_of (Request f) = read_places f
-request_places_of (Refused e) = refused_places (error_number e)
+unfoldable pub request_places_of : Result RequestFields ProtocolError → RequestPlaces
+request_places_of (Ok f) = read_places f
+request_places_of (Err e) = refused_places (error_number e)
 
 -- the struct that the reader hands out for these bytes
 abbrev pub parsed : Bor (List ℕ) → VerifierRequest

@@ -5,7 +5,7 @@ ghost use Rattle.held_request.specs.Held.{refused_places, read_places, request_p
 
 use octets::Place;
 use protocol::error_number;
-use verifier_request::{RequestAnswer, RequestFields, parse_verifier_request};
+use verifier_request::{RequestFields, parse_verifier_request};
 
 // `refusal` is 0, or the refusal's number; then all else is 0 and the places are empty.
 #[derive(Drop)]
@@ -71,7 +71,7 @@ pub fn read_places(request: &[u8]) -> RequestPlaces
     ensures { result ≡ request_places_of (read_request request.now) }
 {
     match parse_verifier_request(request) {
-        RequestAnswer::Refused(error) => refused_places(error_number(error)),
-        RequestAnswer::Request(fields) => places_at(fields),
+        Err(error) => refused_places(error_number(error)),
+        Ok(fields) => places_at(fields),
     }
 }

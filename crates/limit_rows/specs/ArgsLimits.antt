@@ -1,15 +1,13 @@
 -- Args, operations and capability bits, computed from the definitions.
-use Rattle.std.specs.Prelude.{ℕ, ◌+◌, ◌≡◌, List, [], ◌∷◌, map, length}
+use Rattle.std.specs.Prelude.{ℕ, ◌+◌, ◌≡◌, List, [], ◌∷◌, map, length, Ok}
 use Rattle.octets.specs.Lists.{tabulate}
 use Rattle.protocol.specs.Rows.{decide, check_number}
 use Rattle.protocol.specs.Args.{read_args, args_number, account_of}
 use Rattle.protocol.specs.Policy.{operation_rows, capability_for, capability_number}
-use Rattle.protocol.specs.declared.check.Check.TheVariants.{Passed}
-use Rattle.protocol.specs.declared.policy.OperationCapability.TheVariants.{Capability}
 
 -- the numbers of an operation in a writer, and of its capability
 abbrev operation_number : ℕ → ℕ
-operation_number o = check_number (decide Passed (operation_rows o))
+operation_number o = check_number (decide (Ok tt) (operation_rows o))
 
 abbrev needed_number : ℕ → ℕ
 needed_number o = capability_number (capability_for o)
@@ -23,7 +21,7 @@ pub record ArgsLimits : Type 0 where
   -- "Operation outside 1 to 3 is 37 in them."
   pub operations : map operation_number (0 ∷ 1 ∷ 2 ∷ 3 ∷ 4 ∷ []) ≡ 37 ∷ 0 ∷ 0 ∷ 0 ∷ 37 ∷ []
   -- "Capability bits 1, 2, 4, 8: spend, rotate, recovery, session issue."
-  pub spend : capability_for 1 ≡ Capability 1
-  pub rotate : capability_for 2 ≡ Capability 2
-  pub recovery : capability_for 3 ≡ Capability 4
+  pub spend : capability_for 1 ≡ Ok 1
+  pub rotate : capability_for 2 ≡ Ok 2
+  pub recovery : capability_for 3 ≡ Ok 4
   pub others : map needed_number (0 ∷ 4 ∷ []) ≡ 37 ∷ 37 ∷ []

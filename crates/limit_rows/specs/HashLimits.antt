@@ -1,8 +1,7 @@
 -- CKB's hash and what the sighash and the digest are made of: 01, main.rs, 02, change 1, computed from the definitions.
-use Rattle.std.specs.Prelude.{ℕ, ◌+◌, ◌≡◌, List, [], ◌∷◌, ◌++◌, replicate}
+use Rattle.std.specs.Prelude.{ℕ, ◌+◌, ◌≡◌, List, [], ◌∷◌, ◌++◌, replicate, Ok}
 use Rattle.octets.specs.Lists.{tabulate}
 use Rattle.protocol.specs.Rows.{decide, check_number}
-use Rattle.protocol.specs.declared.check.Check.TheVariants.{Passed}
 use Rattle.blake2b.specs.State.{ckb_hash}
 use Rattle.authorization.specs.Digest.{digest_input}
 use Rattle.authorization.specs.Sighash.{sighash_input}
@@ -17,7 +16,7 @@ empty_hash =
 -- a cell's rows, by its type script and its data, where each of its hashes is that of no bytes
 abbrev cell_number : List ℕ → List ℕ → ℕ
 cell_number script content =
-    check_number (decide Passed (cell_hash_rows (record { type_hash = empty_hash; data_hash = empty_hash; type_script = script; content = content })))
+    check_number (decide (Ok _) (cell_hash_rows (record { type_hash = empty_hash; data_hash = empty_hash; type_script = script; content = content })))
 
 pub record HashLimits : Type 0 where
   pub ckb-empty : ckb_hash [] ≡ empty_hash

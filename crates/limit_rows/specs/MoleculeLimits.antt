@@ -1,20 +1,18 @@
 -- Molecule tables: 01, main.rs, `table3_fields`, the lock of a witness, the args of a script, computed from the definitions.
-use Rattle.std.specs.Prelude.{ℕ, ◌+◌, ◌≡◌, List, [], ◌∷◌, ◌++◌, map, length}
+use Rattle.std.specs.Prelude.{ℕ, ◌+◌, ◌≡◌, List, [], ◌∷◌, ◌++◌, map, length, Ok}
 use Rattle.octets.specs.Le.{to_le}
 use Rattle.protocol.specs.Rows.{decide, check_number}
 use Rattle.protocol.specs.declared.error.ProtocolError.TheVariants.{InvalidWitness}
-use Rattle.protocol.specs.declared.check.Check.TheVariants.{Passed}
 use Rattle.molecule.specs.Table3.{table_rows, read_table, field1, field2, field3}
 use Rattle.molecule.specs.Bytes.{read_witness_lock, read_script_args, bytes_in, place_number}
 use Rattle.molecule.specs.Canonical.{canonical_of}
-use Rattle.molecule.specs.declared.table.TableAnswer.TheVariants.{Fields}
 
 -- a table: its total, its three offsets, and the bytes behind them
 unfoldable pub table_with : ℕ → ℕ → ℕ → ℕ → List ℕ → List ℕ
 table_with total first second third rest = to_le 4 total ++ to_le 4 first ++ to_le 4 second ++ to_le 4 third ++ rest
 
 abbrev table_number : List ℕ → ℕ
-table_number s = check_number (decide Passed (table_rows InvalidWitness s))
+table_number s = check_number (decide (Ok tt) (table_rows InvalidWitness s))
 
 -- by the first offset, before four bytes, and by the second and the third
 abbrev by_first : ℕ → ℕ
@@ -45,7 +43,7 @@ pub record MoleculeLimits : Type 0 where
   -- "the first offset is 16, offsets don't fall or pass the length"
   pub first : map by_first (12 ∷ 16 ∷ 20 ∷ []) ≡ 22 ∷ 0 ∷ 22 ∷ []
   pub offsets : by_offsets 15 16 ∷ by_offsets 16 16 ∷ by_offsets 18 17 ∷ by_offsets 20 20 ∷ by_offsets 20 21 ∷ [] ≡ 22 ∷ 0 ∷ 22 ∷ 0 ∷ 22 ∷ []
-  pub places : read_table three_fields ≡ Fields (record { first = 16; second = 21; third = 27 })
+  pub places : read_table three_fields ≡ Ok (record { first = 16; second = 21; third = 27 })
   pub fields : field1 three_fields ∷ field2 three_fields ∷ field3 three_fields ∷ [] ≡ (1 ∷ 0 ∷ 0 ∷ 0 ∷ 7 ∷ []) ∷ (2 ∷ 0 ∷ 0 ∷ 0 ∷ 8 ∷ 9 ∷ []) ∷ (3 ∷ 0 ∷ 0 ∷ 0 ∷ 10 ∷ 11 ∷ 12 ∷ []) ∷ []
   -- "A witness's lock is field 1 and a script's args are field 3, each a Bytes: u32 length, then exactly so many bytes."
   pub lock : bytes_in three_fields (read_witness_lock three_fields) ≡ 7 ∷ []

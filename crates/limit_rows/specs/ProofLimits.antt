@@ -1,10 +1,9 @@
 -- The witnesses, a proof's rows, the last rows of the walk and the totals: 01, "Where each refusal is raised", 02, changes 6 and 9,
 -- computed from the definitions.
-use Rattle.std.specs.Prelude.{ℕ, ◌+◌, ◌-◌, ◌^◌, ◌≡◌, Bool, true, false, List, [], ◌∷◌, ◌++◌, map, length, replicate}
+use Rattle.std.specs.Prelude.{ℕ, ◌+◌, ◌-◌, ◌^◌, ◌≡◌, Bool, true, false, List, [], ◌∷◌, ◌++◌, map, length, replicate, Ok}
 use Rattle.octets.specs.Le.{to_le}
 use Rattle.octets.specs.Lists.{tabulate}
 use Rattle.protocol.specs.Rows.{decide, check_number}
-use Rattle.protocol.specs.declared.check.Check.TheVariants.{Passed}
 use Rattle.account_state.specs.Reading.{EntryReading}
 use Rattle.account_witness.specs.Reading.{ProofReading}
 use Rattle.scene_table.specs.Scene.{Cell, Scene}
@@ -22,7 +21,7 @@ use Rattle.limit_rows.specs.MoleculeLimits.{table_with}
 -- a witness whose lock is 16 bytes with no proof, by its total and what follows its lock
 abbrev first_number : ℕ → List ℕ → ℕ
 first_number total rest =
-    check_number (decide Passed (first_witness_rows (table_with total 16 36 36 (to_le 4 16 ++ witness_front 87 1 1 0 0 ++ rest))))
+    check_number (decide (Ok tt) (first_witness_rows (table_with total 16 36 36 (to_le 4 16 ++ witness_front 87 1 1 0 0 ++ rest))))
 
 -- inputs with these GROUPs, and six witnesses
 abbrev group_scene : List ℕ → Scene
@@ -39,7 +38,7 @@ group_scene groups =
 
 -- a proof's limits, by the lengths of aux, proof and what is left of the answer buffer
 abbrev limit_number : ℕ → ℕ → ℕ → ℕ
-limit_number aux proof left = check_number (decide Passed (request_limit_rows aux proof left))
+limit_number aux proof left = check_number (decide (Ok tt) (request_limit_rows aux proof left))
 
 -- an entry with these capabilities whose verifier is named by this hash type, and cells with a type hash of 1 and a data hash of 2
 abbrev entry_naming : ℕ → ℕ → List ℕ → EntryReading
@@ -51,14 +50,14 @@ dep_cell = record { type_hash = 1 ∷ []; data_hash = 2 ∷ []; type_script = []
 
 -- an operation's proof of one byte, by the entry's capabilities, and by its verifier
 abbrev by_capability : ℕ → ℕ → ℕ
-by_capability operation capabilities = check_number (decide Passed (authenticator_rows operation (dep_cell ∷ []) (entry_naming capabilities 1 (1 ∷ [])) 1 98))
+by_capability operation capabilities = check_number (decide (Ok tt) (authenticator_rows operation (dep_cell ∷ []) (entry_naming capabilities 1 (1 ∷ [])) 1 98))
 
 abbrev by_verifier : List Cell → ℕ → ℕ → ℕ
-by_verifier deps hash_type hash = check_number (decide Passed (authenticator_rows 1 deps (entry_naming 1 hash_type (hash ∷ [])) 1 98))
+by_verifier deps hash_type hash = check_number (decide (Ok tt) (authenticator_rows 1 deps (entry_naming 1 hash_type (hash ∷ [])) 1 98))
 
 -- behind the last proof, by the approved weight and the threshold
 abbrev last_number : Bool → ℕ → ℕ → ℕ
-last_number clean weight threshold = check_number (decide Passed (last_rows clean weight threshold))
+last_number clean weight threshold = check_number (decide (Ok tt) (last_rows clean weight threshold))
 
 -- a spend over two entries, at slot 1 of weight 3 and at slot 0x0706 of weight 4, by its digits and its threshold
 abbrev walked_entry : ℕ → ℕ → EntryReading
@@ -84,7 +83,7 @@ abbrev walk_number : List ℕ → ℕ → ℕ
 walk_number digits threshold = check_number (walk_from (walked_context digits threshold) true 0 0 [] (proof_at 1 ∷ proof_at 0x0706 ∷ [])).found
 
 abbrev totals_number : ℕ → ℕ → ℕ
-totals_number inputs outputs = check_number (decide Passed (total_rows inputs outputs))
+totals_number inputs outputs = check_number (decide (Ok tt) (total_rows inputs outputs))
 
 pub record ProofLimits : Type 0 where
   -- "first group witness .. above 132,096", 22; "another hashed witness above 132,096", 22
@@ -115,7 +114,7 @@ pub record ProofLimits : Type 0 where
   -- "0 approved, 1 refused, 2 failed": "verdict 2", 31; "approved weight below threshold", 28; "slot unknown", 22
   pub approved : walk_number (0 ∷ 0 ∷ []) 7 ∷ walk_number (0 ∷ 0 ∷ []) 8 ∷ walk_number (0 ∷ 1 ∷ []) 3 ∷ walk_number (0 ∷ 1 ∷ []) 4 ∷ [] ≡ 0 ∷ 28 ∷ 0 ∷ 28 ∷ []
   pub failed : walk_number (0 ∷ 2 ∷ []) 1 ∷ walk_number (0 ∷ []) 1 ∷ [] ≡ 31 ∷ 31 ∷ []
-  pub unknown : check_number (decide Passed (proof_rows (walked_context [] 1) 0 (proof_at 2))) ≡ 22
+  pub unknown : check_number (decide (Ok tt) (proof_rows (walked_context [] 1) 0 (proof_at 2))) ≡ 22
   -- the request of a proof: its profile is the first byte of aux
   pub request : request_of (walked_context [] 1) (proof_at 0x0706) ≡
       (67 ∷ 75 ∷ 86 ∷ 82 ∷ 1 ∷ 0 ∷ 96 ∷ 0 ∷ 4 ∷ 5 ∷ 6 ∷ 7 ∷ 1 ∷ 73 ∷ 0 ∷ 0 ∷ []) ++ tabulate (λ i. i + 9) 64

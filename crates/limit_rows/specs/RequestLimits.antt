@@ -1,9 +1,8 @@
 -- The request and the public-key proof: 01, "Request" and "Public-key proof", computed from the definitions.
-use Rattle.std.specs.Prelude.{ℕ, ◌+◌, ◌≡◌, List, [], ◌∷◌, ◌++◌, map, length, replicate}
+use Rattle.std.specs.Prelude.{ℕ, ◌+◌, ◌≡◌, List, [], ◌∷◌, ◌++◌, map, length, replicate, Ok}
 use Rattle.octets.specs.Le.{to_le}
 use Rattle.octets.specs.Lists.{tabulate}
 use Rattle.protocol.specs.Rows.{decide, check_number}
-use Rattle.protocol.specs.declared.check.Check.TheVariants.{Passed}
 use Rattle.verifier_request.specs.Reader.{read_request, request_number}
 use Rattle.verifier_request.specs.Reading.{request_reading}
 use Rattle.verifier_request.specs.Writer.{request_writer_limit_rows}
@@ -51,7 +50,7 @@ by_zeros zero14 zero15 zero88 zero95 = read_number (request_front 82 1 0 96 1 ze
 
 -- the request's writer, by operation and the lengths of aux and proof
 abbrev writer_number : ℕ → ℕ → ℕ → ℕ
-writer_number operation aux proof = check_number (decide Passed (request_writer_limit_rows operation aux proof))
+writer_number operation aux proof = check_number (decide (Ok tt) (request_writer_limit_rows operation aux proof))
 
 -- a request whose bytes differ, so that each field is read at its place
 unfoldable pub request_places : List ℕ
@@ -66,7 +65,7 @@ abbrev key_proof_number : List ℕ → ℕ
 key_proof_number s = public_key_proof_number (read_public_key_proof s)
 
 abbrev key_writer_number : List ℕ → List ℕ → ℕ
-key_writer_number key signature = check_number (decide Passed (public_key_proof_writer_rows (public_key_proof_with key signature)))
+key_writer_number key signature = check_number (decide (Ok tt) (public_key_proof_writer_rows (public_key_proof_with key signature)))
 
 pub record RequestLimits : Type 0 where
   -- "length 96 to 69,728 (35)"; "The reader takes an empty aux."

@@ -1,9 +1,7 @@
 -- The scene: 01, "The scene, added by the port" and the reader's rows, 02, change 9, computed from the definitions. Bytes are ASCII.
-use Rattle.std.specs.Prelude.{ℕ, ◌-◌, ◌^◌, ◌≡◌, true, false, List, [], ◌∷◌, ◌++◌, map, length, replicate}
+use Rattle.std.specs.Prelude.{ℕ, ◌-◌, ◌^◌, ◌≡◌, true, false, List, [], ◌∷◌, ◌++◌, map, length, replicate, None, Ok, Some}
 use Rattle.protocol.specs.Rows.{decide, check_number}
-use Rattle.protocol.specs.declared.check.Check.TheVariants.{Passed}
 use Rattle.text.specs.Text.{pieces, line_end, is_hex, hex_bytes, decimal_of}
-use Rattle.text.specs.declared.decimal.Decimal.TheVariants.{Value, Invalid}
 use Rattle.scene_line.specs.declared.form.Form.TheVariants as form
 use Rattle.scene_line.specs.declared.kind.Kind.{Kind}
 use Rattle.scene_line.specs.declared.kind.Kind.TheVariants as kind
@@ -47,16 +45,16 @@ every_scene =
 
 -- the reader's own rows, by the length of the table
 abbrev limit_number : List ℕ → ℕ → ℕ
-limit_number scene entries = check_number (decide Passed (scene_limit_rows scene entries))
+limit_number scene entries = check_number (decide (Ok tt) (scene_limit_rows scene entries))
 
 -- a line of a kind without a field, by how many lines of that kind came before it
 abbrev line_number : Kind → ℕ → ℕ
-line_number k seen = check_number (decide Passed (line_rows (record { last = rank k; seen = seen; used = 0; filled = 8; store = []; table = [] }) k []))
+line_number k seen = check_number (decide (Ok tt) (line_rows (record { last = rank k; seen = seen; used = 0; filled = 8; store = []; table = [] }) k []))
 
 -- a dep line behind the tx line, by its TYPEHASH and its TYPESCRIPT, with a store of 65 bytes
 abbrev dep_number : List ℕ → List ℕ → ℕ
 dep_number type_hash type_script =
-    check_number (decide Passed (line_rows (record { last = 2; seen = 1; used = 0; filled = 8; store = replicate 65 0; table = [] }) kind.Dep (type_hash ∷ replicate 64 48 ∷ type_script ∷ [] ∷ [])))
+    check_number (decide (Ok _) (line_rows (record { last = 2; seen = 1; used = 0; filled = 8; store = replicate 65 0; table = [] }) kind.Dep (type_hash ∷ replicate 64 48 ∷ type_script ∷ [] ∷ [])))
 
 -- the kind of a line of this word, behind the tx line, with n fields
 abbrev kind_with : List ℕ → ℕ → Kind
@@ -95,9 +93,9 @@ pub record SceneLimits : Type 0 where
   pub digits : map is_hex (47 ∷ 48 ∷ 57 ∷ 58 ∷ 65 ∷ 96 ∷ 97 ∷ 102 ∷ 103 ∷ []) ≡ false ∷ true ∷ true ∷ false ∷ false ∷ false ∷ true ∷ true ∷ false ∷ []
   pub bytes : hex_bytes (48 ∷ 57 ∷ 97 ∷ 102 ∷ []) ≡ 0x09 ∷ 0xaf ∷ []
   -- "SINCE is a decimal u64 without leading zeros, zero being `0`.": 2^64 - 1 and 2^64; `0`, `00`, `01` and nothing
-  pub largest : decimal_of (49 ∷ 56 ∷ 52 ∷ 52 ∷ 54 ∷ 55 ∷ 52 ∷ 52 ∷ 48 ∷ 55 ∷ 51 ∷ 55 ∷ 48 ∷ 57 ∷ 53 ∷ 53 ∷ 49 ∷ 54 ∷ 49 ∷ 53 ∷ []) ≡ Value (2 ^ 64 - 1)
-  pub too_large : decimal_of (49 ∷ 56 ∷ 52 ∷ 52 ∷ 54 ∷ 55 ∷ 52 ∷ 52 ∷ 48 ∷ 55 ∷ 51 ∷ 55 ∷ 48 ∷ 57 ∷ 53 ∷ 53 ∷ 49 ∷ 54 ∷ 49 ∷ 54 ∷ []) ≡ Invalid
-  pub zeros : map decimal_of ((48 ∷ []) ∷ (48 ∷ 48 ∷ []) ∷ (48 ∷ 49 ∷ []) ∷ [] ∷ []) ≡ Value 0 ∷ Invalid ∷ Invalid ∷ Invalid ∷ []
+  pub largest : decimal_of (49 ∷ 56 ∷ 52 ∷ 52 ∷ 54 ∷ 55 ∷ 52 ∷ 52 ∷ 48 ∷ 55 ∷ 51 ∷ 55 ∷ 48 ∷ 57 ∷ 53 ∷ 53 ∷ 49 ∷ 54 ∷ 49 ∷ 53 ∷ []) ≡ Some (2 ^ 64 - 1)
+  pub too_large : decimal_of (49 ∷ 56 ∷ 52 ∷ 52 ∷ 54 ∷ 55 ∷ 52 ∷ 52 ∷ 48 ∷ 55 ∷ 51 ∷ 55 ∷ 48 ∷ 57 ∷ 53 ∷ 53 ∷ 49 ∷ 54 ∷ 49 ∷ 54 ∷ []) ≡ None
+  pub zeros : map decimal_of ((48 ∷ []) ∷ (48 ∷ 48 ∷ []) ∷ (48 ∷ 49 ∷ []) ∷ [] ∷ []) ≡ Some 0 ∷ None ∷ None ∷ None ∷ []
   -- "Text lines ended by byte 10, fields parted by commas .. in this order of kinds"; a store of 233 bytes holds these lines, a shorter one is 6
   pub every-read : check_number (reader_check (read_of every_kind 233 2048)) ≡ 0
   pub store-short : check_number (reader_check (read_of every_kind 232 2048)) ≡ 6

@@ -1,14 +1,13 @@
 -- Waiting periods: 02, change 4, and the bits of CKB's RFC 0017, computed from the definitions.
-use Rattle.std.specs.Prelude.{ℕ, ◌+◌, ◌*◌, ◌^◌, ◌≡◌, [], ◌∷◌, map, replicate}
+use Rattle.std.specs.Prelude.{ℕ, ◌+◌, ◌*◌, ◌^◌, ◌≡◌, [], ◌∷◌, map, replicate, Ok}
 use Rattle.protocol.specs.Rows.{decide, check_number}
-use Rattle.protocol.specs.declared.check.Check.TheVariants.{Passed}
 use Rattle.since.specs.Epoch.{epoch_of}
 use Rattle.since.specs.Since.{since_fields}
 use Rattle.state_transition.specs.Transition.{wait_rows}
 
 -- the rows of a wait, by the state's recovery_since and the input's since
 abbrev wait_number : ℕ → ℕ → ℕ
-wait_number wait since = check_number (decide Passed (wait_rows wait since))
+wait_number wait since = check_number (decide (Ok tt) (wait_rows wait since))
 
 -- an absolute since of a metric, and one in epochs: number, index, length
 abbrev in_metric : ℕ → ℕ → ℕ

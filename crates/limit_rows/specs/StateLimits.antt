@@ -1,10 +1,9 @@
 -- The account state: 01, "State header" and "Each entry", 02, changes 6 and 10, computed from the definitions.
-use Rattle.std.specs.Prelude.{ℕ, ◌+◌, ◌≡◌, List, [], ◌∷◌, ◌++◌, map, length, replicate}
+use Rattle.std.specs.Prelude.{ℕ, ◌+◌, ◌≡◌, List, [], ◌∷◌, ◌++◌, map, length, replicate, Ok}
 use Rattle.octets.specs.Le.{to_le}
 use Rattle.octets.specs.Lists.{tabulate}
 use Rattle.account_state.specs.Reading.{entry_of, entries_of}
 use Rattle.account_state.specs.State.{read_state_header, read_state, state_header_number, state_number}
-use Rattle.account_state.specs.declared.header.StateHeaderAnswer.TheVariants.{Header}
 
 -- a header of 32 bytes, `CKA` and a letter: version, flags, header length, spend, rotate and recovery thresholds, count, byte 23,
 -- recovery_since
@@ -154,7 +153,7 @@ pub record StateLimits : Type 0 where
   pub byte-behind : by_entry (entry_with 81 0 0x0001 0x0003 1 0 1 32 1 ++ (0 ∷ [])) ≡ 21
   -- "`CKAS`, version 1, flags, length 32 (u16), sequence (u64), spend, rotate and recovery thresholds (u16 each), count, 0,
   -- recovery_since (u64)"
-  pub header-places : read_state_header head_places ≡ Header (record { flags = 3; sequence = 0x0807060504030201; spend_threshold = 0x0a09; rotate_threshold = 0x0c0b; recovery_threshold = 0x0e0d; authenticator_count = 2; recovery_since = 0x161514131211100f })
+  pub header-places : read_state_header head_places ≡ Ok (record { flags = 3; sequence = 0x0807060504030201; spend_threshold = 0x0a09; rotate_threshold = 0x0c0b; recovery_threshold = 0x0e0d; authenticator_count = 2; recovery_since = 0x161514131211100f })
   -- "entry length, slot, algorithm, capabilities, weight (u16 each), hash type, ABI (one byte each), code hash (32 bytes), key length,
   -- aux length (u16 each), key, aux"
   pub entry-places : entry_of entry_places ≡ record { slot = 0x201f; algorithm = 0x2221; capabilities = 0x2423; weight = 0x2625; hash_type = 39; abi = 40; code_hash = tabulate (λ i. i + 41) 32; key = tabulate (λ i. i + 73) 32; aux = 105 ∷ 106 ∷ 107 ∷ [] }

@@ -1,8 +1,7 @@
 -- The account's cells and states in a transaction: 01, "Where each refusal is raised", 02, change 10, computed from the definitions.
-use Rattle.std.specs.Prelude.{ℕ, ◌-◌, ◌^◌, ◌≡◌, List, [], ◌∷◌, ◌++◌, map, length, replicate}
+use Rattle.std.specs.Prelude.{ℕ, ◌-◌, ◌^◌, ◌≡◌, List, [], ◌∷◌, ◌++◌, map, length, replicate, Ok}
 use Rattle.octets.specs.Le.{to_le}
 use Rattle.protocol.specs.Rows.{decide, check_number}
-use Rattle.protocol.specs.declared.check.Check.TheVariants.{Passed}
 use Rattle.scene_table.specs.Scene.{Cell, Scene}
 use Rattle.state_transition.specs.Resolve.{type_rows, resolve_rows, current_state, successor_state, state_since}
 use Rattle.state_transition.specs.Transition.{data_rows, transition_rows}
@@ -25,7 +24,7 @@ plain_at sequence = state_at 0 sequence 0 0 0x0003
 -- the rows of the current state and its successor, by operation, witness sequence and the input's since
 abbrev transition_number : ℕ → ℕ → ℕ → List ℕ → List ℕ → ℕ
 transition_number operation sequence since current successor =
-    check_number (decide Passed (transition_rows operation sequence since current successor))
+    check_number (decide (Ok tt) (transition_rows operation sequence since current successor))
 
 -- a spend by the witness sequence, where the state's is 5; a rotation from one sequence to another
 abbrev by_sequence : ℕ → ℕ
@@ -44,10 +43,10 @@ by_recovery flags recovery wait since = transition_number 3 5 since (state_at fl
 
 -- the rows on type scripts and on data
 abbrev type_number : List ℕ → List ℕ → ℕ
-type_number input output = check_number (decide Passed (type_rows input output))
+type_number input output = check_number (decide (Ok tt) (type_rows input output))
 
 abbrev data_number : List ℕ → List ℕ → ℕ
-data_number current successor = check_number (decide Passed (data_rows current successor))
+data_number current successor = check_number (decide (Ok tt) (data_rows current successor))
 
 -- a scene with cells of these type hashes, and the number of the search for the account's state there
 abbrev cell_named : List ℕ → Cell
@@ -66,7 +65,7 @@ scene_with inputs outputs deps =
     }
 
 abbrev found : ℕ → List (List ℕ) → List (List ℕ) → List (List ℕ) → ℕ
-found operation inputs outputs deps = check_number (decide Passed (resolve_rows operation (7 ∷ []) (scene_with inputs outputs deps)))
+found operation inputs outputs deps = check_number (decide (Ok tt) (resolve_rows operation (7 ∷ []) (scene_with inputs outputs deps)))
 
 -- the account's id, and another hash
 abbrev account_id : List ℕ

@@ -1,9 +1,8 @@
 -- The writers of states and of witness locks over their lent slices, as docs/LAYOUTS.md has them, computed from the definitions.
-use Rattle.std.specs.Prelude.{ℕ, ◌+◌, ◌≡◌, List, [], ◌∷◌, ◌++◌, map, length, replicate}
+use Rattle.std.specs.Prelude.{ℕ, ◌+◌, ◌≡◌, List, [], ◌∷◌, ◌++◌, map, length, replicate, Ok}
 use Rattle.octets.specs.Lists.{tabulate}
 use Rattle.protocol.specs.Rows.{decide, check_number}
 use Rattle.protocol.specs.Write.{write_number}
-use Rattle.protocol.specs.declared.check.Check.TheVariants.{Passed}
 use Rattle.account_state_writer.specs.Writer.{slice_rows, state_from, state_written, state_stored}
 use Rattle.account_witness_writer.specs.Writer.{witness_writer_rows, witness_written, witness_stored}
 
@@ -34,14 +33,14 @@ state_writer_number flags capabilities aux room =
 
 -- what its slices say, of one entry with an aux of n bytes
 abbrev slices_number : ℕ → List ℕ → ℕ
-slices_number n bytes = check_number (decide Passed (slice_rows (0 ∷ 1 ∷ 3 ∷ 1 ∷ n ∷ []) bytes))
+slices_number n bytes = check_number (decide (Ok tt) (slice_rows (0 ∷ 1 ∷ 3 ∷ 1 ∷ n ∷ []) bytes))
 
 -- the witness writer's number for n proofs of one byte, and a buffer of `room` bytes
 abbrev witness_writer_number : ℕ → ℕ → ℕ → ℕ
 witness_writer_number operation n room = write_number (witness_written operation (tabulate (λ i. i) n) (replicate n 1) (replicate n 0) (replicate room 0))
 
 abbrev long_number : ℕ → List ℕ → ℕ
-long_number n bytes = check_number (decide Passed (witness_writer_rows 1 (0 ∷ []) (n ∷ []) bytes))
+long_number n bytes = check_number (decide (Ok tt) (witness_writer_rows 1 (0 ∷ []) (n ∷ []) bytes))
 
 pub record WriterLimits : Type 0 where
   -- the slices of a state, and the state that is written of them, with the byte behind it as it was

@@ -2,6 +2,7 @@
 -- the sighash, itself CKB's hash of the transaction hash and the hashed witnesses; so wherever the lock reaches it, with any table
 -- and store, also where a later row refuses.
 -- Assumes nothing.
+use Rattle.std.specs.Prelude.{Err, Ok}
 use mathlib.Core.Path.{◌≡◌, refl, sym, ap, ◌∙◌}
 use mathlib.Core.Bool.{Bool, true, false, cond, true≢false}
 use mathlib.Core.List.{List}
@@ -10,11 +11,9 @@ use native.Mathlib.Omega.{arith}
 use lib.Dec.{leb}
 use lib.ListN.{length, drop, length-take}
 use Rattle.blake2b.specs.State.{ckb_hash}
-use Rattle.protocol.specs.Rows.{AllPass, decide}
+use Rattle.protocol.specs.Rows.{AllPass, decide, Check}
 use Rattle.protocol.proofs.AllPass.{passed-all-pass, all-pass-passed}
 use Rattle.protocol.specs.declared.error.ProtocolError.TheVariants.{SlicesDisagree}
-use Rattle.protocol.specs.declared.check.Check.{Check}
-use Rattle.protocol.specs.declared.check.Check.TheVariants.{Passed, Failed}
 use Rattle.molecule.specs.Canonical.{canonical_of}
 use Rattle.authorization.specs.Digest.{digest_of, digest_input}
 use Rattle.authorization.specs.Sighash.{sighash_input}
@@ -59,10 +58,10 @@ unfolding scene_in scene_from transaction_place bytes_at
 short-transaction table store = let n = length-take 32 (drop (table_entry table 10) store) in omega arith
 
 -- only a walk reaches the digest
-reached-walk : (k : Check) (w : Result) → (or_walked k w).reached ≡ true → k ≡ Passed
+reached-walk : (k : Check) (w : Result) → (or_walked k w).reached ≡ true → k ≡ Ok tt
 unfolding or_walked refused
-reached-walk Passed w e = refl
-reached-walk (Failed x) w e = absurd (true≢false (sym e))
+reached-walk (Ok _) w e = refl
+reached-walk (Err x) w e = absurd (true≢false (sym e))
 
 module _ (table store : List ℕ) (room : ℕ) where
   -- where the table is valid and every row before the proofs' passes, the lock's result is the walk's
@@ -78,11 +77,11 @@ module _ (table store : List ℕ) (room : ℕ) where
   reached-early = go (valid_table table (length store)) refl
     where
       go : (b : Bool) → valid_table table (length store) ≡ b
-          → (cond b (lock_scene (scene_in table store) room) (refused (Failed SlicesDisagree))).reached ≡ true
+          → (cond b (lock_scene (scene_in table store) room) (refused (Err SlicesDisagree))).reached ≡ true
           → (valid_table table (length store) ≡ true) × AllPass (early_rows (scene_in table store))
       go true v e =
           let s = scene_in table store in
-          (v, passed-all-pass (early_rows s) (reached-walk (decide Passed (early_rows s)) (walk_result s room) e))
+          (v, passed-all-pass (early_rows s) (reached-walk (decide (Ok tt) (early_rows s)) (walk_result s room) e))
       go false v e = absurd (true≢false (sym e))
 
   -- where the lock reached its digest, whatever it answers, the digest is CKB's hash of document 01's input

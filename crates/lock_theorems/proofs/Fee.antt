@@ -1,17 +1,16 @@
 -- 02, change 9: an accepted transaction's inputs are worth its outputs and the fee, a refused one has no fee, and where the lock gives
 -- 39 and 48.
 -- Assumes nothing.
+use Rattle.std.specs.Prelude.{Err, Ok}
 use mathlib.Core.Path.{◌≡◌, refl, sym, ap, ◌∙◌}
 use mathlib.Core.Logic.{◌↔◌, ◌⊎◌, inl, inr}
 use mathlib.Core.Bool.{Bool, true, false, cond}
 use mathlib.Core.List.{List}
 use Prim.Native.Nat.{ℕ, ◌+◌, ◌-◌}
 use lib.ListN.{length}
-use Rattle.protocol.specs.Rows.{decide, check_number}
+use Rattle.protocol.specs.Rows.{decide, check_number, Check}
 use Rattle.protocol.specs.declared.error.ProtocolError.{ProtocolError}
 use Rattle.protocol.specs.declared.error.ProtocolError.TheVariants.{SlicesDisagree}
-use Rattle.protocol.specs.declared.check.Check.{Check}
-use Rattle.protocol.specs.declared.check.Check.TheVariants.{Passed, Failed}
 use Rattle.protocol.proofs.AllPass.{failed-passed}
 use Rattle.scene_table.specs.Scene.{Scene}
 use Rattle.scene_table.specs.Lent.{scene_in}
@@ -30,10 +29,10 @@ use Rattle.lock_theorems.proofs.Unsatisfied.{lock-last, quorum-found, quorum-or-
 
 -- the fee of a result is its scene's where it accepts, else 0
 record FeeGiven (s : Scene) (r : Result) : Type 0 where
-  accepted : r.found ≡ Passed → r.fee ≡ input_total s - output_total s
-  refused : (e : ProtocolError) → r.found ≡ Failed e → r.fee ≡ 0
+  accepted : r.found ≡ Ok tt → r.fee ≡ input_total s - output_total s
+  refused : (e : ProtocolError) → r.found ≡ Err e → r.fee ≡ 0
 
-refused-given : (s : Scene) (e : ProtocolError) → FeeGiven s (refused (Failed e))
+refused-given : (s : Scene) (e : ProtocolError) → FeeGiven s (refused (Err e))
 unfolding refused
 refused-given s e = record { accepted = λ h. failed-passed e h; refused = λ x h. refl }
 
@@ -43,8 +42,8 @@ walked-given s room = record { accepted = λ h. rw h; refused = λ e h. rw h }
 
 or-given : (s : Scene) (k : Check) (w : Result) → FeeGiven s w → FeeGiven s (or_walked k w)
 unfolding or_walked
-or-given s Passed w g = g
-or-given s (Failed e) w g = refused-given s e
+or-given s (Ok _) w g = g
+or-given s (Err e) w g = refused-given s e
 
 module _ (table store : List ℕ) (room : ℕ) where
   lock-given : FeeGiven (scene_in table store) (lock_of table store room)
@@ -54,12 +53,12 @@ module _ (table store : List ℕ) (room : ℕ) where
       s : Scene
       s = scene_in table store
 
-      go : (b : Bool) → FeeGiven s (cond b (lock_scene s room) (refused (Failed SlicesDisagree)))
-      go true = or-given s (decide Passed (early_rows s)) (walk_result s room) (walked-given s room)
+      go : (b : Bool) → FeeGiven s (cond b (lock_scene s room) (refused (Err SlicesDisagree)))
+      go true = or-given s (decide (Ok tt) (early_rows s)) (walk_result s room) (walked-given s room)
       go false = refused-given s SlicesDisagree
 
   -- where the lock accepts, the capacity of all inputs is that of all outputs and the fee, as whole numbers
-  pub result-balance : (lock_of table store room).found ≡ Passed
+  pub result-balance : (lock_of table store room).found ≡ Ok tt
       → input_total (scene_in table store) ≡ output_total (scene_in table store) + (lock_of table store room).fee
   result-balance e =
       let totals = ((lock-decision table store room).0 e).2 in
@@ -69,13 +68,13 @@ module _ (table store : List ℕ) (room : ℕ) where
 
   -- a number of the totals is given where a quorum stands
   totals-stand : (n : ℕ) → one_of totals_numbers n ≡ true → check_number (lock_of table store room).found ≡ n
-      → QuorumStands table store room × (check_number (decide Passed (capacity_rows (scene_in table store))) ≡ n)
+      → QuorumStands table store room × (check_number (decide (Ok tt) (capacity_rows (scene_in table store))) ≡ n)
   totals-stand n o h =
       let pass = (lock-last table store room).0 (one-of-member last_numbers (check_number (lock_of table store room).found) (rw h (one-of-within totals_numbers last_numbers n refl o))) in
       go pass (quorum-or-none table store room pass)
     where
       go : EarlierPass table store room → LockQuorum table store room ⊎ ¬ LockQuorum table store room
-          → QuorumStands table store room × (check_number (decide Passed (capacity_rows (scene_in table store))) ≡ n)
+          → QuorumStands table store room × (check_number (decide (Ok tt) (capacity_rows (scene_in table store))) ≡ n)
       go pass (inl q) = ((pass, q), rw (quorum-found table store room pass q) at h)
       go pass (inr x) = absurd (not-one-of totals_numbers n 28 o refl (sym h ∙ (lock-unsatisfied table store room).1 (pass, x)))
 
@@ -105,9 +104,9 @@ module _ (table store before : List ℕ) (r : LockAnswer) (o : LockOutcome table
   fee-given = ap (λ (a : LockAnswer). a.fee) o
 
   -- that of an acceptance balances
-  pub fee-balance : r.found ≡ Passed → input_total (scene_in table store) ≡ output_total (scene_in table store) + r.fee
+  pub fee-balance : r.found ≡ Ok tt → input_total (scene_in table store) ≡ output_total (scene_in table store) + r.fee
   fee-balance h = rw fee-given (result-balance table store (length before) (found-given ∙ h))
 
   -- and a refusal has none
-  pub fee-none : (e : ProtocolError) → r.found ≡ Failed e → r.fee ≡ 0
+  pub fee-none : (e : ProtocolError) → r.found ≡ Err e → r.fee ≡ 0
   fee-none e h = fee-given ∙ (lock-given table store (length before)).refused e (found-given ∙ h)

@@ -1,5 +1,6 @@
 -- The lock gives 40 exactly where the table passes its test and a cell's hash differs.
 -- Assumes nothing.
+use Rattle.std.specs.Prelude.{Err, Ok}
 use mathlib.Core.Path.{◌≡◌, refl}
 use mathlib.Core.Logic.{◌≢◌, ◌↔◌}
 use mathlib.Core.Bool.{true}
@@ -8,9 +9,7 @@ use mathlib.Core.List.{List, []}
 use Prim.Native.Nat.{ℕ}
 use native.Mathlib.Omega.{arith}
 use lib.ListN.{length}
-use Rattle.protocol.specs.Rows.{AllPass, decide, check_number}
-use Rattle.protocol.specs.declared.check.Check.{Check}
-use Rattle.protocol.specs.declared.check.Check.TheVariants.{Passed, Failed}
+use Rattle.protocol.specs.Rows.{AllPass, decide, check_number, Check}
 use Rattle.protocol.proofs.AllPass.{passed-all-pass, all-pass-passed}
 use Rattle.protocol.proofs.Each.{Refuses}
 use Rattle.protocol.proofs.GivenNumber.{given-between}
@@ -25,21 +24,21 @@ use Rattle.lock_theorems.proofs.OwnNumber.{lock-own}
 
 module _ (s : Scene) where
   -- the rows of the hashes give 40 or nothing
-  hashes-40 : (check_number (decide Passed (hash_rows s)) ≡ 40) ↔ ¬ AllPass (hash_rows s)
-  hashes-40 = (λ q h. differ q (all-pass-passed (hash_rows s) h), back (decide Passed (hash_rows s)) refl (given-refuses (hashes-give s)))
+  hashes-40 : (check_number (decide (Ok tt) (hash_rows s)) ≡ 40) ↔ ¬ AllPass (hash_rows s)
+  hashes-40 = (λ q h. differ q (all-pass-passed (hash_rows s) h), back (decide (Ok tt) (hash_rows s)) refl (given-refuses (hashes-give s)))
     where
-      differ : check_number (decide Passed (hash_rows s)) ≡ 40 → decide Passed (hash_rows s) ≡ Passed → ⊥
-      differ q p = let z : check_number Passed ≡ 40 = rw p at q in omega arith
+      differ : check_number (decide (Ok tt) (hash_rows s)) ≡ 40 → decide (Ok tt) (hash_rows s) ≡ Ok tt → ⊥
+      differ q p = let z : check_number (Ok tt) ≡ 40 = rw p at q in omega arith
 
-      back : (k : Check) → decide Passed (hash_rows s) ≡ k → Refuses (Among hash_numbers) k → ¬ AllPass (hash_rows s) → check_number k ≡ 40
-      back Passed e r n = absurd (n (passed-all-pass (hash_rows s) e))
-      back (Failed x) e r n = Memᴰ.eq_of_singleton (one-of-member hash_numbers _ r)
+      back : (k : Check) → decide (Ok tt) (hash_rows s) ≡ k → Refuses (Among hash_numbers) k → ¬ AllPass (hash_rows s) → check_number k ≡ 40
+      back (Ok _) e r n = absurd (n (passed-all-pass (hash_rows s) e))
+      back (Err x) e r n = Memᴰ.eq_of_singleton (one-of-member hash_numbers _ r)
 
   -- those behind them do not give it
-  early-40 : (check_number (decide Passed (lock.early_rows s)) ≡ 40) ↔ ¬ AllPass (hash_rows s)
+  early-40 : (check_number (decide (Ok tt) (lock.early_rows s)) ≡ 40) ↔ ¬ AllPass (hash_rows s)
   unfolding lock.early_rows decide
   early-40 =
-      let none : check_number (decide Passed []) ≢ 40 = λ q. omega arith in
+      let none : check_number (decide (Ok tt) []) ≢ 40 = λ q. omega arith in
       let b = given-between 40 (omega arith) [] (hash_rows s) (behind_rows s) none (never-given 40 (behind-gives s) refl) in
       (λ q. hashes-40.0 (b.0 q).1, λ n. b.1 (tt, hashes-40.1 n))
 

@@ -1,6 +1,7 @@
 -- The numbers that the lock gives, for every table, store and answer buffer. So it never gives 6, and 7 only where the table fails its
 -- test.
 -- Assumes nothing.
+use Rattle.std.specs.Prelude.{Err, Ok}
 use mathlib.Core.Path.{◌≡◌, refl}
 use mathlib.Core.Logic.{◌≢◌, ◌↔◌}
 use mathlib.Core.Bool.{Bool, true, false, cond, true≢false}
@@ -8,10 +9,8 @@ use mathlib.Core.List.{List, ◌∷◌, ◌++◌}
 use Prim.Native.Nat.{ℕ}
 use lib.ListN.{length}
 use Rattle.protocol.specs.Errors.{error_number}
-use Rattle.protocol.specs.Rows.{decide, check_number}
+use Rattle.protocol.specs.Rows.{decide, check_number, Check}
 use Rattle.protocol.specs.declared.error.ProtocolError.TheVariants.{SlicesDisagree}
-use Rattle.protocol.specs.declared.check.Check.{Check}
-use Rattle.protocol.specs.declared.check.Check.TheVariants.{Passed, Failed}
 use Rattle.protocol.proofs.AllPass.{passed-all-pass}
 use Rattle.protocol.proofs.Each.{Refuses}
 use Rattle.scene_table.specs.Scene.{Scene}
@@ -29,12 +28,12 @@ scene_numbers = 0 ∷ (early_numbers ++ (proofs_numbers ++ totals_numbers))
 
 scene-one-of : (s : Scene) (room : ℕ) → one_of scene_numbers (check_number (lock_scene s room).found) ≡ true
 unfolding lock_scene or_walked refused
-scene-one-of s room = go (decide Passed (early_rows s)) refl (given-refuses (early-gives s))
+scene-one-of s room = go (decide (Ok tt) (early_rows s)) refl (given-refuses (early-gives s))
   where
-    go : (k : Check) → decide Passed (early_rows s) ≡ k → Refuses (Among early_numbers) k
+    go : (k : Check) → decide (Ok tt) (early_rows s) ≡ k → Refuses (Among early_numbers) k
         → one_of scene_numbers (check_number (or_walked k (walk_result s room)).found) ≡ true
-    go Passed q h = one-of-within (0 ∷ (proofs_numbers ++ totals_numbers)) scene_numbers (check_number (walk_result s room).found) refl (walked-one-of s room (passed-all-pass (early_rows s) q))
-    go (Failed e) q h = one-of-within (0 ∷ early_numbers) scene_numbers (error_number e) refl (found-one-of early_numbers (Failed e) h)
+    go (Ok _) q h = one-of-within (0 ∷ (proofs_numbers ++ totals_numbers)) scene_numbers (check_number (walk_result s room).found) refl (walked-one-of s room (passed-all-pass (early_rows s) q))
+    go (Err e) q h = one-of-within (0 ∷ early_numbers) scene_numbers (error_number e) refl (found-one-of early_numbers (Err e) h)
 
 module _ (table store : List ℕ) (room : ℕ) where
   -- every number that the lock gives is one of the list
@@ -42,7 +41,7 @@ module _ (table store : List ℕ) (room : ℕ) where
   unfolding lock_of refused
   lock-numbers = go (valid_table table (length store))
     where
-      go : (b : Bool) → LockNumber (check_number (cond b (lock_scene (scene_in table store) room) (refused (Failed SlicesDisagree))).found)
+      go : (b : Bool) → LockNumber (check_number (cond b (lock_scene (scene_in table store) room) (refused (Err SlicesDisagree))).found)
       go true =
           let n = check_number (lock_scene (scene_in table store) room).found in
           one-of-member lock_numbers n (one-of-within scene_numbers lock_numbers n refl (scene-one-of (scene_in table store) room))
@@ -54,7 +53,7 @@ module _ (table store : List ℕ) (room : ℕ) where
   lock-seven = go (valid_table table (length store))
     where
       go : (b : Bool)
-          → (check_number (cond b (lock_scene (scene_in table store) room) (refused (Failed SlicesDisagree))).found ≡ 7) ↔ (b ≡ false)
+          → (check_number (cond b (lock_scene (scene_in table store) room) (refused (Err SlicesDisagree))).found ≡ 7) ↔ (b ≡ false)
       go true = (
         λ q. absurd (not-one-of scene_numbers (check_number (lock_scene (scene_in table store) room).found) 7 (scene-one-of (scene_in table store) room) refl q),
         λ e. absurd (true≢false e),

@@ -1,5 +1,6 @@
 -- A number among a list of numbers, tested; and rows whose refusals all have numbers of a list.
 -- Assumes nothing.
+use Rattle.std.specs.Prelude.{Err, Ok}
 use mathlib.Core.Path.{◌≡◌, refl, sym, ◌∙◌}
 use mathlib.Core.Logic.{◌≢◌}
 use mathlib.Core.Bool.{Bool, true, false, not, ◌&&◌, ◌||◌, false≢true}
@@ -9,10 +10,8 @@ use lib.Dec.{eqb}
 use borrow.Author.Tests.{eqb-true, eq-eqb}
 use Rattle.octets.proofs.Truth.{and_left, and_right}
 use Rattle.protocol.specs.Errors.{error_number}
-use Rattle.protocol.specs.Rows.{Row, decide, check_number}
+use Rattle.protocol.specs.Rows.{Row, decide, check_number, Check}
 use Rattle.protocol.specs.declared.error.ProtocolError.{ProtocolError}
-use Rattle.protocol.specs.declared.check.Check.{Check}
-use Rattle.protocol.specs.declared.check.Check.TheVariants.{Passed, Failed}
 use Rattle.protocol.proofs.Each.{Each, Refuses, each_append, each_more, each-refuses}
 
 -- n is one of the numbers
@@ -116,15 +115,15 @@ gives_both {ns} {ms} {ps} {qs} p q =
 
 -- what is found is 0 or a number of the list
 pub found-one-of : (ns : List ℕ) (k : Check) → Refuses (Among ns) k → one_of (0 ∷ ns) (check_number k) ≡ true
-found-one-of ns Passed h = refl
-found-one-of ns (Failed e) h = or_right (eqb (error_number e) 0) (one_of ns (error_number e)) h
+found-one-of ns (Ok _) h = refl
+found-one-of ns (Err e) h = or_right (eqb (error_number e) 0) (one_of ns (error_number e)) h
 
-pub given-refuses : {ns : List ℕ} {rs : List Row} → Gives ns rs → Refuses (Among ns) (decide Passed rs)
+pub given-refuses : {ns : List ℕ} {rs : List Row} → Gives ns rs → Refuses (Among ns) (decide (Ok tt) rs)
 given-refuses {ns} {rs} h = each-refuses (Among ns) rs h.each
 
-pub given-one-of : {ns : List ℕ} {rs : List Row} → Gives ns rs → one_of (0 ∷ ns) (check_number (decide Passed rs)) ≡ true
-given-one-of {ns} {rs} h = found-one-of ns (decide Passed rs) (given-refuses h)
+pub given-one-of : {ns : List ℕ} {rs : List Row} → Gives ns rs → one_of (0 ∷ ns) (check_number (decide (Ok tt) rs)) ≡ true
+given-one-of {ns} {rs} h = found-one-of ns (decide (Ok tt) rs) (given-refuses h)
 
 -- and no other
-pub never-given : {ns : List ℕ} {rs : List Row} (n : ℕ) → Gives ns rs → one_of (0 ∷ ns) n ≡ false → check_number (decide Passed rs) ≢ n
-never-given {ns} {rs} n h k = not-one-of (0 ∷ ns) (check_number (decide Passed rs)) n (given-one-of h) k
+pub never-given : {ns : List ℕ} {rs : List Row} (n : ℕ) → Gives ns rs → one_of (0 ∷ ns) n ≡ false → check_number (decide (Ok tt) rs) ≢ n
+never-given {ns} {rs} n h k = not-one-of (0 ∷ ns) (check_number (decide (Ok tt) rs)) n (given-one-of h) k

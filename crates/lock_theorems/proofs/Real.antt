@@ -1,6 +1,7 @@
 -- An acceptance is about real cells: every cell has true hashes, the account id is the hash of a type script, and so is what is known
 -- of each verifier.
 -- Assumes nothing.
+use Rattle.std.specs.Prelude.{Ok}
 use mathlib.Core.Path.{◌≡◌, refl, sym, ◌∙◌}
 use mathlib.Core.Logic.{◌⊎◌, inl, inr}
 use mathlib.Core.Bool.{Bool, true, false, cond, false≢true}
@@ -12,7 +13,6 @@ use lib.ListN.{length, drop, length-drop}
 use lib.Seq.{length-take-le}
 use borrow.Author.Tests.{eqb-true, leb-true}
 use Rattle.protocol.specs.Rows.{AllPass}
-use Rattle.protocol.specs.declared.check.Check.TheVariants.{Passed}
 use Rattle.protocol.proofs.AllPass.{all-pass-split}
 use Rattle.blake2b.specs.State.{ckb_hash}
 use Rattle.account_state.specs.Fields.{entry_count_of, entry_length_of, entry_slot_of, entry_bytes_of, code_hash_of}
@@ -187,5 +187,5 @@ module _ (table store : List ℕ) (room : ℕ) (pass : EarlierPass table store r
       }
 
 -- 02, change 1: an acceptance is about real cells
-pub lock-real : (table store : List ℕ) (room : ℕ) → (lock_of table store room).found ≡ Passed → RealCells table store room
+pub lock-real : (table store : List ℕ) (room : ℕ) → (lock_of table store room).found ≡ Ok tt → RealCells table store room
 lock-real table store room accepted = earlier-real table store room ((lock-decision table store room).0 accepted).0

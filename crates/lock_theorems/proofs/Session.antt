@@ -1,5 +1,6 @@
 -- 02, change 10: no accepted rotation or recovery leaves a session, and a spend is decided by document 01's rows.
 -- Assumes nothing.
+use Rattle.std.specs.Prelude.{Err, Ok}
 use mathlib.Core.Path.{◌≡◌}
 use mathlib.Core.Logic.{◌≢◌}
 use mathlib.Core.Bool.{cond}
@@ -8,7 +9,6 @@ use Prim.Native.Nat.{ℕ}
 use lib.ListN.{length}
 use Rattle.protocol.specs.Rows.{AllPass, decide}
 use Rattle.protocol.specs.declared.error.ProtocolError.TheVariants.{SlicesDisagree}
-use Rattle.protocol.specs.declared.check.Check.TheVariants.{Passed, Failed}
 use Rattle.protocol.proofs.AllPass.{all-pass-split}
 use Rattle.account_state.specs.Reading.{state_reading}
 use Rattle.scene_table.specs.Scene.{Scene}
@@ -29,14 +29,14 @@ successor-free s h n =
 
 module _ (table store : List ℕ) (room : ℕ) where
   -- where the lock accepts a rotation or a recovery, the reading of the successor has neither the flag nor an entry with the capability
-  pub successor-clean : (lock_of table store room).found ≡ Passed → operation (scene_in table store) ≢ 1
+  pub successor-clean : (lock_of table store room).found ≡ Ok tt → operation (scene_in table store) ≢ 1
       → SessionFree (state_reading (successor (scene_in table store)))
   successor-clean e n = successor-free (scene_in table store) ((lock-decision table store room).0 e).0.early n
 
   -- what the lock finds, makes and answers for a spend, from a state with either or with neither
   pub session-spends : operation (scene_in table store) ≡ 1
       → lock_of table store room
-      ≡ cond (valid_table table (length store)) (or_walked (decide Passed (early_spend_rows (scene_in table store))) (walk_result (scene_in table store) room))
-      (refused (Failed SlicesDisagree))
+      ≡ cond (valid_table table (length store)) (or_walked (decide (Ok tt) (early_spend_rows (scene_in table store))) (walk_result (scene_in table store) room))
+      (refused (Err SlicesDisagree))
   unfolding lock_of lock_scene
   session-spends e = rw (early-spend (scene_in table store) e)

@@ -1,5 +1,6 @@
 -- The lock gives 49 exactly where it comes to a successor that passes its own checks and carries a session; for a spend never.
 -- Assumes nothing.
+use Rattle.std.specs.Prelude.{Ok}
 use mathlib.Core.Path.{◌≡◌, refl}
 use mathlib.Core.Logic.{◌≢◌, ◌↔◌}
 use mathlib.Core.Bool.{Bool, true, false, true≢false}
@@ -8,7 +9,6 @@ use Prim.Native.Nat.{ℕ}
 use native.Mathlib.Omega.{arith}
 use Rattle.protocol.specs.Rows.{row, AllPass, decide, ◌▷◌, check_number}
 use Rattle.protocol.specs.declared.error.ProtocolError.TheVariants.{SessionWithdrawn}
-use Rattle.protocol.specs.declared.check.Check.TheVariants.{Passed}
 use Rattle.protocol.proofs.GivenNumber.{given-between}
 use Rattle.account_state.specs.Reading.{state_reading}
 use Rattle.scene_table.specs.Scene.{Scene}
@@ -25,18 +25,18 @@ use Rattle.lock_theorems.proofs.OwnNumber.{lock-own}
 use Rattle.lock_theorems.proofs.Before.{session_row, sequence_row, recovery_tail, early-spend, change-split}
 
 -- the row of the session alone
-session-49 : (free : Bool) → (check_number (decide Passed (row free SessionWithdrawn ∷ [])) ≡ 49) ↔ (free ≡ false)
+session-49 : (free : Bool) → (check_number (decide (Ok tt) (row free SessionWithdrawn ∷ [])) ≡ 49) ↔ (free ≡ false)
 unfolding decide ◌▷◌
 session-49 true = (λ q. absurd (omega arith), λ e. absurd (true≢false e))
 session-49 false = (λ q. refl, λ e. refl)
 
 module _ (s : Scene) where
   -- of a spend none gives it
-  spend-not-49 : operation s ≡ 1 → check_number (decide Passed (early_rows s)) ≢ 49
+  spend-not-49 : operation s ≡ 1 → check_number (decide (Ok tt) (early_rows s)) ≢ 49
   spend-not-49 e = rw (early-spend s e) (never-given 49 (spend-gives s) refl)
 
   change-49 : operation s ≢ 1
-      → (check_number (decide Passed (early_rows s)) ≡ 49) ↔ (AllPass (before_session_rows s) × (session_free (state_reading (successor s)) ≡ false))
+      → (check_number (decide (Ok tt) (early_rows s)) ≡ 49) ↔ (AllPass (before_session_rows s) × (session_free (state_reading (successor s)) ≡ false))
   change-49 n =
       let b = given-between 49 (omega arith) (before_session_rows s) (session_row s ∷ []) (sequence_row s ∷ (recovery_tail s ++ other_rows s))
       (never-given 49 (before-session-gives s) refl) (never-given 49 (after-session-gives s) refl) in

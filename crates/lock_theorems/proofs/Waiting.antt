@@ -1,5 +1,6 @@
 -- 02, change 4: an accepted recovery has waited, and where the lock gives 42 and 34.
 -- Assumes nothing.
+use Rattle.std.specs.Prelude.{Ok}
 use mathlib.Core.Path.{◌≡◌, refl}
 use mathlib.Core.Logic.{◌≢◌, ◌↔◌}
 use mathlib.Core.Bool.{Bool, true, false}
@@ -9,7 +10,6 @@ use native.Mathlib.Omega.{arith}
 use lib.Dec.{eqb}
 use borrow.Author.Tests.{ne_eqb, eqb-true, eqb-false}
 use Rattle.protocol.specs.Rows.{Row, AllPass, decide, check_number}
-use Rattle.protocol.specs.declared.check.Check.TheVariants.{Passed}
 use Rattle.protocol.proofs.AllPass.{all-pass-split, all-pass-passed}
 use Rattle.protocol.proofs.GivenNumber.{given-between}
 use Rattle.scene_table.specs.Scene.{Scene}
@@ -42,16 +42,16 @@ above zero h = absurd (h refl)
 above (suc n) h = omega arith
 
 module _ (n : ℕ) (other : one_of (0 ∷ before_wait_numbers) n ≡ false) (s : Scene) where
-  never : {ns : List ℕ} {rs : List Row} → Gives ns rs → within ns before_wait_numbers ≡ true → check_number (decide Passed rs) ≢ n
+  never : {ns : List ℕ} {rs : List Row} → Gives ns rs → within ns before_wait_numbers ≡ true → check_number (decide (Ok tt) rs) ≢ n
   never h w = never-given n (gives_more before_wait_numbers h w) other
 
-  spend-not : operation s ≡ 1 → check_number (decide Passed (early_rows s)) ≢ n
+  spend-not : operation s ≡ 1 → check_number (decide (Ok tt) (early_rows s)) ≢ n
   spend-not e = rw (early-spend s e) (never (spend-gives s) refl)
 
-  rotation-not : operation s ≢ 1 → operation s ≢ 3 → check_number (decide Passed (early_rows s)) ≢ n
+  rotation-not : operation s ≢ 1 → operation s ≢ 3 → check_number (decide (Ok tt) (early_rows s)) ≢ n
   rotation-not m k = rw (change-split s m, ne_eqb (operation s) 3 k) (never (rotation-gives s) refl)
 
-  only-recovery : check_number (decide Passed (early_rows s)) ≡ n → operation s ≡ 3
+  only-recovery : check_number (decide (Ok tt) (early_rows s)) ≡ n → operation s ≡ 3
   only-recovery q = go (eqb (operation s) 1) refl (eqb (operation s) 3) refl
     where
       go : (a : Bool) → eqb (operation s) 1 ≡ a → (b : Bool) → eqb (operation s) 3 ≡ b → operation s ≡ 3
@@ -60,8 +60,8 @@ module _ (n : ℕ) (other : one_of (0 ∷ before_wait_numbers) n ≡ false) (s :
       go false e false f = absurd (rotation-not (eqb-false (operation s) 1 e) (eqb-false (operation s) 3 f) q)
 
   recovery-given : operation s ≡ 3
-      → (check_number (decide Passed (early_rows s)) ≡ n)
-      ↔ (AllPass (before_wait_rows s) × (check_number (decide Passed (wait_rows (wait s) (held_since s))) ≡ n))
+      → (check_number (decide (Ok tt) (early_rows s)) ≡ n)
+      ↔ (AllPass (before_wait_rows s) × (check_number (decide (Ok tt) (wait_rows (wait s) (held_since s))) ≡ n))
   recovery-given e =
       rw (recovery-split s e)
       (given-between n (above n (not-one-of (0 ∷ before_wait_numbers) 0 n refl other)) (before_wait_rows s) (wait_rows (wait s) (held_since s)) (other_rows s)
@@ -69,7 +69,7 @@ module _ (n : ℕ) (other : one_of (0 ∷ before_wait_numbers) n ≡ false) (s :
 
 module _ (table store : List ℕ) (room : ℕ) where
   -- where the lock accepts a recovery, the state waits for nothing, or both numbers are well-formed and the wait is over
-  pub recovery-waited : (lock_of table store room).found ≡ Passed → operation (scene_in table store) ≡ 3
+  pub recovery-waited : (lock_of table store room).found ≡ Ok tt → operation (scene_in table store) ≡ 3
       → WaitOver (wait (scene_in table store)) (held_since (scene_in table store))
   recovery-waited e = recovery-over (scene_in table store) ((lock-decision table store room).0 e).0.early
 
@@ -79,11 +79,11 @@ module _ (table store : List ℕ) (room : ℕ) where
   -- the lock gives such a number exactly where a recovery comes to its wait, and the wait's rows give it
   wait-given : (n : ℕ) → one_of later_numbers n ≡ false → one_of (0 ∷ before_wait_numbers) n ≡ false
       → (check_number (lock_of table store room).found ≡ n)
-      ↔ (ComesToWait table store × (check_number (decide Passed (wait_rows (wait s) (held_since s))) ≡ n))
+      ↔ (ComesToWait table store × (check_number (decide (Ok tt) (wait_rows (wait s) (held_since s))) ≡ n))
   wait-given n later other = (there, λ h. (lock-own n later table store room).1 (h.0.valid, (recovery-given n other s h.0.recovers).1 (h.0.earlier, h.1)))
     where
       there : check_number (lock_of table store room).found ≡ n
-          → ComesToWait table store × (check_number (decide Passed (wait_rows (wait s) (held_since s))) ≡ n)
+          → ComesToWait table store × (check_number (decide (Ok tt) (wait_rows (wait s) (held_since s))) ≡ n)
       there q =
           let o = (lock-own n later table store room).0 q in
           let e = only-recovery n other s o.1 in

@@ -1,5 +1,6 @@
 -- The numbers that the walk over the proofs and the totals after it give, where the rows before them pass.
 -- Assumes nothing.
+use Rattle.std.specs.Prelude.{Err, Ok}
 use mathlib.Core.Path.{◌≡◌, refl, sym, ◌∙◌}
 use mathlib.Core.Bool.{Bool, true, false, cond, true≢false}
 use mathlib.Core.List.{List, [], ◌∷◌, ◌++◌}
@@ -7,10 +8,8 @@ use Prim.Native.Nat.{ℕ, ◌+◌}
 use lib.Dec.{eqb}
 use lib.ListN.{length}
 use Rattle.protocol.specs.Errors.{error_number}
-use Rattle.protocol.specs.Rows.{AllPass, decide, check_number}
+use Rattle.protocol.specs.Rows.{AllPass, decide, check_number, Check}
 use Rattle.protocol.specs.declared.error.ProtocolError.TheVariants.{VerifierFailure}
-use Rattle.protocol.specs.declared.check.Check.{Check}
-use Rattle.protocol.specs.declared.check.Check.TheVariants.{Passed, Failed}
 use Rattle.protocol.proofs.AllPass.{decide-failed}
 use Rattle.protocol.proofs.Each.{Refuses, failing-refuses}
 use Rattle.account_state.specs.Reading.{AuxWithin}
@@ -34,7 +33,7 @@ totals_numbers = 39 ∷ 48 ∷ []
 -- ---- the proofs
 
 -- one proof's rows, where no aux is above the limit
-proof-refuses : (c : Context) (used : ℕ) (p : ProofReading) → AuxWithin c.entries → Refuses (Among proofs_numbers) (decide Passed (proof_rows c used p))
+proof-refuses : (c : Context) (used : ℕ) (p : ProofReading) → AuxWithin c.entries → Refuses (Among proofs_numbers) (decide (Ok tt) (proof_rows c used p))
 unfolding proof_rows authenticator_rows request_limit_rows
 proof-refuses c used p w =
     failing-refuses (Among proofs_numbers) (proof_rows c used p)
@@ -51,14 +50,14 @@ walk-refuses : (c : Context) → AuxWithin c.entries → (clean : Bool) (i weigh
 unfolding walk_from unless_failed
 walk-refuses c w clean i weight made [] = given-refuses (end-gives clean weight c.threshold)
 walk-refuses c w clean i weight made (p ∷ ps) =
-    go (decide Passed (proof_rows c (length made) p)) (proof-refuses c (length made) p w) (eqb (verdict c i) 2)
+    go (decide (Ok tt) (proof_rows c (length made) p)) (proof-refuses c (length made) p w) (eqb (verdict c i) 2)
     (walk_from c clean (i + 1) (weight + approved_weight c i p) (made ++ request_of c p) ps) (walk-refuses c w clean (i + 1) _ _ ps)
   where
     go : (k : Check) → Refuses (Among proofs_numbers) k → (b : Bool) (onward : WalkOutcome) → Refuses (Among proofs_numbers) onward.found
-        → Refuses (Among proofs_numbers) (unless_failed k i made (cond b (walk_outcome (Failed VerifierFailure) (i + 1) (made ++ request_of c p)) onward)).found
-    go (Failed e) h b onward f = h
-    go Passed h true onward f = refl
-    go Passed h false onward f = f
+        → Refuses (Among proofs_numbers) (unless_failed k i made (cond b (walk_outcome (Err VerifierFailure) (i + 1) (made ++ request_of c p)) onward)).found
+    go (Err e) h b onward f = h
+    go (Ok _) h true onward f = refl
+    go (Ok _) h false onward f = f
 
 -- over a scene whose rows before them pass
 pub scene-walk : (s : Scene) (room : ℕ) → AllPass (early_rows s) → Refuses (Among proofs_numbers) (walk_lock (context_of s room) (witness_lock s)).found
@@ -72,8 +71,8 @@ unfolding capacity_rows total_rows
 totals-give s = record { each = (refl, (refl, (refl, tt))) }
 
 walked-refuses : (s : Scene) (k : Check) → Refuses (Among proofs_numbers) k → Refuses (Among (proofs_numbers ++ totals_numbers)) (decide k (capacity_rows s))
-walked-refuses s Passed h = given-refuses (gives_more (proofs_numbers ++ totals_numbers) (totals-give s) refl)
-walked-refuses s (Failed e) h = rw (decide-failed (capacity_rows s) e) (one-of-left proofs_numbers totals_numbers (error_number e) h)
+walked-refuses s (Ok _) h = given-refuses (gives_more (proofs_numbers ++ totals_numbers) (totals-give s) refl)
+walked-refuses s (Err e) h = rw (decide-failed (capacity_rows s) e) (one-of-left proofs_numbers totals_numbers (error_number e) h)
 
 -- both, of a scene
 pub walked-one-of : (s : Scene) (room : ℕ) → AllPass (early_rows s)

@@ -1,8 +1,7 @@
 -- What the lock does, for every table, store and length of the answer buffer: the statements that a reader looks for, in one record.
-use Rattle.std.specs.Prelude.{ℕ, ◌+◌, ◌≤◌, ◌≡◌, ◌≢◌, ◌↔◌, true, false, List, length}
+use Rattle.std.specs.Prelude.{ℕ, ◌+◌, ◌≤◌, ◌≡◌, ◌≢◌, ◌↔◌, true, false, List, length, Ok}
 use Rattle.protocol.specs.Limits.{answer_buffer_length}
 use Rattle.protocol.specs.Rows.{AllPass, check_number}
-use Rattle.protocol.specs.declared.check.Check.TheVariants.{Passed}
 use Rattle.account_state.specs.Reading.{state_reading}
 use Rattle.scene_table.specs.Lent.{scene_in}
 use Rattle.scene_table.specs.Valid.{valid_table}
@@ -21,7 +20,7 @@ use Rattle.lock_theorems.specs.AuxLimit.{LimitRefused}
 
 -- the lock accepts, and its number
 abbrev pub Accepted : List ℕ → List ℕ → ℕ → Type 0
-Accepted table store room = (lock_of table store room).found ≡ Passed
+Accepted table store room = (lock_of table store room).found ≡ Ok tt
 
 abbrev pub lock_number : List ℕ → List ℕ → ℕ → ℕ
 lock_number table store room = check_number (lock_of table store room).found

@@ -1,6 +1,7 @@
 -- The bytes in a field, the lock of a witness and the args of a script: accepted exactly where every check passes, and then
 -- the field is the vector of the bytes at the place that the reader gives.
 -- Assumes nothing.
+use Rattle.std.specs.Prelude.{Err, Ok, Result}
 use mathlib.Core.Path.{◌≡◌, refl, sym, ap, ◌∙◌}
 use mathlib.Core.List.{List, [], ◌∷◌, ◌++◌}
 use mathlib.Core.Logic.{◌↔◌}
@@ -13,16 +14,12 @@ use Rattle.octets.specs.Le.{Bytes}
 use Rattle.octets.specs.Places.{bytes_at}
 use Rattle.octets.proofs.LeLaws.{number_lt, length_to, bytes_take, bytes_drop}
 use Rattle.octets.proofs.Parts.{part_length}
-use Rattle.protocol.specs.Rows.{Row, decide, AllPass, FirstFailed}
+use Rattle.protocol.specs.Rows.{Row, decide, AllPass, FirstFailed, Check}
 use Rattle.protocol.specs.Reading.{OneReading}
 use Rattle.protocol.specs.declared.error.ProtocolError.{ProtocolError}
 use Rattle.protocol.specs.declared.error.ProtocolError.TheVariants.{InvalidArgs, InvalidWitness}
-use Rattle.protocol.specs.declared.check.Check.{Check}
-use Rattle.protocol.specs.declared.check.Check.TheVariants.{Passed, Failed}
 use Rattle.protocol.proofs.AllPass.{passed-all-pass, all-pass-passed, all-pass-split}
 use Rattle.protocol.proofs.Answers.{answer-given, answer-accepts, answer-refuses}
-use Rattle.molecule.specs.declared.bytes.PlaceAnswer.{PlaceAnswer}
-use Rattle.molecule.specs.declared.bytes.PlaceAnswer.TheVariants.{At, Refused}
 use Rattle.molecule.specs.Molecule.{bytes_vector, table_bytes}
 use Rattle.molecule.specs.Table3.{table_rows, between, field1, field2, field3, second_offset_of, table_total_of, third_offset_of}
 use Rattle.molecule.specs.Bytes.{bytes_rows, bytes_place_from, place_answer, read_bytes, witness_lock_rows, witness_lock_place, read_witness_lock, script_args_rows, script_args_place, read_script_args, bytes_in}
@@ -30,31 +27,31 @@ use Rattle.molecule.proofs.Form.{TablePasses, table-passes, length-field1}
 use Rattle.molecule.proofs.Inverse.{table-written, vector-length, vector-written, vector-read}
 
 -- what the checks found, by the answer
-abbrev pub place_found : PlaceAnswer → Check
-place_found (At p) = Passed
-place_found (Refused e) = Failed e
+abbrev pub place_found : Result Place ProtocolError → Check
+place_found (Ok p) = (Ok tt)
+place_found (Err e) = Err e
 
 -- which is what it was made from
 place-back : (g : Place) (k : Check) → place_found (place_answer k g) ≡ k
 unfolding place_answer
-place-back g Passed = refl
-place-back g (Failed e) = refl
+place-back g (Ok _) = refl
+place-back g (Err e) = refl
 
 -- What holds of each of the three readers: its rows, and the place that it gives where they pass.
 module _ (rows : List Row) (g : Place) where
-  pub place-accepts : (place_answer (decide Passed rows) g ≡ At g) ↔ AllPass rows
+  pub place-accepts : (place_answer (decide (Ok tt) rows) g ≡ Ok g) ↔ AllPass rows
   unfolding place_answer
   place-accepts = answer-accepts (λ k. place_answer k g) place_found (place-back g) rows
 
-  pub place-refuses : (e : ProtocolError) → (place_answer (decide Passed rows) g ≡ Refused e) ↔ FirstFailed rows e
+  pub place-refuses : (e : ProtocolError) → (place_answer (decide (Ok tt) rows) g ≡ Err e) ↔ FirstFailed rows e
   unfolding place_answer
   place-refuses e = answer-refuses (λ k. place_answer k g) place_found (place-back g) rows e
 
-  place-given : (p : Place) → place_answer (decide Passed rows) g ≡ At p → AllPass rows × (p ≡ g)
+  place-given : (p : Place) → place_answer (decide (Ok tt) rows) g ≡ Ok p → AllPass rows × (p ≡ g)
   unfolding place_answer
   place-given p h =
-      let z = answer-given (λ k. place_answer k g) place_found (place-back g) (decide Passed rows) (At p) h refl in
-      let e : At g ≡ At p = z.1 in
+      let z = answer-given (λ k. place_answer k g) place_found (place-back g) (decide (Ok tt) rows) (Ok p) h refl in
+      let e : Ok g ≡ Ok p = z.1 in
       (passed-all-pass rows z.0, cc)
 
 -- the bytes of a lock and of args that pass
@@ -67,27 +64,27 @@ unfolding read_script_args place_answer bytes_in
 args_read s h = rw (all-pass-passed (script_args_rows s) h)
 
 -- accepted exactly where every check passes, refused exactly with the first that fails
-pub bytes-accepts : (field : List ℕ) → (read_bytes field ≡ At (bytes_place_from 0 field)) ↔ AllPass (bytes_rows InvalidWitness field)
+pub bytes-accepts : (field : List ℕ) → (read_bytes field ≡ Ok (bytes_place_from 0 field)) ↔ AllPass (bytes_rows InvalidWitness field)
 unfolding read_bytes
 bytes-accepts field = place-accepts (bytes_rows InvalidWitness field) (bytes_place_from 0 field)
 
-pub bytes-refuses : (field : List ℕ) (e : ProtocolError) → (read_bytes field ≡ Refused e) ↔ FirstFailed (bytes_rows InvalidWitness field) e
+pub bytes-refuses : (field : List ℕ) (e : ProtocolError) → (read_bytes field ≡ Err e) ↔ FirstFailed (bytes_rows InvalidWitness field) e
 unfolding read_bytes
 bytes-refuses field e = place-refuses (bytes_rows InvalidWitness field) (bytes_place_from 0 field) e
 
-pub witness-lock-accepts : (s : List ℕ) → (read_witness_lock s ≡ At (bytes_place_from 16 (field1 s))) ↔ AllPass (witness_lock_rows s)
+pub witness-lock-accepts : (s : List ℕ) → (read_witness_lock s ≡ Ok (bytes_place_from 16 (field1 s))) ↔ AllPass (witness_lock_rows s)
 unfolding read_witness_lock
 witness-lock-accepts s = place-accepts (witness_lock_rows s) (bytes_place_from 16 (field1 s))
 
-pub witness-lock-refuses : (s : List ℕ) (e : ProtocolError) → (read_witness_lock s ≡ Refused e) ↔ FirstFailed (witness_lock_rows s) e
+pub witness-lock-refuses : (s : List ℕ) (e : ProtocolError) → (read_witness_lock s ≡ Err e) ↔ FirstFailed (witness_lock_rows s) e
 unfolding read_witness_lock
 witness-lock-refuses s e = place-refuses (witness_lock_rows s) (bytes_place_from 16 (field1 s)) e
 
-pub script-args-accepts : (s : List ℕ) → (read_script_args s ≡ At (bytes_place_from (third_offset_of s) (field3 s))) ↔ AllPass (script_args_rows s)
+pub script-args-accepts : (s : List ℕ) → (read_script_args s ≡ Ok (bytes_place_from (third_offset_of s) (field3 s))) ↔ AllPass (script_args_rows s)
 unfolding read_script_args
 script-args-accepts s = place-accepts (script_args_rows s) (bytes_place_from (third_offset_of s) (field3 s))
 
-pub script-args-refuses : (s : List ℕ) (e : ProtocolError) → (read_script_args s ≡ Refused e) ↔ FirstFailed (script_args_rows s) e
+pub script-args-refuses : (s : List ℕ) (e : ProtocolError) → (read_script_args s ≡ Err e) ↔ FirstFailed (script_args_rows s) e
 unfolding read_script_args
 script-args-refuses s e = place-refuses (script_args_rows s) (bytes_place_from (third_offset_of s) (field3 s)) e
 
@@ -113,7 +110,7 @@ vector-one e v b h =
         omega arith
 
 -- The bytes in a field: exactly one list of bytes has the field as its vector, that at the place.
-pub bytes-theorem : (field : List ℕ) (p : Place) → Bytes field → read_bytes field ≡ At p → OneReading (λ (items : List ℕ). Unit {0}) bytes_vector field (bytes_at field p)
+pub bytes-theorem : (field : List ℕ) (p : Place) → Bytes field → read_bytes field ≡ Ok p → OneReading (λ (items : List ℕ). Unit {0}) bytes_vector field (bytes_at field p)
 unfolding read_bytes bytes_place_from bytes_at
 bytes-theorem field p b h =
     let g = place-given (bytes_rows InvalidWitness field) (bytes_place_from 0 field) p h in
@@ -151,7 +148,7 @@ unfolding field3
 args-bytes s = drop-drop 4 (third_offset_of s) s
 
 -- The lock of a witness: field 1 is the vector of just those bytes that stand at the place, and the witness is the table of it and the other two fields.
-pub witness-lock-theorem : (s : List ℕ) (p : Place) → Bytes s → read_witness_lock s ≡ At p
+pub witness-lock-theorem : (s : List ℕ) (p : Place) → Bytes s → read_witness_lock s ≡ Ok p
     → OneReading (λ (items : List ℕ). Unit {0}) bytes_vector (field1 s) (bytes_at s p) × (table_bytes (bytes_vector (bytes_at s p) ∷ field2 s ∷ field3 s ∷ []) ≡ s)
 unfolding read_witness_lock witness_lock_rows bytes_place_from bytes_at
 witness-lock-theorem s p b h =
@@ -164,7 +161,7 @@ witness-lock-theorem s p b h =
     rw g.1 (o, rw o.written (table-written s b z))
 
 -- The args of a script, likewise of field 3.
-pub script-args-theorem : (s : List ℕ) (p : Place) → Bytes s → read_script_args s ≡ At p
+pub script-args-theorem : (s : List ℕ) (p : Place) → Bytes s → read_script_args s ≡ Ok p
     → OneReading (λ (items : List ℕ). Unit {0}) bytes_vector (field3 s) (bytes_at s p) × (table_bytes (field1 s ∷ field2 s ∷ bytes_vector (bytes_at s p) ∷ []) ≡ s)
 unfolding read_script_args script_args_rows bytes_place_from bytes_at
 script-args-theorem s p b h =

@@ -1,5 +1,6 @@
 -- The canonical witness: 20 bytes, and then fields 2 and 3, which of a table whose rows pass are the witness from field 2 on.
 -- Assumes nothing.
+use Rattle.std.specs.Prelude.{Err, Ok}
 use mathlib.Core.Path.{◌≡◌, refl, sym, ap, ◌∙◌}
 use mathlib.Core.List.{List, [], ◌∷◌, ◌++◌, append_assoc, append-nil}
 use Prim.Native.Nat.{ℕ, ◌+◌, ◌-◌, ◌≤◌}
@@ -11,11 +12,9 @@ use Rattle.octets.specs.Layout.{Field, layout_bytes}
 use Rattle.octets.proofs.LeLaws.{length_to}
 use Rattle.octets.proofs.Stores.{sets-append}
 use Rattle.octets.proofs.LayoutLaws.{length-numbers}
-use Rattle.protocol.specs.Rows.{row, ◌▷◌, decide, AllPass}
+use Rattle.protocol.specs.Rows.{row, ◌▷◌, decide, AllPass, Check}
 use Rattle.protocol.specs.Write.{write_fault}
 use Rattle.protocol.specs.declared.error.ProtocolError.TheVariants.{BufferTooShort, InvalidWitness}
-use Rattle.protocol.specs.declared.check.Check.{Check}
-use Rattle.protocol.specs.declared.check.Check.TheVariants.{Passed, Failed}
 use Rattle.protocol.proofs.AllPass.{passed-all-pass, decide-append}
 use Rattle.molecule.specs.Molecule.{bytes_vector, table_bytes}
 use Rattle.molecule.specs.Table3.{table_rows, between, field2, field3, second_offset_of, third_offset_of}
@@ -99,15 +98,15 @@ module _ (s : List ℕ) (z : TablePasses s) where
 
 -- the room for the parts is the room for the whole
 module _ (s : List ℕ) (room : ℕ) where
-  room_by : (k : Check) → decide Passed (table_rows InvalidWitness s) ≡ k
-      → decide Passed (table_rows InvalidWitness s) ▷ row (leb (20 + length (drop (second_offset_of s) s)) room) BufferTooShort ≡ canonical_room s room
+  room_by : (k : Check) → decide (Ok tt) (table_rows InvalidWitness s) ≡ k
+      → decide (Ok tt) (table_rows InvalidWitness s) ▷ row (leb (20 + length (drop (second_offset_of s) s)) room) BufferTooShort ≡ canonical_room s room
   unfolding canonical_room write_fault decide ◌▷◌
-  room_by Passed h =
+  room_by (Ok _) h =
       let p : AllPass (table_rows InvalidWitness s) = passed-all-pass (table_rows InvalidWitness s) h in
       rw (← length-from-second s (table-passes InvalidWitness s p))
-      (sym (decide-append Passed (table_rows InvalidWitness s) (row (leb (length (canonical_of s)) room) BufferTooShort ∷ [])))
-  room_by (Failed e) h =
-      rw h (sym (decide-append Passed (table_rows InvalidWitness s) (row (leb (length (canonical_of s)) room) BufferTooShort ∷ []) ∙ rw h))
+      (sym (decide-append (Ok tt) (table_rows InvalidWitness s) (row (leb (length (canonical_of s)) room) BufferTooShort ∷ [])))
+  room_by (Err e) h =
+      rw h (sym (decide-append (Ok tt) (table_rows InvalidWitness s) (row (leb (length (canonical_of s)) room) BufferTooShort ∷ []) ∙ rw h))
 
-  pub room-found : decide Passed (table_rows InvalidWitness s) ▷ row (leb (20 + length (drop (second_offset_of s) s)) room) BufferTooShort ≡ canonical_room s room
-  room-found = room_by (decide Passed (table_rows InvalidWitness s)) refl
+  pub room-found : decide (Ok tt) (table_rows InvalidWitness s) ▷ row (leb (20 + length (drop (second_offset_of s) s)) room) BufferTooShort ≡ canonical_room s room
+  room-found = room_by (decide (Ok tt) (table_rows InvalidWitness s)) refl

@@ -1,6 +1,7 @@
 -- The canonical witness: it is read back with an empty lock and the other two fields as they were, and it is handed out in
 -- parts without a copy.
 -- Assumes nothing.
+use Rattle.std.specs.Prelude.{Ok}
 use mathlib.Core.Path.{◌≡◌, refl, sym}
 use mathlib.Core.List.{List, [], ◌∷◌}
 use Prim.Native.Nat.{ℕ, ◌+◌, ◌^◌, ◌<◌}
@@ -9,7 +10,6 @@ use lib.ListN.{length}
 use Rattle.octets.specs.declared.place.Place.{Place}
 use Rattle.octets.specs.Le.{Bytes}
 use Rattle.octets.specs.Places.{bytes_at}
-use Rattle.molecule.specs.declared.bytes.PlaceAnswer.TheVariants.{At}
 use Rattle.molecule.specs.Molecule.{bytes_vector, table_bytes}
 use Rattle.molecule.specs.Table3.{field2, field3}
 use Rattle.molecule.specs.Bytes.{read_witness_lock}
@@ -20,7 +20,7 @@ use Rattle.molecule.proofs.Inverse.{written-passes, field1-read, field2-read, fi
 use Rattle.molecule.proofs.BytesTheorem.{witness-lock-theorem}
 
 -- a witness with a lock, and its canonical witness: the same table but for the lock
-pub canonical-theorem : (s : List ℕ) (p : Place) → Bytes s → read_witness_lock s ≡ At p
+pub canonical-theorem : (s : List ℕ) (p : Place) → Bytes s → read_witness_lock s ≡ Ok p
     → (s ≡ table_bytes (bytes_vector (bytes_at s p) ∷ field2 s ∷ field3 s ∷ [])) × (canonical_of s ≡ table_bytes (bytes_vector [] ∷ field2 s ∷ field3 s ∷ []))
 unfolding canonical_of
 canonical-theorem s p b h = (sym (witness-lock-theorem s p b h).1, refl)

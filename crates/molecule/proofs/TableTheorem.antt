@@ -2,6 +2,7 @@
 -- form, which is the one that the reader gives; and what is written so is accepted. Strict Molecule differs only inside
 -- the fields, which the reader does not open.
 -- Assumes nothing.
+use Rattle.std.specs.Prelude.{Err, Ok}
 use mathlib.Core.Path.{◌≡◌, sym, ap, ◌∙◌}
 use mathlib.Core.List.{List, [], ◌∷◌}
 use mathlib.Core.Logic.{◌↔◌}
@@ -16,19 +17,18 @@ use Rattle.protocol.specs.declared.error.ProtocolError.{ProtocolError}
 use Rattle.protocol.specs.declared.error.ProtocolError.TheVariants.{InvalidWitness}
 use Rattle.protocol.proofs.Answers.{answer-accepts, answer-refuses}
 use Rattle.molecule.specs.declared.table.TableFields.{TableFields}
-use Rattle.molecule.specs.declared.table.TableAnswer.TheVariants.{Fields, Refused}
 use Rattle.molecule.specs.Molecule.{table_bytes}
 use Rattle.molecule.specs.Table3.{table_rows, table_fields_of, table_answer, read_table, field1, field2, field3, Table3, table3_bytes, table_given}
 use Rattle.molecule.proofs.Form.{length_three, TablePasses, table-passes, table-passes-hold, table_found, table-found-back, table-given}
 use Rattle.molecule.proofs.Inverse.{table-written, written-passes, field1-read, field2-read, field3-read}
 
 -- accepted exactly where every check passes
-pub table-accepts : (s : List ℕ) → (read_table s ≡ Fields (table_fields_of s)) ↔ AllPass (table_rows InvalidWitness s)
+pub table-accepts : (s : List ℕ) → (read_table s ≡ Ok (table_fields_of s)) ↔ AllPass (table_rows InvalidWitness s)
 unfolding read_table table_answer
 table-accepts s = answer-accepts (λ k. table_answer k (table_fields_of s)) table_found (table-found-back (table_fields_of s)) (table_rows InvalidWitness s)
 
 -- refused exactly with the first check that fails
-pub table-refuses : (s : List ℕ) (e : ProtocolError) → (read_table s ≡ Refused e) ↔ FirstFailed (table_rows InvalidWitness s) e
+pub table-refuses : (s : List ℕ) (e : ProtocolError) → (read_table s ≡ Err e) ↔ FirstFailed (table_rows InvalidWitness s) e
 unfolding read_table table_answer
 table-refuses s e = answer-refuses (λ k. table_answer k (table_fields_of s)) table_found (table-found-back (table_fields_of s)) (table_rows InvalidWitness s) e
 
@@ -49,7 +49,7 @@ fits-field : (s : List ℕ) → Bytes s → TablePasses s → length s < 2 ^ 32
 fits-field s b z = rw z.total at (number_lt s 0 4 b)
 
 -- The theorem: an accepted table has exactly one reading, that of the answer.
-pub table-theorem : (s : List ℕ) (f : TableFields) → Bytes s → read_table s ≡ Fields f → OneReading (λ (r : Table3). Unit {0}) table3_bytes s (table_given s f)
+pub table-theorem : (s : List ℕ) (f : TableFields) → Bytes s → read_table s ≡ Ok f → OneReading (λ (r : Table3). Unit {0}) table3_bytes s (table_given s f)
 unfolding table3_bytes table_given table_fields_of field1 field2 field3
 table-theorem s f b h =
     let g = table-given s f h in

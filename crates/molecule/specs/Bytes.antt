@@ -1,17 +1,13 @@
 -- 01, main.rs: "A witness's lock is field 1 and a script's args are field 3, each a Bytes: u32 length, then exactly so many
 -- bytes. The other fields are not opened." The checks, and the places of the bytes.
-use Rattle.std.specs.Prelude.{ℕ, ◌+◌, List, [], ◌∷◌, ◌++◌, eqb, leb, length}
+use Rattle.std.specs.Prelude.{ℕ, ◌+◌, List, [], ◌∷◌, ◌++◌, eqb, leb, length, Err, Ok, Result}
 use Rattle.octets.specs.declared.place.Place.{Place}
 use Rattle.octets.specs.Le.{number_at}
 use Rattle.octets.specs.Places.{bytes_at}
 use Rattle.protocol.specs.Errors.{error_number}
-use Rattle.protocol.specs.Rows.{Row, row, decide}
+use Rattle.protocol.specs.Rows.{Row, row, decide, Check}
 use Rattle.protocol.specs.declared.error.ProtocolError.{ProtocolError}
 use Rattle.protocol.specs.declared.error.ProtocolError.TheVariants.{InvalidArgs, InvalidWitness}
-use Rattle.protocol.specs.declared.check.Check.{Check}
-use Rattle.protocol.specs.declared.check.Check.TheVariants.{Passed, Failed}
-use Rattle.molecule.specs.declared.bytes.PlaceAnswer.{PlaceAnswer}
-use Rattle.molecule.specs.declared.bytes.PlaceAnswer.TheVariants.{At, Refused}
 use Rattle.molecule.specs.Table3.{third_offset_of, table_rows, field1, field3}
 
 -- "u32 length, then exactly so many bytes"
@@ -25,12 +21,12 @@ bytes_rows e field = row (leb 4 (length field)) e ∷ row (eqb (4 + bytes_length
 unfoldable pub bytes_place_from : ℕ → List ℕ → Place
 bytes_place_from at field = record { start = at + 4; len = bytes_length_of field }
 
-unfoldable pub place_answer : Check → Place → PlaceAnswer
-place_answer Passed p = At p
-place_answer (Failed e) p = Refused e
+unfoldable pub place_answer : Check → Place → Result Place ProtocolError
+place_answer (Ok _) p = Ok p
+place_answer (Err e) p = Err e
 
-unfoldable pub read_bytes : List ℕ → PlaceAnswer
-read_bytes field = place_answer (decide Passed (bytes_rows InvalidWitness field)) (bytes_place_from 0 field)
+unfoldable pub read_bytes : List ℕ → Result Place ProtocolError
+read_bytes field = place_answer (decide (Ok tt) (bytes_rows InvalidWitness field)) (bytes_place_from 0 field)
 
 -- "A witness's lock is field 1"; 01, "Where each refusal is raised": "table, empty lock" are 22
 unfoldable pub witness_lock_rows : List ℕ → List Row
@@ -40,8 +36,8 @@ witness_lock_rows s =
 abbrev pub witness_lock_place : List ℕ → Place
 witness_lock_place s = bytes_place_from 16 (field1 s)
 
-unfoldable pub read_witness_lock : List ℕ → PlaceAnswer
-read_witness_lock s = place_answer (decide Passed (witness_lock_rows s)) (witness_lock_place s)
+unfoldable pub read_witness_lock : List ℕ → Result Place ProtocolError
+read_witness_lock s = place_answer (decide (Ok tt) (witness_lock_rows s)) (witness_lock_place s)
 
 -- "a script's args are field 3"; 01, "Where each refusal is raised": "script .., its table, args" are 20
 unfoldable pub script_args_rows : List ℕ → List Row
@@ -50,15 +46,15 @@ script_args_rows s = table_rows InvalidArgs s ++ bytes_rows InvalidArgs (field3 
 abbrev pub script_args_place : List ℕ → Place
 script_args_place s = bytes_place_from (third_offset_of s) (field3 s)
 
-unfoldable pub read_script_args : List ℕ → PlaceAnswer
-read_script_args s = place_answer (decide Passed (script_args_rows s)) (script_args_place s)
+unfoldable pub read_script_args : List ℕ → Result Place ProtocolError
+read_script_args s = place_answer (decide (Ok tt) (script_args_rows s)) (script_args_place s)
 
 -- the bytes of s that an answer places, none where it is a refusal
-unfoldable pub bytes_in : List ℕ → PlaceAnswer → List ℕ
-bytes_in s (At p) = bytes_at s p
-bytes_in s (Refused e) = []
+unfoldable pub bytes_in : List ℕ → Result Place ProtocolError → List ℕ
+bytes_in s (Ok p) = bytes_at s p
+bytes_in s (Err e) = []
 
 -- document 01's number of the answer
-abbrev pub place_number : PlaceAnswer → ℕ
-place_number (At p) = 0
-place_number (Refused e) = error_number e
+abbrev pub place_number : Result Place ProtocolError → ℕ
+place_number (Ok p) = 0
+place_number (Err e) = error_number e

@@ -1,12 +1,10 @@
 -- 01, main.rs: "Canonical witness: the lock field becomes an empty Bytes, fields 2 and 3 are copied."
-use Rattle.std.specs.Prelude.{ℕ, ◌+◌, ◌≡◌, List, [], ◌∷◌, ◌++◌, length, take}
+use Rattle.std.specs.Prelude.{ℕ, ◌+◌, ◌≡◌, List, [], ◌∷◌, ◌++◌, length, take, Result}
 use Rattle.octets.specs.Layout.{Field}
-use Rattle.protocol.specs.Rows.{AllPass}
+use Rattle.protocol.specs.Rows.{AllPass, Check}
 use Rattle.protocol.specs.Write.{write_fault, write_answer, after_write}
 use Rattle.protocol.specs.declared.error.ProtocolError.{ProtocolError}
 use Rattle.protocol.specs.declared.error.ProtocolError.TheVariants.{InvalidWitness}
-use Rattle.protocol.specs.declared.check.Check.{Check}
-use Rattle.protocol.specs.declared.check.WriteAnswer.{WriteAnswer}
 use Rattle.molecule.specs.Molecule.{bytes_vector, table_bytes}
 use Rattle.molecule.specs.Table3.{table_rows, field1, field2, field3}
 
@@ -25,7 +23,7 @@ unfoldable pub canonical_room : List ℕ → ℕ → Check
 canonical_room s room = write_fault (table_rows InvalidWitness s) (length (canonical_of s)) room
 
 -- the writer's answer
-unfoldable pub canonical_written : List ℕ → List ℕ → WriteAnswer
+unfoldable pub canonical_written : List ℕ → List ℕ → Result ℕ ProtocolError
 canonical_written s out = write_answer (canonical_room s (length out)) (length (canonical_of s))
 
 -- and the buffer afterwards

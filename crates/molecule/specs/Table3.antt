@@ -1,16 +1,12 @@
 -- 01, main.rs: "`table3_fields` takes a Molecule table of three fields loosely". Its checks, its fields, and what its reader
 -- answers.
-use Rattle.std.specs.Prelude.{ℕ, ◌-◌, List, [], ◌∷◌, eqb, leb, length, take, drop}
+use Rattle.std.specs.Prelude.{ℕ, ◌-◌, List, [], ◌∷◌, eqb, leb, length, take, drop, Err, Ok, Result}
 use Rattle.octets.specs.Le.{number_at}
-use Rattle.protocol.specs.Rows.{Row, row, decide}
+use Rattle.protocol.specs.Rows.{Row, row, decide, Check}
 use Rattle.protocol.specs.declared.error.ProtocolError.{ProtocolError}
 use Rattle.protocol.specs.declared.error.ProtocolError.TheVariants.{InvalidWitness}
-use Rattle.protocol.specs.declared.check.Check.{Check}
-use Rattle.protocol.specs.declared.check.Check.TheVariants.{Passed, Failed}
 use Rattle.molecule.specs.Molecule.{table_bytes}
 use Rattle.molecule.specs.declared.table.TableFields.{TableFields}
-use Rattle.molecule.specs.declared.table.TableAnswer.{TableAnswer}
-use Rattle.molecule.specs.declared.table.TableAnswer.TheVariants.{Fields, Refused}
 
 -- a table's total size, and where its three fields begin
 abbrev pub table_total_of : List ℕ → ℕ
@@ -41,12 +37,12 @@ table_rows e s =
 unfoldable pub table_fields_of : List ℕ → TableFields
 table_fields_of s = record { first = 16; second = second_offset_of s; third = third_offset_of s }
 
-unfoldable pub table_answer : Check → TableFields → TableAnswer
-table_answer Passed f = Fields f
-table_answer (Failed e) f = Refused e
+unfoldable pub table_answer : Check → TableFields → Result TableFields ProtocolError
+table_answer (Ok _) f = Ok f
+table_answer (Err e) f = Err e
 
-unfoldable pub read_table : List ℕ → TableAnswer
-read_table s = table_answer (decide Passed (table_rows InvalidWitness s)) (table_fields_of s)
+unfoldable pub read_table : List ℕ → Result TableFields ProtocolError
+read_table s = table_answer (decide (Ok tt) (table_rows InvalidWitness s)) (table_fields_of s)
 
 -- the bytes of s from one place up to another
 unfoldable pub between : List ℕ → ℕ → ℕ → List ℕ

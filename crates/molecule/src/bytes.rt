@@ -1,8 +1,7 @@
 // The lock of a witness and the args of a script: fields that hold a vector of bytes.
-ghost use Rattle.std.specs.Prelude.{◌≡◌};
+ghost use Rattle.std.specs.Prelude.{◌≡◌, Ok};
 ghost use Rattle.octets.specs.Places.{bytes_at};
 ghost use Rattle.protocol.specs.Rows.{decide};
-ghost use Rattle.protocol.specs.declared.check.Check.TheVariants.{Passed};
 ghost use Rattle.molecule.specs.Bytes.{bytes_rows, bytes_place_from, place_answer, read_bytes};
 ghost use Rattle.molecule.specs.Bytes.{witness_lock_rows, witness_lock_place, read_witness_lock};
 ghost use Rattle.molecule.specs.Bytes.{script_args_rows, script_args_place, read_script_args};
@@ -10,21 +9,14 @@ ghost use Rattle.molecule.specs.Bytes.{script_args_rows, script_args_place, read
 use crate::fields::{bytes_length_of, first_field, third_field, third_offset_of};
 use crate::table::check_table;
 use octets::{Place, part_at};
-use protocol::{Check, ProtocolError};
-
-#[derive(Drop)]
-pub enum PlaceAnswer {
-    At(Place),
-    Refused(ProtocolError),
-}
+use protocol::{ProtocolError, require};
 
 // A length, then exactly so many bytes.
-fn check_bytes(field: &[u8], error: ProtocolError) -> Check
-    ensures { result ≡ decide Passed (bytes_rows error field.now) }
+fn check_bytes(field: &[u8], error: ProtocolError) -> Result<(), ProtocolError>
+    ensures { result ≡ decide (Ok tt) (bytes_rows error field.now) }
 {
-    Check::Passed
-        .require(4 <= field.len(), error)
-        .require(4 + bytes_length_of(field) as usize == field.len(), error)
+    require(4 <= field.len(), error)?;
+    require(4 + bytes_length_of(field) as usize == field.len(), error)
 }
 
 // The place of the bytes of a field that begins at `at`.
@@ -37,17 +29,15 @@ fn place_of(at: u32, field: &[u8]) -> Place
     }
 }
 
-fn place_answer(found: Check, place: Place) -> PlaceAnswer
+fn place_answer(found: Result<(), ProtocolError>, place: Place) -> Result<Place, ProtocolError>
     ensures { result ≡ place_answer found place }
 {
-    match found {
-        Check::Failed(error) => PlaceAnswer::Refused(error),
-        Check::Passed => PlaceAnswer::At(place),
-    }
+    found?;
+    Ok(place)
 }
 
 // The place of the bytes in a field.
-pub fn molecule_bytes(field: &[u8]) -> PlaceAnswer
+pub fn molecule_bytes(field: &[u8]) -> Result<Place, ProtocolError>
     ensures { result ≡ read_bytes field.now }
 {
     place_answer(
@@ -56,14 +46,14 @@ pub fn molecule_bytes(field: &[u8]) -> PlaceAnswer
     )
 }
 
-pub fn check_witness_lock(witness: &[u8]) -> Check
-    ensures { result ≡ decide Passed (witness_lock_rows witness.now) }
+pub fn check_witness_lock(witness: &[u8]) -> Result<(), ProtocolError>
+    ensures { result ≡ decide (Ok tt) (witness_lock_rows witness.now) }
 {
     let invalid = ProtocolError::InvalidWitness;
     let field = first_field(witness);
-    check_table(witness, invalid)
-        .require(1 <= field.len(), invalid)
-        .and(check_bytes(field, invalid))
+    check_table(witness, invalid)?;
+    require(1 <= field.len(), invalid)?;
+    check_bytes(field, invalid)
 }
 
 // Where the lock's bytes stand in a witness that passes.
@@ -81,17 +71,18 @@ pub fn lock_of(witness: &[u8]) -> &[u8]
 }
 
 // The place in a witness of its lock's bytes.
-pub fn witness_lock(witness: &[u8]) -> PlaceAnswer
+pub fn witness_lock(witness: &[u8]) -> Result<Place, ProtocolError>
     ensures { result ≡ read_witness_lock witness.now }
 {
     place_answer(check_witness_lock(witness), witness_lock_place(witness))
 }
 
-pub fn check_script_args(script: &[u8]) -> Check
-    ensures { result ≡ decide Passed (script_args_rows script.now) }
+pub fn check_script_args(script: &[u8]) -> Result<(), ProtocolError>
+    ensures { result ≡ decide (Ok tt) (script_args_rows script.now) }
 {
     let invalid = ProtocolError::InvalidArgs;
-    check_table(script, invalid).and(check_bytes(third_field(script), invalid))
+    check_table(script, invalid)?;
+    check_bytes(third_field(script), invalid)
 }
 
 // Where the args' bytes stand in a script that passes.
@@ -109,7 +100,7 @@ pub fn args_of(script: &[u8]) -> &[u8]
 }
 
 // The place in a script of its args' bytes.
-pub fn script_args(script: &[u8]) -> PlaceAnswer
+pub fn script_args(script: &[u8]) -> Result<Place, ProtocolError>
     ensures { result ≡ read_script_args script.now }
 {
     place_answer(check_script_args(script), script_args_place(script))

@@ -6,7 +6,7 @@ ghost use Rattle.molecule.specs.Canonical.{canonical_of, canonical_head, canonic
 use crate::fields::{second_field, second_offset_of, third_field};
 use crate::table::check_table;
 use octets::{fits, rest, store_bytes, store_number};
-use protocol::{Check, ProtocolError, WriteAnswer};
+use protocol::{ProtocolError, require};
 
 // The total, the three offsets, and the length of the empty lock.
 fn head_bytes(total: u64, third: u64) -> [u8; 20]
@@ -30,21 +30,17 @@ pub fn canonical_head(witness: &[u8]) -> [u8; 20]
 }
 
 // Writes the canonical witness to the front of `out` and answers its length. A refused writer writes nothing.
-pub fn canonical_witness(witness: &[u8], out: &mut [u8]) -> WriteAnswer
+pub fn canonical_witness(witness: &[u8], out: &mut [u8]) -> Result<usize, ProtocolError>
     ensures value { result ≡ canonical_written witness.now out.old }
     ensures out_after { out.new ≡ canonical_stored witness.now out.old }
 {
     let copied = rest(witness, second_offset_of(witness) as usize);
-    match check_table(witness, ProtocolError::InvalidWitness).require(
+    check_table(witness, ProtocolError::InvalidWitness).require(
         fits(out.len(), 20, copied.len()),
         ProtocolError::BufferTooShort,
-    ) {
-        Check::Failed(error) => WriteAnswer::Refused(error),
-        Check::Passed => {
-            let head = canonical_head(witness);
+    )?;
+    let head = canonical_head(witness);
             store_bytes(out, 0, &head);
             store_bytes(out, 20, copied);
-            WriteAnswer::Written(20 + copied.len())
-        }
-    }
+            Ok(20 + copied.len())
 }

@@ -7,10 +7,7 @@ mod table; // table.rt
 mod bytes; // bytes.rt
 mod canonical; // canonical.rt
 
-pub use self::bytes::{
-    PlaceAnswer, args_of, check_script_args, check_witness_lock, lock_of, molecule_bytes,
-    script_args, witness_lock,
-};
+pub use self::bytes::{args_of, check_script_args, check_witness_lock, lock_of, molecule_bytes, script_args, witness_lock};
 pub use self::canonical::{canonical_head, canonical_witness};
 pub use self::fields::{second_field, third_field};
-pub use self::table::{TableAnswer, TableFields, check_table, table3_fields};
+pub use self::table::{TableFields, check_table, table3_fields};

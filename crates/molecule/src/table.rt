@@ -1,11 +1,10 @@
 // The loose reader of a table of three fields.
-ghost use Rattle.std.specs.Prelude.{◌≡◌};
+ghost use Rattle.std.specs.Prelude.{◌≡◌, Ok};
 ghost use Rattle.protocol.specs.Rows.{decide};
-ghost use Rattle.protocol.specs.declared.check.Check.TheVariants.{Passed};
 ghost use Rattle.molecule.specs.Table3.{table_rows, table_fields_of, read_table};
 
 use crate::fields::{first_offset_of, second_offset_of, table_total_of, third_offset_of};
-use protocol::{Check, ProtocolError};
+use protocol::{ProtocolError, require};
 
 // Where each field begins. It ends where the next one begins, the last with the table.
 #[derive(Drop)]
@@ -15,24 +14,17 @@ pub struct TableFields {
     pub third: usize,
 }
 
-#[derive(Drop)]
-pub enum TableAnswer {
-    Fields(TableFields),
-    Refused(ProtocolError),
-}
-
-pub fn check_table(table: &[u8], error: ProtocolError) -> Check
-    ensures { result ≡ decide Passed (table_rows error table.now) }
+pub fn check_table(table: &[u8], error: ProtocolError) -> Result<(), ProtocolError>
+    ensures { result ≡ decide (Ok tt) (table_rows error table.now) }
 {
     let second = second_offset_of(table);
     let third = third_offset_of(table);
-    Check::Passed
-        .require(16 <= table.len(), error)
-        .require(table_total_of(table) as usize == table.len(), error)
-        .require(first_offset_of(table) == 16, error)
-        .require(16 <= second, error)
-        .require(second <= third, error)
-        .require(third as usize <= table.len(), error)
+    require(16 <= table.len(), error)?;
+    require(table_total_of(table) as usize == table.len(), error)?;
+    require(first_offset_of(table) == 16, error)?;
+    require(16 <= second, error)?;
+    require(second <= third, error)?;
+    require(third as usize <= table.len(), error)
 }
 
 fn fields_at(table: &[u8]) -> TableFields
@@ -46,11 +38,9 @@ fn fields_at(table: &[u8]) -> TableFields
 }
 
 // Where the fields of a table begin, or the refusal.
-pub fn table3_fields(table: &[u8]) -> TableAnswer
+pub fn table3_fields(table: &[u8]) -> Result<TableFields, ProtocolError>
     ensures { result ≡ read_table table.now }
 {
-    match check_table(table, ProtocolError::InvalidWitness) {
-        Check::Failed(error) => TableAnswer::Refused(error),
-        Check::Passed => TableAnswer::Fields(fields_at(table)),
-    }
+    check_table(table, ProtocolError::InvalidWitness)?;
+    Ok(fields_at(table))
 }

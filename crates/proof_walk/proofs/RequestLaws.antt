@@ -1,5 +1,6 @@
 -- The rows and the request of one proof: by the entry that was found, and how long the request is.
 -- Assumes nothing.
+use Rattle.std.specs.Prelude.{Ok, Option}
 use mathlib.Core.Path.{◌≡◌, refl, sym, ap, ◌∙◌}
 use mathlib.Core.Bool.{Bool}
 use mathlib.Core.List.{List, [], ◌∷◌}
@@ -12,15 +13,12 @@ use borrow.Author.Tests.{ne_eqb, leb-true}
 use Rattle.octets.proofs.Arrays.{length-array}
 use Rattle.protocol.specs.Rows.{decide}
 use Rattle.protocol.specs.Write.{write_answer, after_write}
-use Rattle.protocol.specs.declared.check.Check.TheVariants.{Passed}
-use Rattle.protocol.specs.declared.check.WriteAnswer.TheVariants.{Written}
 use Rattle.protocol.proofs.Back.{write-room}
 use Rattle.protocol.proofs.AllPass.{passed-all-pass}
 use Rattle.account_state.specs.Fields.{hash_type_of, code_hash_of, weight_of}
 use Rattle.account_state.specs.Reading.{EntryReading, entry_of}
 use Rattle.quorum.specs.Slots.{entry_for}
 use Rattle.quorum.specs.Places.{entry_place, is_known, entry_in}
-use Rattle.quorum.specs.declared.slot.EntryPlace.{EntryPlace}
 use Rattle.quorum.proofs.PlaceLaws.{place-known, place-entry}
 use Rattle.account_witness.specs.Reading.{ProofReading}
 use Rattle.verifier_request.specs.Reading.{request_bytes}
@@ -55,7 +53,7 @@ verifier-resolved table store entry s e =
 -- where every row passes the request writer refuses nothing: its answer is the request's length, which fits, and the request
 -- stands at the front
 module _ (known : Bool) (operation : ℕ) (digest : List ℕ) (deps : List Cell) (e : EntryReading) (p : ProofReading) (out : List ℕ)
-    (d : length digest ≡ 32) (h : decide Passed (found_rows known operation deps e (length p.bytes) (length out)) ≡ Passed) where
+    (d : length digest ≡ 32) (h : decide (Ok tt) (found_rows known operation deps e (length p.bytes) (length out)) ≡ Ok tt) where
   request-long : length (request_bytes (request_content operation digest e p)) ≡ request_total (request_content operation digest e p)
   unfolding request_content
   request-long = length-request (request_content operation digest e p) (record { digest = d; key = length-array 32 e.key })
@@ -64,14 +62,14 @@ module _ (known : Bool) (operation : ℕ) (digest : List ℕ) (deps : List Cell)
   unfolding found_rows authenticator_rows request_limit_rows request_content request_total
   request-fits = leb-true _ _ (passed-all-pass _ h).1.1.1.1.1.1.0
 
-  request-passes : request_writer_fault (request_content operation digest e p) (length out) ≡ Passed
+  request-passes : request_writer_fault (request_content operation digest e p) (length out) ≡ Ok tt
   unfolding found_rows request_writer_fault
   request-passes = write-room _ _ _ (request-limits operation digest deps e p (length out) (passed-all-pass _ h).1) request-fits
 
   pub made-fits : length (request_bytes (request_content operation digest e p)) ≤ length out
   made-fits = rw request-long request-fits
 
-  pub made-written : request_written (request_content operation digest e p) out ≡ Written (length (request_bytes (request_content operation digest e p)))
+  pub made-written : request_written (request_content operation digest e p) out ≡ Ok (length (request_bytes (request_content operation digest e p)))
   unfolding request_written write_answer
   made-written = rw (request-passes, request-long)
 
@@ -80,7 +78,7 @@ module _ (known : Bool) (operation : ℕ) (digest : List ℕ) (deps : List Cell)
   made-stored = rw request-passes
 
 -- rows, request and weight by the entry that was found
-module _ (table store state : List ℕ) (operation : ℕ) (digest : List ℕ) (room slot : ℕ) (bytes : List ℕ) (place : EntryPlace)
+module _ (table store state : List ℕ) (operation : ℕ) (digest : List ℕ) (room slot : ℕ) (bytes : List ℕ) (place : Option ℕ)
     (f : place ≡ entry_place slot state) where
   pub found_rows_lem : found_rows (is_known place) operation (scene_deps table store) (entry_of (entry_in state place)) (length bytes) room
       ≡ proof_rows (walk_context table store state operation digest room) 0 (proof_with slot bytes)

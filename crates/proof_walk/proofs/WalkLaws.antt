@@ -1,5 +1,6 @@
 -- The head of the walk's loop, and each way on from it.
 -- Assumes nothing.
+use Rattle.std.specs.Prelude.{Err, Ok}
 use mathlib.Core.Path.{◌≡◌, refl, sym, ap, ◌∙◌}
 use mathlib.Core.Logic.{◌≢◌, ⊎_elim}
 use mathlib.Core.Bool.{true, false, cond}
@@ -12,11 +13,9 @@ use lib.ListN.{length, length-append}
 use borrow.Author.Tests.{ne_eqb}
 use borrow.Rule.Slice.PartMut.{mid_len}
 use Rattle.protocol.specs.Policy.{is_operation}
-use Rattle.protocol.specs.Rows.{row, ◌▷◌, decide}
+use Rattle.protocol.specs.Rows.{row, ◌▷◌, decide, Check}
 use Rattle.protocol.specs.declared.error.ProtocolError.{ProtocolError}
 use Rattle.protocol.specs.declared.error.ProtocolError.TheVariants.{InvalidWitness, VerifierFailure, InvalidOperation}
-use Rattle.protocol.specs.declared.check.Check.{Check}
-use Rattle.protocol.specs.declared.check.Check.TheVariants.{Passed, Failed}
 use Rattle.account_witness.specs.Fields.{proof_count_of}
 use Rattle.account_witness.specs.Reading.{ProofReading, proof_of}
 use Rattle.account_witness.specs.Walk as witness
@@ -74,7 +73,7 @@ module _ (table store state : List ℕ) (operation : ℕ) (digest : List ℕ) wh
     walk-known h = rw h
 
     -- another is 37
-    pub walk-unknown : is_operation operation ≡ false → walk_proofs (S room) lock ≡ walk_outcome (Failed InvalidOperation) 0 []
+    pub walk-unknown : is_operation operation ≡ false → walk_proofs (S room) lock ≡ walk_outcome (Err InvalidOperation) 0 []
     unfolding walk_proofs walk_context context_for
     walk-unknown h = rw h
 
@@ -105,19 +104,19 @@ invariant-first c lock answer₀ count e =
 
 -- a proof with a faulty layout
 walk-faulty : (c : Context) (lock : List ℕ) (n : ℕ) (cursor : ProofCursor) (i weight : ℕ) (made : List ℕ) (e : ProtocolError)
-    → decide Passed (witness.proof_layout_rows lock cursor.offset cursor.least) ≡ Failed e
-    → walk_from_cursor c lock (suc n) cursor i weight made ≡ walk_outcome (Failed e) i made
+    → decide (Ok tt) (witness.proof_layout_rows lock cursor.offset cursor.least) ≡ Err e
+    → walk_from_cursor c lock (suc n) cursor i weight made ≡ walk_outcome (Err e) i made
 unfolding proofs_until_fault unless_faulty walk_from last_rows decide ◌▷◌
 walk-faulty c lock n cursor i weight made e h =
-    rw h (ap (λ (x : ProtocolError). walk_outcome (Failed x) i made) (layout-error lock cursor.offset cursor.least e h))
+    rw h (ap (λ (x : ProtocolError). walk_outcome (Err x) i made) (layout-error lock cursor.offset cursor.least e h))
 
 -- a proof with a sound one
 walk-read : (c : Context) (lock : List ℕ) (n : ℕ) (cursor : ProofCursor) (i weight : ℕ) (made : List ℕ)
-    → decide Passed (witness.proof_layout_rows lock cursor.offset cursor.least) ≡ Passed
+    → decide (Ok tt) (witness.proof_layout_rows lock cursor.offset cursor.least) ≡ Ok tt
     → let p = proof_of lock cursor.offset in
     walk_from_cursor c lock (suc n) cursor i weight made
-    ≡ unless_failed (decide Passed (proof_rows c (length made) p)) i made
-    (cond (eqb (verdict c i) 2) (walk_outcome (Failed VerifierFailure) (i + 1) (made ++ request_of c p))
+    ≡ unless_failed (decide (Ok tt) (proof_rows c (length made) p)) i made
+    (cond (eqb (verdict c i) 2) (walk_outcome (Err VerifierFailure) (i + 1) (made ++ request_of c p))
     (walk_from_cursor c lock n (witness.proof_cursor_behind lock cursor.offset) (i + 1) (weight + approved_weight c i p) (made ++ request_of c p)))
 unfolding proofs_until_fault unless_faulty walk_from witness.proof_cursor_behind
 walk-read c lock n cursor i weight made h = rw h
@@ -156,7 +155,7 @@ module _ (table store state : List ℕ) (operation : ℕ) (digest : List ℕ) {l
 
   -- every proof is passed
   pub walk_ends : count ≤ i
-      → walk_lock C lock ≡ walk_outcome (decide Passed (last_rows (eqb cursor.offset (length lock)) weight (threshold_of operation state))) i h.made
+      → walk_lock C lock ≡ walk_outcome (decide (Ok tt) (last_rows (eqb cursor.offset (length lock)) weight (threshold_of operation state))) i h.made
   unfolding walk_from proofs_until_fault walk_context context_for
   walk_ends e = let z : count - i ≡ 0 = omega arith in h.goes ∙ rw z
 
@@ -179,7 +178,7 @@ module _ (table store state : List ℕ) (operation : ℕ) (digest : List ℕ) {l
 
     -- it was refused
     pub turn_stopped : (e : ProtocolError) → ProofOutcomeIs L lock cursor i (lent_of total answer) after (outcome.Refused e)
-        → walk_lock C lock ≡ walk_outcome (Failed e) i h.made
+        → walk_lock C lock ≡ walk_outcome (Err e) i h.made
     unfolding unless_failed
     turn_stopped e t =
         from-here
@@ -202,14 +201,14 @@ module _ (table store state : List ℕ) (operation : ℕ) (digest : List ℕ) {l
           record { wrote = b; long = l; fits = f; kept = ap length b ∙ answered-length answer₀ (h.made ++ request_of C P) (omega arith) }
 
       gone : walk_lock C lock
-          ≡ cond (eqb (verdict C i) 2) (walk_outcome (Failed VerifierFailure) (i + 1) (h.made ++ request_of C P))
+          ≡ cond (eqb (verdict C i) 2) (walk_outcome (Err VerifierFailure) (i + 1) (h.made ++ request_of C P))
           (walk_from_cursor C lock (count - (i + 1)) (witness.proof_cursor_behind lock cursor.offset) (i + 1) (weight + approved_weight C i P) (h.made ++ request_of C P))
       unfolding unless_failed
       gone =
           let b = turn-both L lock cursor w.passed in
           from-here ∙ (walk-read C lock _ cursor i weight h.made b.0 ∙ rw (← lent_rows, b.1))
 
-      pub turn-failed : verdict L i ≡ 2 → walk_lock C lock ≡ walk_outcome (Failed VerifierFailure) (i + 1) (h.made ++ request_of C P)
+      pub turn-failed : verdict L i ≡ 2 → walk_lock C lock ≡ walk_outcome (Err VerifierFailure) (i + 1) (h.made ++ request_of C P)
       turn-failed v =
           let v₀ : verdict C i ≡ 2 = verdict-alike table store state operation digest (length answer₀) (length (lent_of total answer)) i ∙ v in
           gone ∙ rw v₀

@@ -1,8 +1,7 @@
 -- What the walk over a lent table, store and state answers.
-use Rattle.std.specs.Prelude.{ℕ, cond, List, [], length}
+use Rattle.std.specs.Prelude.{ℕ, cond, List, [], length, Err}
 use Rattle.protocol.specs.Policy.{is_operation}
 use Rattle.protocol.specs.declared.error.ProtocolError.TheVariants.{InvalidOperation}
-use Rattle.protocol.specs.declared.check.Check.TheVariants.{Failed}
 use Rattle.scene_table.specs.Scene.{Cell}
 use Rattle.scene_table.specs.Lent.{scene_in}
 use Rattle.decision.specs.Proofs.{Context, context_for}
@@ -21,7 +20,7 @@ walk_context table store state operation digest room =
 -- the walk for an operation from 1 to 3; for another no request is made, and the number is 37, as the Rust's
 -- `capability_for_operation`, which stands before its first proof, has it
 unfoldable pub walk_proofs : Context → List ℕ → WalkOutcome
-walk_proofs c lock = cond (is_operation c.operation) (walk_lock c lock) (walk_outcome (Failed InvalidOperation) 0 [])
+walk_proofs c lock = cond (is_operation c.operation) (walk_lock c lock) (walk_outcome (Err InvalidOperation) 0 [])
 
 -- what the walk answers of its outcome
 unfoldable pub proof_walk_answer : WalkOutcome → ProofWalkAnswer

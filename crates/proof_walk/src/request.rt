@@ -1,7 +1,6 @@
 // One proof: the rows that it passes before its request is made, and the request.
-ghost use Rattle.std.specs.Prelude.{◌≡◌, eqb, length};
+ghost use Rattle.std.specs.Prelude.{◌≡◌, eqb, length, Ok};
 ghost use Rattle.protocol.specs.Rows.{decide};
-ghost use Rattle.protocol.specs.declared.check.Check.TheVariants.{Passed};
 ghost use Rattle.account_state.specs.Reading.{entry_of};
 ghost use Rattle.verifier_request.specs.Writer.{request_written, request_stored};
 ghost use Rattle.decision.specs.Proofs.{verifier_field, verifiers, request_content};
@@ -9,24 +8,12 @@ ghost use Rattle.proof_walk.specs.Answer.{walk_context, scene_deps};
 ghost use Rattle.proof_walk.specs.Steps.{found_rows, proof_with, RequestStepIs};
 
 use crate::Authorization;
-use account_state::{
-    algorithm_of, aux_of, capabilities_of, code_hash_of, hash_type_of, key_of, weight_of,
-};
+use account_state::{algorithm_of, aux_of, capabilities_of, code_hash_of, hash_type_of, key_of, weight_of};
 use cell_search::{CellField, Source, search_cells};
 use octets::{array_32, fits, u8_at};
-use protocol::{
-    Check, ProtocolError, VERIFIER_MAX_AUX_LEN, VERIFIER_MAX_PROOF_LEN, VERIFIER_MAX_REQUEST_LEN,
-    VERIFIER_REQUEST_HEADER_LEN, WriteAnswer,
-};
+use protocol::{ProtocolError, VERIFIER_MAX_AUX_LEN, VERIFIER_MAX_PROOF_LEN, VERIFIER_MAX_REQUEST_LEN, VERIFIER_REQUEST_HEADER_LEN, require};
 use quorum::{entry_in, find_authenticator, is_capable, is_known};
 use verifier_request::encode_verifier_request;
-
-// A refusal, or the length of the request that was made and the weight of its slot.
-#[derive(Drop)]
-pub(crate) enum RequestStep {
-    Refused(ProtocolError),
-    Made(usize, u16),
-}
 
 // Which hash of a dep names the verifier.
 fn verifier_field(hash_type: u8) -> CellField
@@ -56,30 +43,23 @@ fn check_found(
     operation: u8,
     proof: usize,
     left: usize,
-) -> Check
-    ensures { result ≡ decide Passed
+) -> Result<(), ProtocolError>
+    ensures { result ≡ decide (Ok tt)
         (found_rows known operation (scene_deps table.now store.now) (entry_of entry.now) proof left) }
 {
     let aux = aux_of(entry).len();
     let invalid = ProtocolError::InvalidRequest;
     let head = VERIFIER_REQUEST_HEADER_LEN + aux;
-    Check::Passed
-        .require(known, ProtocolError::InvalidWitness)
-        .require(
-            is_capable(operation, capabilities_of(entry)),
-            ProtocolError::InvalidCapability,
-        )
-        .require(
-            resolve_verifier(table, store, entry),
-            ProtocolError::InvalidVerifierRef,
-        )
-        .require(proof <= VERIFIER_MAX_PROOF_LEN, invalid)
-        .require(
-            fits(VERIFIER_MAX_REQUEST_LEN, head, proof),
-            ProtocolError::LengthOverflow,
-        )
-        .require(aux <= VERIFIER_MAX_AUX_LEN, invalid)
-        .require(fits(left, head, proof), ProtocolError::BufferTooShort)
+    require(known, ProtocolError::InvalidWitness)?;
+    require(is_capable(operation, capabilities_of(entry)),
+            ProtocolError::InvalidCapability)?;
+    require(resolve_verifier(table, store, entry),
+            ProtocolError::InvalidVerifierRef)?;
+    require(proof <= VERIFIER_MAX_PROOF_LEN, invalid)?;
+    require(fits(VERIFIER_MAX_REQUEST_LEN, head, proof),
+            ProtocolError::LengthOverflow)?;
+    require(aux <= VERIFIER_MAX_AUX_LEN, invalid)?;
+    require(fits(left, head, proof), ProtocolError::BufferTooShort)
 }
 
 // Writes the request of a proof and its entry to the front of `out`.
@@ -89,7 +69,7 @@ fn encode_request(
     authorization: Authorization,
     proof: &[u8],
     out: &mut [u8],
-) -> WriteAnswer
+) -> Result<usize, ProtocolError>
     ensures value { result ≡ request_written
         (request_content authorization.operation authorization.digest (entry_of entry.now) (proof_with slot proof.now))
         out.old }
@@ -121,7 +101,7 @@ pub(crate) fn make_request(
     slot: u16,
     proof: &[u8],
     out: &mut [u8],
-) -> RequestStep
+) -> Result<(usize, u16), ProtocolError>
     ensures { RequestStepIs
         (walk_context table.now store.now state.now
         authorization.operation authorization.digest (length out.old))
@@ -130,7 +110,7 @@ pub(crate) fn make_request(
     let place = find_authenticator(state, slot);
     let entry = entry_in(state, place);
     let known = is_known(place);
-    match check_found(
+    check_found(
         table,
         store,
         known,
@@ -138,11 +118,9 @@ pub(crate) fn make_request(
         authorization.operation,
         proof.len(),
         out.len(),
-    ) {
-        Check::Failed(error) => RequestStep::Refused(error),
-        Check::Passed => match encode_request(entry, slot, authorization, proof, out) {
-            WriteAnswer::Refused(error) => RequestStep::Refused(error),
-            WriteAnswer::Written(len) => RequestStep::Made(len, weight_of(entry)),
-        },
-    }
+    )?;
+    match encode_request(entry, slot, authorization, proof, out) {
+            Err(error) => Err(error),
+            Ok(len) => Ok((len, weight_of(entry))),
+        }
 }

@@ -1,5 +1,5 @@
 // The walk over the proofs, one by one.
-ghost use Rattle.std.specs.Prelude.{◌≡◌, eqb, length};
+ghost use Rattle.std.specs.Prelude.{◌≡◌, eqb, length, Ok};
 ghost use Rattle.protocol.specs.Rows.{decide};
 ghost use Rattle.quorum.specs.Operation.{threshold_of};
 ghost use Rattle.decision.specs.Walk.{walk_lock, answered, last_rows};
@@ -7,17 +7,17 @@ ghost use Rattle.proof_walk.specs.Answer.{walk_context, walk_proofs, proof_walk_
 ghost use Rattle.proof_walk.specs.Steps.{verdict_outcome, ProofOutcomeIs};
 
 use crate::Authorization;
-use crate::request::{RequestStep, make_request};
-use account_witness::{ProofCursor, ProofStep, first_proof, next_proof, proof_count_of};
+use crate::request::make_request;
+use account_witness::{ProofCursor, first_proof, next_proof, proof_count_of};
 use octets::part;
-use protocol::{Check, ProtocolError, is_operation};
+use protocol::{ProtocolError, is_operation, require};
 use quorum::threshold_of;
 use scene_table::verdict;
 
 // What the walk answers: what the checks found, how many requests were made, and how many bytes they take.
 #[derive(Drop)]
 pub struct ProofWalkAnswer {
-    pub found: Check,
+    pub found: Result<(), ProtocolError>,
     pub count: usize,
     pub length: usize,
 }
@@ -59,13 +59,13 @@ fn walk_proof(
         lock.now cursor index out.old out.new result }
 {
     match next_proof(lock, cursor) {
-        ProofStep::Refused(error) => ProofOutcome::Refused(error),
-        ProofStep::Next(proof, next) => {
+        Err(error) => ProofOutcome::Refused(error),
+        Ok((proof, next)) => {
             let slot = proof.slot;
             let bytes = part(lock, proof.start, proof.len);
             match make_request(table, store, state, authorization, slot, bytes, out) {
-                RequestStep::Refused(error) => ProofOutcome::Refused(error),
-                RequestStep::Made(len, weight) => apply_verdict(
+                Err(error) => ProofOutcome::Refused(error),
+                Ok((len, weight)) => apply_verdict(
                     verdict(table, index as u32),
                     len,
                     weight,
@@ -77,18 +77,17 @@ fn walk_proof(
 }
 
 // The checks behind the last proof, where the walk stands at `offset`.
-fn check_last(state: &[u8], lock: &[u8], operation: u8, offset: usize, weight: u32) -> Check
-    ensures { result ≡ decide Check.Passed (last_rows (eqb offset (length lock.now)) weight (threshold_of operation state.now)) }
+fn check_last(state: &[u8], lock: &[u8], operation: u8, offset: usize, weight: u32) -> Result<(), ProtocolError>
+    ensures { result ≡ decide (Ok tt) (last_rows (eqb offset (length lock.now)) weight (threshold_of operation state.now)) }
 {
     let threshold = threshold_of(state, operation) as u32;
-    Check::Passed
-        .require(offset == lock.len(), ProtocolError::InvalidWitness)
-        .require(0 < threshold, ProtocolError::ThresholdUnsatisfied)
-        .require(threshold <= weight, ProtocolError::ThresholdUnsatisfied)
+    require(offset == lock.len(), ProtocolError::InvalidWitness)?;
+    require(0 < threshold, ProtocolError::ThresholdUnsatisfied)?;
+    require(threshold <= weight, ProtocolError::ThresholdUnsatisfied)
 }
 
 // The answer where `count` requests of `length` bytes were made.
-fn answer_of(found: Check, count: u8, length: usize) -> ProofWalkAnswer
+fn answer_of(found: Result<(), ProtocolError>, count: u8, length: usize) -> ProofWalkAnswer
     ensures { result ≡ record { found = found; count = count; length = length } }
 {
     ProofWalkAnswer {
@@ -124,9 +123,9 @@ fn walk_lock(
     while i < count {
         let out = &mut answer[total..];
         match walk_proof(table, store, state, lock, cursor, i, authorization, out) {
-            ProofOutcome::Refused(error) => return answer_of(Check::Failed(error), i, total),
+            ProofOutcome::Refused(error) => return answer_of(Err(error), i, total),
             ProofOutcome::Failed(len) => {
-                let failure = Check::Failed(ProtocolError::VerifierFailure);
+                let failure = Err(ProtocolError::VerifierFailure);
                 return answer_of(failure, i + 1, total + len);
             }
             ProofOutcome::Onward(len, added, next) => {
@@ -163,6 +162,6 @@ pub fn walk_proofs(
     if is_operation(authorization.operation) {
         walk_lock(table, store, state, lock, authorization, answer)
     } else {
-        answer_of(Check::Failed(ProtocolError::InvalidOperation), 0, 0)
+        answer_of(Err(ProtocolError::InvalidOperation), 0, 0)
     }
 }

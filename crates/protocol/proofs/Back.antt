@@ -1,5 +1,6 @@
 -- A writer whose refusals do not occur writes its bytes, or refuses with 5 a buffer that is too short.
 -- Assumes nothing.
+use Rattle.std.specs.Prelude.{Err, Ok}
 use mathlib.Core.Path.{◌≡◌, ◌∙◌}
 use mathlib.Core.List.{List, [], ◌∷◌}
 use Prim.Native.Nat.{ℕ, ◌≤◌, ◌<◌}
@@ -11,20 +12,19 @@ use Rattle.protocol.specs.Rows.{Row, row, ◌▷◌, decide, AllPass}
 use Rattle.protocol.specs.Write.{write_fault, write_answer, after_write}
 use Rattle.protocol.specs.Reading.{WritesBack}
 use Rattle.protocol.specs.declared.error.ProtocolError.TheVariants.{BufferTooShort}
-use Rattle.protocol.specs.declared.check.Check.TheVariants.{Passed, Failed}
 use Rattle.protocol.proofs.AllPass.{decide-append, all-pass-passed, passed-all-pass, all-pass-split}
 
 -- every row passes: the room decides
-pub write-room : (rows : List Row) (total room : ℕ) → AllPass rows → total ≤ room → write_fault rows total room ≡ Passed
+pub write-room : (rows : List Row) (total room : ℕ) → AllPass rows → total ≤ room → write_fault rows total room ≡ Ok tt
 unfolding write_fault decide ◌▷◌
-write-room rows total room h l = decide-append Passed rows _ ∙ rw (all-pass-passed rows h, le-leb total room l)
+write-room rows total room h l = decide-append (Ok tt) rows _ ∙ rw (all-pass-passed rows h, le-leb total room l)
 
-pub write-short : (rows : List Row) (total room : ℕ) → AllPass rows → room < total → write_fault rows total room ≡ Failed BufferTooShort
+pub write-short : (rows : List Row) (total room : ℕ) → AllPass rows → room < total → write_fault rows total room ≡ Err BufferTooShort
 unfolding write_fault decide ◌▷◌
-write-short rows total room h l = decide-append Passed rows _ ∙ rw (all-pass-passed rows h, lt-leb total room l)
+write-short rows total room h l = decide-append (Ok tt) rows _ ∙ rw (all-pass-passed rows h, lt-leb total room l)
 
 -- where a writer passes, every row does and there is room
-pub write-passed : (rows : List Row) (total room : ℕ) → write_fault rows total room ≡ Passed → AllPass rows × (total ≤ room)
+pub write-passed : (rows : List Row) (total room : ℕ) → write_fault rows total room ≡ Ok tt → AllPass rows × (total ≤ room)
 unfolding write_fault
 write-passed rows total room h =
     let z = all-pass-split rows (row (leb total room) BufferTooShort ∷ []) (passed-all-pass _ h) in

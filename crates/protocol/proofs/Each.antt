@@ -1,12 +1,11 @@
 -- Where the refusal of every row has a property, or of every row that can be the first to fail, so has the refusal that the rows find.
 -- Assumes nothing.
+use Rattle.std.specs.Prelude.{Err, Ok}
 use mathlib.Core.Path.{◌≡◌, refl, subst}
 use mathlib.Core.Bool.{Bool, true, false, cond}
 use mathlib.Core.List.{List, [], ◌∷◌, ◌++◌}
-use Rattle.protocol.specs.Rows.{Row, ◌▷◌, decide}
+use Rattle.protocol.specs.Rows.{Row, ◌▷◌, decide, Check}
 use Rattle.protocol.specs.declared.error.ProtocolError.{ProtocolError}
-use Rattle.protocol.specs.declared.check.Check.{Check}
-use Rattle.protocol.specs.declared.check.Check.TheVariants.{Passed, Failed}
 use Rattle.protocol.proofs.AllPass.{decide-failed}
 
 -- the refusal of every row has the property P
@@ -21,8 +20,8 @@ EachFailing P (r ∷ rs) = (r.test ≡ false → P r.error) × (r.test ≡ true 
 
 -- what the checks found has the property P, where it is a refusal
 abbrev pub Refuses : (ProtocolError → Type 0) → Check → Type 0
-Refuses P Passed = Unit {0}
-Refuses P (Failed e) = P e
+Refuses P (Ok _) = Unit {0}
+Refuses P (Err e) = P e
 
 module _ (P : ProtocolError → Type 0) where
   -- one list of rows after another
@@ -36,28 +35,28 @@ module _ (P : ProtocolError → Type 0) where
   each-cond false ps qs h k = k
 
   -- what the rows find has the property
-  pub each-refuses : (rs : List Row) → Each P rs → Refuses P (decide Passed rs)
+  pub each-refuses : (rs : List Row) → Each P rs → Refuses P (decide (Ok tt) rs)
   unfolding decide ◌▷◌
   each-refuses [] h = tt
   each-refuses (r ∷ rs) h = go r.test (each-refuses rs h.1)
     where
-      go : (b : Bool) → Refuses P (decide Passed rs) → Refuses P (decide (cond b Passed (Failed r.error)) rs)
+      go : (b : Bool) → Refuses P (decide (Ok tt) rs) → Refuses P (decide (cond b (Ok tt) (Err r.error)) rs)
       go true k = k
       go false k = rw (decide-failed rs r.error) h.0
 
   -- as it has where every row that fails first has it
-  pub failing-refuses : (rs : List Row) → EachFailing P rs → Refuses P (decide Passed rs)
+  pub failing-refuses : (rs : List Row) → EachFailing P rs → Refuses P (decide (Ok tt) rs)
   unfolding decide ◌▷◌
   failing-refuses [] h = tt
   failing-refuses (r ∷ rs) h = go r.test h.0 (λ t. failing-refuses rs (h.1 t))
     where
-      go : (b : Bool) → (b ≡ false → P r.error) → (b ≡ true → Refuses P (decide Passed rs))
-          → Refuses P (decide (cond b Passed (Failed r.error)) rs)
+      go : (b : Bool) → (b ≡ false → P r.error) → (b ≡ true → Refuses P (decide (Ok tt) rs))
+          → Refuses P (decide (cond b (Ok tt) (Err r.error)) rs)
       go true f k = k refl
       go false f k = rw (decide-failed rs r.error) (f refl)
 
   -- so has the refusal that they give
-  pub each-failed : (rs : List Row) (e : ProtocolError) → Each P rs → decide Passed rs ≡ Failed e → P e
+  pub each-failed : (rs : List Row) (e : ProtocolError) → Each P rs → decide (Ok tt) rs ≡ Err e → P e
   each-failed rs e h f = subst (Refuses P) f (each-refuses rs h)
 
 -- a property that follows from another

@@ -1,13 +1,11 @@
 -- 01, Args: "33 bytes, 0x01 and the account id. Length 32 or 34 is 20; then a wrong first byte is 32."
-use Rattle.std.specs.Prelude.{ℕ, List, [], ◌∷◌, eqb, length, take, drop}
+use Rattle.std.specs.Prelude.{ℕ, List, [], ◌∷◌, eqb, length, take, drop, Err, Ok, Result}
+use Rattle.protocol.specs.declared.error.ProtocolError.{ProtocolError}
+use Rattle.protocol.specs.declared.args.AccountLockArgs.{AccountLockArgs}
 use Rattle.octets.specs.Le.{number_at}
 use Rattle.protocol.specs.Errors.{error_number}
-use Rattle.protocol.specs.Rows.{Row, row, decide}
+use Rattle.protocol.specs.Rows.{Row, row, decide, Check}
 use Rattle.protocol.specs.declared.error.ProtocolError.TheVariants.{InvalidArgs, UnsupportedVersion}
-use Rattle.protocol.specs.declared.check.Check.{Check}
-use Rattle.protocol.specs.declared.check.Check.TheVariants.{Passed, Failed}
-use Rattle.protocol.specs.declared.args.ArgsAnswer.{ArgsAnswer}
-use Rattle.protocol.specs.declared.args.ArgsAnswer.TheVariants.{Args, Refused}
 
 abbrev pub args_version_of : List ℕ → ℕ
 args_version_of s = number_at s 0 1
@@ -16,12 +14,12 @@ unfoldable pub args_rows : List ℕ → List Row
 args_rows s = row (eqb (length s) 33) InvalidArgs ∷ row (eqb (args_version_of s) 1) UnsupportedVersion ∷ []
 
 -- the account id stands at place 1
-unfoldable pub args_answer : Check → ArgsAnswer
-args_answer Passed = Args (record { version = 1; account_id = 1 })
-args_answer (Failed e) = Refused e
+unfoldable pub args_answer : Check → Result AccountLockArgs ProtocolError
+args_answer (Ok _) = Ok (record { version = 1; account_id = 1 })
+args_answer (Err e) = Err e
 
-unfoldable pub read_args : List ℕ → ArgsAnswer
-read_args s = args_answer (decide Passed (args_rows s))
+unfoldable pub read_args : List ℕ → Result AccountLockArgs ProtocolError
+read_args s = args_answer (decide (Ok tt) (args_rows s))
 
 -- the reading: the account id. Its written form:
 unfoldable pub args_bytes : List ℕ → List ℕ
@@ -31,6 +29,6 @@ unfoldable pub account_of : List ℕ → List ℕ
 account_of s = take 32 (drop 1 s)
 
 -- document 01's number of the answer
-abbrev pub args_number : ArgsAnswer → ℕ
-args_number (Args a) = 0
-args_number (Refused e) = error_number e
+abbrev pub args_number : Result AccountLockArgs ProtocolError → ℕ
+args_number (Ok a) = 0
+args_number (Err e) = error_number e

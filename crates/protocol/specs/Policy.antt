@@ -1,10 +1,9 @@
 -- Algorithms, operations and capabilities.
-use Rattle.std.specs.Prelude.{ℕ, ◌/◌, ◌%◌, Bool, ◌||◌, cond, List, [], ◌∷◌, eqb}
+use Rattle.std.specs.Prelude.{ℕ, ◌/◌, ◌%◌, Bool, ◌||◌, cond, List, [], ◌∷◌, eqb, Err, Ok, Result}
+use Rattle.protocol.specs.declared.error.ProtocolError.{ProtocolError}
 use Rattle.protocol.specs.Errors.{error_number}
 use Rattle.protocol.specs.Rows.{Row, row}
 use Rattle.protocol.specs.declared.error.ProtocolError.TheVariants.{InvalidOperation}
-use Rattle.protocol.specs.declared.policy.OperationCapability.{OperationCapability}
-use Rattle.protocol.specs.declared.policy.OperationCapability.TheVariants.{Capability, Refused}
 
 -- 01, each entry: "algorithm 0x0001, 0x0101, 0x0102, 0x0103 or 0x0201 (33)"
 unfoldable pub is_supported_algorithm : ℕ → Bool
@@ -20,14 +19,14 @@ unfoldable pub operation_rows : ℕ → List Row
 operation_rows o = row (is_operation o) InvalidOperation ∷ []
 
 -- 01: "Capability bits 1, 2, 4, 8: spend, rotate, recovery, session issue."
-unfoldable pub capability_for : ℕ → OperationCapability
+unfoldable pub capability_for : ℕ → Result ℕ ProtocolError
 capability_for o =
-    cond (eqb o 1) (Capability 1) (cond (eqb o 2) (Capability 2) (cond (eqb o 3) (Capability 4) (Refused InvalidOperation)))
+    cond (eqb o 1) (Ok 1) (cond (eqb o 2) (Ok 2) (cond (eqb o 3) (Ok 4) (Err InvalidOperation)))
 
 -- document 01's number of the answer
-abbrev pub capability_number : OperationCapability → ℕ
-capability_number (Capability bit) = 0
-capability_number (Refused e) = error_number e
+abbrev pub capability_number : Result ℕ ProtocolError → ℕ
+capability_number (Ok bit) = 0
+capability_number (Err e) = error_number e
 
 -- the capabilities have this bit; 0 is no bit
 unfoldable pub has_capability : ℕ → ℕ → Bool

@@ -1,9 +1,12 @@
 -- Checks in the document's order, a row for each: the first that fails decides.
-use Rattle.std.specs.Prelude.{ℕ, Bool, true, false, cond, List, [], ◌∷◌, ◌≡◌, ◌⊎◌}
+use Rattle.std.specs.Prelude.{ℕ, Bool, true, false, cond, List, [], ◌∷◌, ◌≡◌, ◌⊎◌, Result, Ok, Err}
+use Rattle.std.specs.Result.{result_and}
 use Rattle.protocol.specs.Errors.{error_number}
 use Rattle.protocol.specs.declared.error.ProtocolError.{ProtocolError}
-use Rattle.protocol.specs.declared.check.Check.{Check}
-use Rattle.protocol.specs.declared.check.Check.TheVariants.{Passed, Failed}
+
+-- what checks find: nothing, or a refusal
+abbrev pub Check : Type 0
+Check = Result Unit ProtocolError
 
 infixl 20 ◌▷◌
 infixl 20 ◌then◌
@@ -16,14 +19,13 @@ abbrev pub row : Bool → ProtocolError → Row
 row ok e = record { test = ok; error = e }
 
 -- one check more
-unfoldable pub ◌▷◌ : Check → Row → Check
-Passed ▷ r = cond r.test Passed (Failed r.error)
-Failed e ▷ r = Failed e
+abbrev pub ◌▷◌ : Check → Row → Check
+Ok _ ▷ r = cond r.test (Ok tt) (Err r.error)
+Err e ▷ r = Err e
 
 -- what later checks find counts where the first ones passed
-unfoldable pub ◌then◌ : Check → Check → Check
-Passed then later = later
-Failed e then later = Failed e
+abbrev pub ◌then◌ : Check → Check → Check
+first then later = result_and first later
 
 -- the first row that fails decides
 unfoldable pub decide : Check → List Row → Check
@@ -42,5 +44,5 @@ FirstFailed (r ∷ rs) e = ((r.test ≡ false) × (r.error ≡ e)) ⊎ ((r.test 
 
 -- document 01's number of what the checks found, 0 where all passed
 abbrev pub check_number : Check → ℕ
-check_number Passed = 0
-check_number (Failed e) = error_number e
+check_number (Ok _) = 0
+check_number (Err e) = error_number e

@@ -1,9 +1,9 @@
 // The lock's args: 0x01 and the account id.
-ghost use Rattle.std.specs.Prelude.{◌≡◌};
+ghost use Rattle.std.specs.Prelude.{◌≡◌, Ok};
 ghost use Rattle.protocol.specs.Args.{args_version_of, account_of, args_rows, read_args, args_bytes};
 ghost use Rattle.protocol.specs.Rows.{decide};
 
-use crate::check::Check;
+use crate::check::require;
 use crate::constants::{ACCOUNT_LOCK_ARGS_LEN, ACCOUNT_LOCK_VERSION};
 use crate::error::ProtocolError;
 use octets::{part, store_bytes, u8_at};
@@ -13,12 +13,6 @@ use octets::{part, store_bytes, u8_at};
 pub struct AccountLockArgs {
     pub version: u8,
     pub account_id: usize,
-}
-
-#[derive(Drop)]
-pub enum ArgsAnswer {
-    Args(AccountLockArgs),
-    Refused(ProtocolError),
 }
 
 // The first byte, zero where there is none.
@@ -35,32 +29,31 @@ pub fn account_of(args: &[u8]) -> &[u8]
     part(args, 1, 32)
 }
 
-pub fn check_args(data: &[u8]) -> Check
-    ensures { result ≡ decide Check.Passed (args_rows «data».now) }
+#[tactic(auto, unfolding(crate::specs::Rows::decide, crate::specs::Args::args_rows))]
+pub fn check_args(data: &[u8]) -> Result<(), ProtocolError>
+    ensures { result ≡ decide (Ok tt) (args_rows «data».now) }
 {
-    Check::Passed
-        .require(
-            data.len() == ACCOUNT_LOCK_ARGS_LEN,
-            ProtocolError::InvalidArgs,
-        )
-        .require(
-            args_version_of(data) == ACCOUNT_LOCK_VERSION,
-            ProtocolError::UnsupportedVersion,
-        )
+    require(
+        data.len() == ACCOUNT_LOCK_ARGS_LEN,
+        ProtocolError::InvalidArgs,
+    )?;
+    require(
+        args_version_of(data) == ACCOUNT_LOCK_VERSION,
+        ProtocolError::UnsupportedVersion,
+    )
 }
 
 impl AccountLockArgs {
     // The version and the place of the account, or 20 or 32.
-    pub fn parse(data: &[u8]) -> ArgsAnswer
+    #[tactic(auto, unfolding(crate::specs::Args::args_answer, crate::specs::Args::read_args))]
+    pub fn parse(data: &[u8]) -> Result<AccountLockArgs, ProtocolError>
         ensures { result ≡ read_args «data».now }
     {
-        match check_args(data) {
-            Check::Failed(error) => ArgsAnswer::Refused(error),
-            Check::Passed => ArgsAnswer::Args(AccountLockArgs {
-                version: ACCOUNT_LOCK_VERSION,
-                account_id: 1,
-            }),
-        }
+        check_args(data)?;
+        Ok(AccountLockArgs {
+            version: ACCOUNT_LOCK_VERSION,
+            account_id: 1,
+        })
     }
 }
 

@@ -1,57 +1,23 @@
 // Checks in order: the first that fails decides.
-ghost use Rattle.std.specs.Prelude.{◌≡◌};
-ghost use Rattle.protocol.specs.Rows.{◌▷◌, row, ◌then◌, check_number};
+ghost use Rattle.std.specs.Prelude.{◌≡◌, Ok};
+ghost use Rattle.protocol.specs.Rows.{◌▷◌, row, check_number};
 
 use crate::error::{ProtocolError, error_number};
 
-// What the checks find.
-#[derive(Clone, Copy)]
-pub enum Check {
-    Passed,
-    Failed(ProtocolError),
-}
-
-// What a writer answers: how many bytes it wrote, or its refusal.
-#[derive(Drop)]
-pub enum WriteAnswer {
-    Written(usize),
-    Refused(ProtocolError),
-}
-
-impl Check {
-    // One check more.
-    pub fn require(self, ok: bool, error: ProtocolError) -> Check
-        ensures { result ≡ self ▷ row ok error }
-    {
-        match self {
-            Check::Failed(first) => Check::Failed(first),
-            Check::Passed => {
-                if ok {
-                    Check::Passed
-                } else {
-                    Check::Failed(error)
-                }
-            }
-        }
-    }
-
-    // What later checks find counts where these passed.
-    pub fn and(self, later: Check) -> Check
-        ensures { result ≡ self then later }
-    {
-        match self {
-            Check::Failed(first) => Check::Failed(first),
-            Check::Passed => later,
-        }
-    }
+// One check: its refusal where the test fails. A list of checks is a `require(..)?` for each.
+#[tactic(auto, unfolding(crate::specs::Rows::decide))]
+pub fn require(ok: bool, error: ProtocolError) -> Result<(), ProtocolError>
+    ensures { result ≡ Ok tt ▷ row ok error }
+{
+    if ok { Ok(()) } else { Err(error) }
 }
 
 // Document 01's number of what was found, 0 where all passed.
-pub fn check_number(found: Check) -> u8
+pub fn check_number(found: Result<(), ProtocolError>) -> u8
     ensures { result ≡ check_number found }
 {
     match found {
-        Check::Failed(error) => error_number(error),
-        Check::Passed => 0,
+        Err(error) => error_number(error),
+        Ok(()) => 0,
     }
 }

@@ -9,8 +9,8 @@ mod check; // check.rt
 mod policy; // policy.rt
 mod args; // args.rt
 
-pub use self::args::{AccountLockArgs, ArgsAnswer, account_lock_args, account_of, check_args};
-pub use self::check::{Check, WriteAnswer, check_number};
+pub use self::args::{AccountLockArgs, account_lock_args, account_of, check_args};
+pub use self::check::{check_number, require};
 pub use self::constants::{
     ACCOUNT_LOCK_ARGS_LEN, ACCOUNT_LOCK_VERSION, ACCOUNT_STATE_HEADER_LEN, ACCOUNT_STATE_MAGIC,
     ACCOUNT_STATE_MAX_AUX_LEN, ACCOUNT_STATE_MAX_LEN, ACCOUNT_STATE_VERSION,
@@ -26,6 +26,4 @@ pub use self::error::{ProtocolError, error_number};
 pub use self::limits::{
     ANSWER_BUFFER_LEN, DIGITS_MAX_COUNT, KIND_MAX_LINES, SCENE_MAX_LEN, TABLE_MIN_ENTRIES,
 };
-pub use self::policy::{
-    OperationCapability, capability_for_operation, is_operation, is_supported_algorithm,
-};
+pub use self::policy::{capability_for_operation, is_operation, is_supported_algorithm};

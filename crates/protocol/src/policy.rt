@@ -8,13 +8,6 @@ use crate::constants::{
 };
 use crate::error::ProtocolError;
 
-// The capability bit that an operation needs, or 37.
-#[derive(Drop)]
-pub enum OperationCapability {
-    Capability(u16),
-    Refused(ProtocolError),
-}
-
 // Whether the lock knows the algorithm of an entry.
 pub fn is_supported_algorithm(algorithm: u16) -> bool
     ensures { result ≡ is_supported_algorithm algorithm }
@@ -30,14 +23,14 @@ pub fn is_supported_algorithm(algorithm: u16) -> bool
 }
 
 // The capability that a proof of this operation needs.
-pub fn capability_for_operation(operation: u8) -> OperationCapability
+pub fn capability_for_operation(operation: u8) -> Result<u16, ProtocolError>
     ensures { result ≡ capability_for operation }
 {
     match operation {
-        OP_SPEND => OperationCapability::Capability(CAP_SPEND),
-        OP_ROTATE => OperationCapability::Capability(CAP_ROTATE),
-        OP_RECOVERY => OperationCapability::Capability(CAP_RECOVERY),
-        _ => OperationCapability::Refused(ProtocolError::InvalidOperation),
+        OP_SPEND => Ok(CAP_SPEND),
+        OP_ROTATE => Ok(CAP_ROTATE),
+        OP_RECOVERY => Ok(CAP_RECOVERY),
+        _ => Err(ProtocolError::InvalidOperation),
     }
 }
 

@@ -1,15 +1,12 @@
 -- 01, Public-key proof: "1, key length, signature length (u16), both not 0, both parts, no more (36)." Its checks, and what
 -- its reader answers.
-use Rattle.std.specs.Prelude.{ℕ, ◌+◌, List, [], ◌∷◌, eqb, leb, ltb, length}
+use Rattle.std.specs.Prelude.{ℕ, ◌+◌, List, [], ◌∷◌, eqb, leb, ltb, length, Err, Ok, Result}
+use Rattle.protocol.specs.declared.error.ProtocolError.{ProtocolError}
 use Rattle.octets.specs.Le.{number_at}
 use Rattle.protocol.specs.Errors.{error_number}
-use Rattle.protocol.specs.Rows.{Row, row, decide}
+use Rattle.protocol.specs.Rows.{Row, row, decide, Check}
 use Rattle.protocol.specs.declared.error.ProtocolError.TheVariants.{InvalidProof}
-use Rattle.protocol.specs.declared.check.Check.{Check}
-use Rattle.protocol.specs.declared.check.Check.TheVariants.{Passed, Failed}
 use Rattle.public_key_proof.specs.declared.reader.PublicKeyProof.{PublicKeyProof}
-use Rattle.public_key_proof.specs.declared.reader.PublicKeyProofAnswer.{PublicKeyProofAnswer}
-use Rattle.public_key_proof.specs.declared.reader.PublicKeyProofAnswer.TheVariants.{Proof, Refused}
 
 -- the fields before the two parts
 abbrev pub public_key_proof_version_of : List ℕ → ℕ
@@ -35,7 +32,7 @@ public_key_proof_rows s =
     ∷ []
 
 unfoldable pub public_key_proof_fault : List ℕ → Check
-public_key_proof_fault s = decide Passed (public_key_proof_rows s)
+public_key_proof_fault s = decide (Ok tt) (public_key_proof_rows s)
 
 -- the places of the key and the signature
 unfoldable pub public_key_proof_places : List ℕ → PublicKeyProof
@@ -47,14 +44,14 @@ public_key_proof_places s =
       signature_len = signature_length_of s;
     }
 
-unfoldable pub public_key_proof_answer : Check → PublicKeyProof → PublicKeyProofAnswer
-public_key_proof_answer Passed p = Proof p
-public_key_proof_answer (Failed e) p = Refused e
+unfoldable pub public_key_proof_answer : Check → PublicKeyProof → Result PublicKeyProof ProtocolError
+public_key_proof_answer (Ok _) p = Ok p
+public_key_proof_answer (Err e) p = Err e
 
-unfoldable pub read_public_key_proof : List ℕ → PublicKeyProofAnswer
+unfoldable pub read_public_key_proof : List ℕ → Result PublicKeyProof ProtocolError
 read_public_key_proof s = public_key_proof_answer (public_key_proof_fault s) (public_key_proof_places s)
 
 -- document 01's number of the answer
-abbrev pub public_key_proof_number : PublicKeyProofAnswer → ℕ
-public_key_proof_number (Proof p) = 0
-public_key_proof_number (Refused e) = error_number e
+abbrev pub public_key_proof_number : Result PublicKeyProof ProtocolError → ℕ
+public_key_proof_number (Ok p) = 0
+public_key_proof_number (Err e) = error_number e

@@ -1,11 +1,10 @@
 -- What the writer of a public-key proof answers and leaves: 01, "Then writers refuse as in the Rust, then with 5 if the buffer
 -- is short".
-use Rattle.std.specs.Prelude.{ℕ, ◌+◌, List, [], ◌∷◌, leb, ltb, length}
-use Rattle.protocol.specs.Rows.{Row, row}
+use Rattle.std.specs.Prelude.{ℕ, ◌+◌, List, [], ◌∷◌, leb, ltb, length, Result}
+use Rattle.protocol.specs.declared.error.ProtocolError.{ProtocolError}
+use Rattle.protocol.specs.Rows.{Row, row, Check}
 use Rattle.protocol.specs.Write.{write_fault, write_answer, after_write}
 use Rattle.protocol.specs.declared.error.ProtocolError.TheVariants.{InvalidProof, LengthOverflow}
-use Rattle.protocol.specs.declared.check.Check.{Check}
-use Rattle.protocol.specs.declared.check.WriteAnswer.{WriteAnswer}
 use Rattle.public_key_proof.specs.Reader.{public_key_offset}
 use Rattle.public_key_proof.specs.Reading.{PublicKeyProofReading, public_key_proof_bytes}
 
@@ -28,7 +27,7 @@ unfoldable pub public_key_proof_writer_fault : PublicKeyProofReading → ℕ →
 public_key_proof_writer_fault r room = write_fault (public_key_proof_writer_rows r) (public_key_proof_total r) room
 
 -- the writer's answer
-unfoldable pub public_key_proof_written : PublicKeyProofReading → List ℕ → WriteAnswer
+unfoldable pub public_key_proof_written : PublicKeyProofReading → List ℕ → Result ℕ ProtocolError
 public_key_proof_written r out = write_answer (public_key_proof_writer_fault r (length out)) (public_key_proof_total r)
 
 -- and the buffer afterwards

@@ -6,5 +6,5 @@ mod offsets; // offsets.rt
 mod reader; // reader.rt
 mod writer; // writer.rt
 
-pub use self::reader::{PublicKeyProof, PublicKeyProofAnswer, parse_public_key_proof};
+pub use self::reader::{PublicKeyProof, parse_public_key_proof};
 pub use self::writer::encode_public_key_proof;

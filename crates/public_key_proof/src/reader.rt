@@ -4,7 +4,7 @@ ghost use Rattle.public_key_proof.specs.Reader.{public_key_proof_fault, public_k
 
 use crate::fields::{public_key_length_of, public_key_proof_version_of, signature_length_of};
 use crate::offsets::PUBLIC_KEY_OFFSET;
-use protocol::{Check, ProtocolError};
+use protocol::{ProtocolError, require};
 
 // Where the key and the signature begin, and how long they are.
 #[derive(Drop)]
@@ -15,27 +15,18 @@ pub struct PublicKeyProof {
     pub signature_len: usize,
 }
 
-#[derive(Drop)]
-pub enum PublicKeyProofAnswer {
-    Proof(PublicKeyProof),
-    Refused(ProtocolError),
-}
-
-fn check_proof(proof: &[u8]) -> Check
+fn check_proof(proof: &[u8]) -> Result<(), ProtocolError>
     ensures { result ≡ public_key_proof_fault proof.now }
 {
     let invalid = ProtocolError::InvalidProof;
     let public_key_len = public_key_length_of(proof) as usize;
     let signature_len = signature_length_of(proof) as usize;
-    Check::Passed
-        .require(PUBLIC_KEY_OFFSET <= proof.len(), invalid)
-        .require(public_key_proof_version_of(proof) == 1, invalid)
-        .require(0 < public_key_len, invalid)
-        .require(0 < signature_len, invalid)
-        .require(
-            PUBLIC_KEY_OFFSET + public_key_len + signature_len == proof.len(),
-            invalid,
-        )
+    require(PUBLIC_KEY_OFFSET <= proof.len(), invalid)?;
+    require(public_key_proof_version_of(proof) == 1, invalid)?;
+    require(0 < public_key_len, invalid)?;
+    require(0 < signature_len, invalid)?;
+    require(PUBLIC_KEY_OFFSET + public_key_len + signature_len == proof.len(),
+            invalid)
 }
 
 fn places_at(proof: &[u8]) -> PublicKeyProof
@@ -51,11 +42,9 @@ fn places_at(proof: &[u8]) -> PublicKeyProof
 }
 
 // The places of the key and the signature, or the refusal.
-pub fn parse_public_key_proof(proof: &[u8]) -> PublicKeyProofAnswer
+pub fn parse_public_key_proof(proof: &[u8]) -> Result<PublicKeyProof, ProtocolError>
     ensures { result ≡ read_public_key_proof proof.now }
 {
-    match check_proof(proof) {
-        Check::Failed(error) => PublicKeyProofAnswer::Refused(error),
-        Check::Passed => PublicKeyProofAnswer::Proof(places_at(proof)),
-    }
+    check_proof(proof)?;
+    Ok(places_at(proof))
 }

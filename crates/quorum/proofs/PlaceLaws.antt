@@ -1,5 +1,6 @@
 -- The place of a slot's entry: what is there is what the entries say of the slot, and the search for it, an entry a turn.
 -- Assumes nothing.
+use Rattle.std.specs.Prelude.{None, Some}
 use mathlib.Core.Path.{◌≡◌, refl, sym, ap, ◌∙◌}
 use mathlib.Core.Bool.{Bool, true, false, cond}
 use mathlib.Core.List.{List, []}
@@ -14,7 +15,6 @@ use Rattle.account_state.specs.Fields.{entry_length_of, entry_slot_of}
 use Rattle.account_state.specs.Reading.{entry_of, entries_of, state_entries}
 use Rattle.quorum.specs.Slots.{known_slot, entry_for, no_entry}
 use Rattle.quorum.specs.Places.{place_from, entry_place, is_known, entry_in}
-use Rattle.quorum.specs.declared.slot.EntryPlace.TheVariants.{At, Missing}
 
 -- no bytes read as no entry
 none_read : entry_of [] ≡ no_entry
@@ -29,7 +29,7 @@ module _ (slot : ℕ) (state : List ℕ) where
   place-known-from (suc n) at = go (eqb (entry_slot_of (drop at state)) slot) (place-known-from n (at + entry_length_of (drop at state)))
     where
       go : (b : Bool) → is_known (place_from slot state n (at + entry_length_of (drop at state))) ≡ known_slot slot (entries_of n (drop (at + entry_length_of (drop at state)) state))
-          → is_known (cond b (At at) (place_from slot state n (at + entry_length_of (drop at state))))
+          → is_known (cond b (Some at) (place_from slot state n (at + entry_length_of (drop at state))))
           ≡ cond b true (known_slot slot (entries_of n (drop (entry_length_of (drop at state)) (drop at state))))
       go true h = refl
       go false h = rw (drop-drop (entry_length_of (drop at state)) at state) h
@@ -41,7 +41,7 @@ module _ (slot : ℕ) (state : List ℕ) where
   place-entry-from (suc n) at = go (eqb (entry_slot_of (drop at state)) slot) (place-entry-from n (at + entry_length_of (drop at state)))
     where
       go : (b : Bool) → entry_of (entry_in state (place_from slot state n (at + entry_length_of (drop at state)))) ≡ entry_for slot (entries_of n (drop (at + entry_length_of (drop at state)) state))
-          → entry_of (entry_in state (cond b (At at) (place_from slot state n (at + entry_length_of (drop at state)))))
+          → entry_of (entry_in state (cond b (Some at) (place_from slot state n (at + entry_length_of (drop at state)))))
           ≡ cond b (entry_of (drop at state)) (entry_for slot (entries_of n (drop (entry_length_of (drop at state)) (drop at state))))
       go true h = refl
       go false h = rw (drop-drop (entry_length_of (drop at state)) at state) h
@@ -63,12 +63,12 @@ pub record Seeking (slot : ℕ) (state : List ℕ) (left at : ℕ) : Type 0 wher
 
 module _ {slot : ℕ} {state : List ℕ} {left at : ℕ} (z : Seeking slot state left at) where
   one-first : 0 < left → place_from slot state left at
-      ≡ cond (eqb (entry_slot_of (drop at state)) slot) (At at) (place_from slot state (left - 1) (at + entry_length_of (drop at state)))
+      ≡ cond (eqb (entry_slot_of (drop at state)) slot) (Some at) (place_from slot state (left - 1) (at + entry_length_of (drop at state)))
   unfolding place_from
   one-first h = let l : left ≡ suc (left - 1) = omega arith in ap (λ (n : ℕ). place_from slot state n at) l
 
   -- its slot is this one
-  pub seek_hit : 0 < left → entry_slot_of (drop at state) ≡ slot → At at ≡ entry_place slot state
+  pub seek_hit : 0 < left → entry_slot_of (drop at state) ≡ slot → Some at ≡ entry_place slot state
   seek_hit h e = sym (z.finds ∙ (one-first h ∙ rw (eq-eqb _ _ e)))
 
   -- it is another
@@ -77,6 +77,6 @@ module _ {slot : ℕ} {state : List ℕ} {left at : ℕ} (z : Seeking slot state
   seek-next h e n k m = record { small = omega arith; finds = z.finds ∙ (one-first h ∙ rw (ne_eqb _ _ e, k)) }
 
   -- no entry is left
-  pub seek-none : left ≡ 0 → Missing ≡ entry_place slot state
+  pub seek-none : left ≡ 0 → None ≡ entry_place slot state
   unfolding place_from
   seek-none h = sym (z.finds ∙ rw h)

@@ -3,15 +3,15 @@ ghost use Rattle.std.specs.Prelude.{◌≡◌};
 ghost use Rattle.quorum.specs.Operation.{capable, threshold_of};
 
 use account_state::{recovery_threshold_of, rotate_threshold_of, spend_threshold_of};
-use protocol::{OP_ROTATE, OP_SPEND, OperationCapability, capability_for_operation};
+use protocol::{OP_ROTATE, OP_SPEND, capability_for_operation};
 
 // Whether the capabilities have the bit that the operation needs.
 pub fn is_capable(operation: u8, capabilities: u16) -> bool
     ensures { result ≡ capable operation capabilities }
 {
     match capability_for_operation(operation) {
-        OperationCapability::Refused(_) => false,
-        OperationCapability::Capability(bit) => capabilities / bit % 2 == 1,
+        Err(_) => false,
+        Ok(bit) => capabilities / bit % 2 == 1,
     }
 }
 

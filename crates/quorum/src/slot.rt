@@ -6,15 +6,8 @@ use account_state::{entry_count_of, entry_length_of, entry_slot_of};
 use octets::rest;
 use protocol::ACCOUNT_STATE_HEADER_LEN;
 
-// Where an entry begins in its state, or that there is none.
-#[derive(Clone, Copy)]
-pub enum EntryPlace {
-    At(usize),
-    Missing,
-}
-
 // The place of the first entry with the slot.
-pub fn find_authenticator(state: &[u8], slot: u16) -> EntryPlace
+pub fn find_authenticator(state: &[u8], slot: u16) -> Option<usize>
     ensures { result ≡ entry_place slot state.now }
 {
     let mut at = ACCOUNT_STATE_HEADER_LEN;
@@ -22,30 +15,30 @@ pub fn find_authenticator(state: &[u8], slot: u16) -> EntryPlace
     while 0 < left {
         let entry = rest(state, at);
         if entry_slot_of(entry) == slot {
-            return EntryPlace::At(at);
+            return Some(at);
         }
         at += entry_length_of(entry) as usize;
         left -= 1;
     }
-    EntryPlace::Missing
+    None
 }
 
 // Whether there is an entry.
-pub fn is_known(place: EntryPlace) -> bool
+pub fn is_known(place: Option<usize>) -> bool
     ensures { result ≡ is_known place }
 {
     match place {
-        EntryPlace::At(_) => true,
-        EntryPlace::Missing => false,
+        Some(_) => true,
+        None => false,
     }
 }
 
 // The bytes from the entry on; none where there is no entry.
-pub fn entry_in(state: &[u8], place: EntryPlace) -> &[u8]
+pub fn entry_in(state: &[u8], place: Option<usize>) -> &[u8]
     ensures { result.now ≡ entry_in state.now place }
 {
     match place {
-        EntryPlace::At(at) => rest(state, at),
-        EntryPlace::Missing => &state[0..0],
+        Some(at) => rest(state, at),
+        None => &state[0..0],
     }
 }

@@ -1,9 +1,7 @@
 -- One line: the forms of its fields, the bytes and the numbers that they hold. Byte values are ASCII.
-use Rattle.std.specs.Prelude.{ℕ, ◌/◌, Bool, true, false, cond, ◌&&◌, ◌||◌, List, [], ◌∷◌, ◌++◌, map, length, get_or, ltb, leb, eqb}
+use Rattle.std.specs.Prelude.{ℕ, ◌/◌, Bool, true, false, cond, ◌&&◌, ◌||◌, List, [], ◌∷◌, ◌++◌, map, length, get_or, ltb, leb, eqb, None, Option, Some}
 use Rattle.octets.specs.Lists.{every}
 use Rattle.octets.specs.Le.{u64_halves}
-use Rattle.text.specs.declared.decimal.Decimal.{Decimal}
-use Rattle.text.specs.declared.decimal.Decimal.TheVariants.{Value, Invalid}
 use Rattle.text.specs.Text.{in_range, hex_ok, hex_val, hex_bytes, decimal_of, number_in}
 use Rattle.protocol.specs.Limits.{digits_max_count}
 use Rattle.scene_line.specs.declared.form.Form.{Form}
@@ -22,9 +20,9 @@ next_form Hex = Capacity
 next_form Capacity = Capacity
 next_form Digits = Digits
 
-abbrev pub is_number : Decimal → Bool
-is_number (Value v) = true
-is_number Invalid = false
+abbrev pub is_number : Option ℕ → Bool
+is_number (Some v) = true
+is_number None = false
 
 -- 01: "Hashes have 64 lower-case digits."
 abbrev pub hash_text_ok : List ℕ → Bool

@@ -5,14 +5,14 @@ ghost use Rattle.scene_line.specs.Line.{is_number, hash_text_ok, field_ok, bare_
 
 use crate::form::{Form, hex_form};
 use protocol::DIGITS_MAX_COUNT;
-use text::{Decimal, all_between, hex_ok, read_decimal};
+use text::{all_between, hex_ok, read_decimal};
 
 fn number_ok(f: &[u8]) -> bool
     ensures { result ≡ is_number (decimal_of f.now) }
 {
     match read_decimal(f) {
-        Decimal::Value(_) => true,
-        Decimal::Invalid => false,
+        Some(_) => true,
+        None => false,
     }
 }
 

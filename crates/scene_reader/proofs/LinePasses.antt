@@ -1,4 +1,5 @@
 -- What a line that passes its rows is. Assumes nothing.
+use Rattle.std.specs.Prelude.{Ok}
 use Prim.Native.Nat.{ℕ, ◌+◌, ◌≤◌}
 use mathlib.Core.Bool.{true}
 use mathlib.Core.Path.{◌≡◌}
@@ -7,7 +8,6 @@ use borrow.Author.Tests.{leb-true, not-true, eqb-false}
 use lib.ListN.{length}
 use lib.Dec.{eqb}
 use Rattle.protocol.specs.Rows.{decide}
-use Rattle.protocol.specs.declared.check.Check.TheVariants.{Passed}
 use Rattle.protocol.proofs.AllPass.{passed-all-pass}
 use Rattle.scene_line.specs.declared.kind.Kind.{Kind}
 use Rattle.scene_line.specs.Line.{forms_ok, line_bytes}
@@ -24,7 +24,7 @@ module _ (h : ReaderState) (k : Kind) (fs : List (List ℕ)) where
     pub room : h.used + length (line_bytes (first_form k) fs) ≤ length h.store
     pub put-down : line_outcome_as h k fs ≡ reader_holds (line_put_as h k fs)
 
-  pub line-passes : decide Passed (line_rows h k fs) ≡ Passed → Passes
+  pub line-passes : decide (Ok tt) (line_rows h k fs) ≡ Ok tt → Passes
   unfolding line_rows
   line-passes q =
       let z = passed-all-pass (line_rows h k fs) q in

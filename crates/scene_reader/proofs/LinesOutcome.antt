@@ -1,19 +1,16 @@
 -- Laws of the reader's rows and of a run over the lines. Assumes nothing.
+use Rattle.std.specs.Prelude.{Err, Ok, Result}
 use Prim.Native.Nat.{ℕ, ◌+◌, ◌≤◌, ◌<◌}
 use mathlib.Core.Path.{◌≡◌, refl, ap, ◌∙◌}
 use mathlib.Core.List.{List, [], ◌∷◌, ◌++◌}
 use native.Mathlib.Omega.{arith}
 use borrow.Author.Tests.{leb-true}
 use lib.ListN.{length, take, drop, replicate}
-use Rattle.protocol.specs.Rows.{Row, decide}
+use Rattle.protocol.specs.Rows.{Row, decide, Check}
 use Rattle.protocol.specs.declared.error.ProtocolError.{ProtocolError}
-use Rattle.protocol.specs.declared.check.Check.{Check}
-use Rattle.protocol.specs.declared.check.Check.TheVariants.{Passed, Failed}
 use Rattle.protocol.proofs.AllPass.{decide-append, decide-failed, passed-all-pass}
 use Rattle.protocol.specs.Limits.{scene_max_length, table_min_entries}
 use Rattle.scene_reader.specs.declared.state.State.{State}
-use Rattle.scene_reader.specs.declared.state.LineStep.{LineStep}
-use Rattle.scene_reader.specs.declared.state.LineStep.TheVariants.{Next, Refused}
 use Rattle.text.specs.Text.{pieces, before, Cut, line_end, comma}
 use Rattle.scene_line.specs.declared.kind.Kind.{Kind}
 use Rattle.scene_line.specs.Kind.{line_kind, line_fields}
@@ -21,9 +18,9 @@ use Rattle.scene_reader.specs.Reader.{ReaderState, ReaderOutcome, reader_holds, 
 use Rattle.scene_reader.specs.Room.{line_outcome_as, line_outcome, scene_end_outcome, ReadyAfter}
 use Rattle.text.proofs.Pieces.{before-none}
 
-pub kept_more : (s : State) (n m a b : ℕ) → n ≤ m → (r : LineStep) → ReadyAfter s n a b r → ReadyAfter s m a b r
-kept_more s n m a b h (Next t) k = (k.0, omega arith)
-kept_more s n m a b h (Refused x) k = k
+pub kept_more : (s : State) (n m a b : ℕ) → n ≤ m → (r : Result State ProtocolError) → ReadyAfter s n a b r → ReadyAfter s m a b r
+kept_more s n m a b h (Ok t) k = (k.0, omega arith)
+kept_more s n m a b h (Err x) k = k
 
 pub starts : (n m : ℕ) (a b : List ℕ) → a ≡ replicate n 0 → b ≡ replicate m 0
     → reader_start n m ≡ record { last = 0; seen = 0; used = 0; filled = 8; store = a; table = b }
@@ -31,21 +28,21 @@ unfolding reader_start
 starts n m a b p q = rw (p, q)
 
 -- a list of rows in front of another: it passes, and the other decides
-rows_on : (ps qs : List Row) → decide Passed ps ≡ Passed → decide Passed (ps ++ qs) ≡ decide Passed qs
-rows_on ps qs e = decide-append Passed ps qs ∙ rw e
+rows_on : (ps qs : List Row) → decide (Ok tt) ps ≡ Ok tt → decide (Ok tt) (ps ++ qs) ≡ decide (Ok tt) qs
+rows_on ps qs e = decide-append (Ok tt) ps qs ∙ rw e
 
 -- or it refuses
-rows-off : (ps qs : List Row) (a : ProtocolError) → decide Passed ps ≡ Failed a → decide Passed (ps ++ qs) ≡ Failed a
-rows-off ps qs a e = decide-append Passed ps qs ∙ rw e (decide-failed qs a)
+rows-off : (ps qs : List Row) (a : ProtocolError) → decide (Ok tt) ps ≡ Err a → decide (Ok tt) (ps ++ qs) ≡ Err a
+rows-off ps qs a e = decide-append (Ok tt) ps qs ∙ rw e (decide-failed qs a)
 
 module _ (h : ReaderState) (l m : List ℕ) (ls : List (List ℕ)) where
   -- behind a line that its rows pass the other lines run
-  pub run-passed : decide Passed (rows_of_line h l) ≡ Passed → lines_outcome h (l ∷ m ∷ ls) ≡ lines_outcome (line_put h l) (m ∷ ls)
+  pub run-passed : decide (Ok tt) (rows_of_line h l) ≡ Ok tt → lines_outcome h (l ∷ m ∷ ls) ≡ lines_outcome (line_put h l) (m ∷ ls)
   unfolding lines_outcome lines_rows lines_put
   run-passed e = rw (rows_on (rows_of_line h l) (lines_rows (line_put h l) (m ∷ ls)) e)
 
   -- a line that its rows refuse decides
-  pub run-failed : (a : ProtocolError) → decide Passed (rows_of_line h l) ≡ Failed a → lines_outcome h (l ∷ m ∷ ls) ≡ reader_refuses a
+  pub run-failed : (a : ProtocolError) → decide (Ok tt) (rows_of_line h l) ≡ Err a → lines_outcome h (l ∷ m ∷ ls) ≡ reader_refuses a
   unfolding lines_outcome lines_rows
   run-failed a e = rw (rows-off (rows_of_line h l) (lines_rows (line_put h l) (m ∷ ls)) a e)
 
@@ -55,7 +52,7 @@ unfolding lines_outcome lines_rows lines_put
 run-last h l P e = rw e
 
 -- where the reader's own rows pass, scene and table are within its limits
-pub limits-within : (scene : List ℕ) (m : ℕ) → decide Passed (scene_limit_rows scene m) ≡ Passed → (length scene ≤ scene_max_length) × (table_min_entries ≤ m)
+pub limits-within : (scene : List ℕ) (m : ℕ) → decide (Ok tt) (scene_limit_rows scene m) ≡ Ok tt → (length scene ≤ scene_max_length) × (table_min_entries ≤ m)
 unfolding scene_limit_rows
 limits-within scene m e =
     let z = passed-all-pass (scene_limit_rows scene m) e in
@@ -63,24 +60,24 @@ limits-within scene m e =
 
 module _ (scene : List ℕ) (n m : ℕ) where
   -- then the lines decide
-  pub limits-passed : decide Passed (scene_limit_rows scene m) ≡ Passed → read_of scene n m ≡ lines_outcome (reader_start n m) (pieces line_end scene)
+  pub limits-passed : decide (Ok tt) (scene_limit_rows scene m) ≡ Ok tt → read_of scene n m ≡ lines_outcome (reader_start n m) (pieces line_end scene)
   unfolding read_of scene_rows lines_outcome
   limits-passed e = rw (rows_on (scene_limit_rows scene m) (lines_rows (reader_start n m) (pieces line_end scene)) e)
 
   -- else the row that fails
-  pub limits-failed : (a : ProtocolError) → decide Passed (scene_limit_rows scene m) ≡ Failed a → read_of scene n m ≡ reader_refuses a
+  pub limits-failed : (a : ProtocolError) → decide (Ok tt) (scene_limit_rows scene m) ≡ Err a → read_of scene n m ≡ reader_refuses a
   unfolding read_of scene_rows
   limits-failed a e = rw (rows-off (scene_limit_rows scene m) (lines_rows (reader_start n m) (pieces line_end scene)) a e)
 
 -- something is held where the rows passed
-pub held-passed : (c : Check) (h g : ReaderState) → outcome_after c h ≡ reader_holds g → (c ≡ Passed) × (h ≡ g)
-held-passed Passed h g e = (refl, cc)
-held-passed (Failed a) h g e = absurd (let z : ◌≡◌ {A = ℕ} 0 1 = cc in omega arith)
+pub held-passed : (c : Check) (h g : ReaderState) → outcome_after c h ≡ reader_holds g → (c ≡ Ok tt) × (h ≡ g)
+held-passed (Ok _) h g e = (refl, cc)
+held-passed (Err a) h g e = absurd (let z : ◌≡◌ {A = ℕ} 0 1 = cc in omega arith)
 
 -- and a refusal is the one that they found
-pub refused-failed : (c : Check) (h : ReaderState) (a : ProtocolError) → outcome_after c h ≡ reader_refuses a → c ≡ Failed a
-refused-failed Passed h a e = absurd (let z : ◌≡◌ {A = ℕ} 0 1 = cc in omega arith)
-refused-failed (Failed b) h a e = cc
+pub refused-failed : (c : Check) (h : ReaderState) (a : ProtocolError) → outcome_after c h ≡ reader_refuses a → c ≡ Err a
+refused-failed (Ok _) h a e = absurd (let z : ◌≡◌ {A = ℕ} 0 1 = cc in omega arith)
+refused-failed (Err b) h a e = cc
 
 -- a text has at least one piece
 some : (ps : List (List ℕ)) → ps ≡ before [] ps → (m : List ℕ) × (ms : List (List ℕ)) × (ps ≡ m ∷ ms)

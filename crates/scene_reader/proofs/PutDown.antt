@@ -1,4 +1,5 @@
 -- A line that every row passes and that is put down: it fits, and the state after it is ready. Assumes nothing.
+use Rattle.std.specs.Prelude.{Ok}
 use Prim.Native.Nat.{ℕ, ◌+◌, ◌≤◌, ◌<◌}
 use mathlib.Core.Bool.{true}
 use mathlib.Core.Path.{◌≡◌, sym, ap, ◌∙◌}
@@ -14,7 +15,6 @@ use Rattle.scene_line.specs.Line.{line_bytes, line_entries, fields_found}
 use Rattle.scene_line.specs.Kind.{rank, field_count, first_form, follows}
 use Rattle.scene_line.proofs.KindLaws.{rank-small}
 use Rattle.scene_reader.specs.declared.state.State.{State}
-use Rattle.scene_reader.specs.declared.state.LineStep.TheVariants.{Next}
 use Rattle.scene_reader.specs.Reader.{ReaderState, reader_holds, seen_with, line_put_as}
 use Rattle.scene_reader.specs.Room.{state_holding, line_outcome_as, entries_limit, ReaderReady, ReadyAfter}
 use Rattle.scene_reader.proofs.Bounds.{fits, entries-limit-small}
@@ -61,7 +61,7 @@ module _ (s : State) (st tb : List ℕ) (k : Kind) (fs : List (List ℕ)) where
 
     -- the state after the line is ready
     pub kept : (r : State) (st' tb' : List ℕ) → length (line_bytes (first_form k) fs) ≤ n → state_holding r st' tb' ≡ line_put_as (state_holding s st tb) k fs
-        → ReadyAfter s n (length st) (length tb) (Next r)
+        → ReadyAfter s n (length st) (length tb) (Ok r)
     unfolding line_put_as
     kept r st' tb' few e =
         let last' : r.last ≡ rank k = ap (λ (g : ReaderState). g.last) e in

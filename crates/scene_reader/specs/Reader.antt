@@ -1,11 +1,9 @@
 -- The scene reader: what a line puts down, the rows of a line and of a scene, and what the reader answers and leaves.
-use Rattle.std.specs.Prelude.{ℕ, ◌+◌, true, cond, not, List, [], ◌∷◌, ◌++◌, length, set, replicate, leb, eqb}
+use Rattle.std.specs.Prelude.{ℕ, ◌+◌, true, cond, not, List, [], ◌∷◌, ◌++◌, length, set, replicate, leb, eqb, Err, Ok}
 use Rattle.std.proofs.lemmas.List.Edits.{sets}
-use Rattle.protocol.specs.Rows.{Row, row, decide}
+use Rattle.protocol.specs.Rows.{Row, row, decide, Check}
 use Rattle.protocol.specs.declared.error.ProtocolError.{ProtocolError}
 use Rattle.protocol.specs.declared.error.ProtocolError.TheVariants.{SceneTooLong, InvalidLine, InvalidField, TooManyLines, StoreTooShort}
-use Rattle.protocol.specs.declared.check.Check.{Check}
-use Rattle.protocol.specs.declared.check.Check.TheVariants.{Passed, Failed}
 use Rattle.text.specs.Text.{pieces, comma, line_end}
 use Rattle.scene_line.specs.declared.kind.Kind.{Kind}
 use Rattle.scene_line.specs.Line.{forms_ok, line_bytes, line_entries}
@@ -85,12 +83,12 @@ lines_put h (l ∷ m ∷ ls) = lines_put (line_put h l) (m ∷ ls)
 
 -- the refusal that rows found, or else what is held after them
 abbrev pub outcome_after : Check → ReaderState → ReaderOutcome
-outcome_after (Failed e) h = reader_refuses e
-outcome_after Passed h = reader_holds h
+outcome_after (Err e) h = reader_refuses e
+outcome_after (Ok _) h = reader_holds h
 
 -- what the lines alone give, the reader's own two rows aside
 unfoldable pub lines_outcome : ReaderState → List (List ℕ) → ReaderOutcome
-lines_outcome h ls = outcome_after (decide Passed (lines_rows h ls)) (lines_put h ls)
+lines_outcome h ls = outcome_after (decide (Ok tt) (lines_rows h ls)) (lines_put h ls)
 
 -- the table's entry where the first line's record begins: its first eight entries are for the counts of the kinds
 abbrev pub first_record_at : ℕ
@@ -110,7 +108,7 @@ scene_rows scene n m = scene_limit_rows scene m ++ lines_rows (reader_start n m)
 
 -- what the reader finds, with a store of n bytes and a table of m entries: the first row that fails refuses the scene
 unfoldable pub read_of : List ℕ → ℕ → ℕ → ReaderOutcome
-read_of scene n m = outcome_after (decide Passed (scene_rows scene n m)) (lines_put (reader_start n m) (pieces line_end scene))
+read_of scene n m = outcome_after (decide (Ok tt) (scene_rows scene n m)) (lines_put (reader_start n m) (pieces line_end scene))
 
 -- the same with a store and a table as long as these
 abbrev pub read_into : List ℕ → List ℕ → List ℕ → ReaderOutcome
@@ -118,8 +116,8 @@ read_into scene store table = read_of scene (length store) (length table)
 
 -- what the reader answers
 abbrev pub reader_check : ReaderOutcome → Check
-reader_check (reader_refuses e) = Failed e
-reader_check (reader_holds h) = Passed
+reader_check (reader_refuses e) = Err e
+reader_check (reader_holds h) = (Ok tt)
 
 -- 01: "both are zeroed first, and are all zero after a refusal": the store of n bytes afterwards
 abbrev pub reader_store : ℕ → ReaderOutcome → List ℕ

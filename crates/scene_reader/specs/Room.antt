@@ -1,18 +1,15 @@
 -- Private: no public contract cites this file.
 -- The state in the code beside its definition, one line by its rows, and what private functions keep so that all that is written
 -- fits.
-use Rattle.std.specs.Prelude.{ℕ, ◌+◌, ◌*◌, ◌≤◌, ◌<◌, List, [], ◌∷◌, ◌≡◌, length, get_or}
-use Rattle.protocol.specs.Rows.{decide}
-use Rattle.protocol.specs.declared.check.Check.TheVariants.{Passed}
+use Rattle.std.specs.Prelude.{ℕ, ◌+◌, ◌*◌, ◌≤◌, ◌<◌, List, [], ◌∷◌, ◌≡◌, length, get_or, Err, Ok, Result}
+use Rattle.protocol.specs.declared.error.ProtocolError.{ProtocolError}
+use Rattle.protocol.specs.Rows.{decide, Check}
 use Rattle.scene_line.specs.declared.kind.Kind.{Kind}
 use Rattle.protocol.specs.Limits.{scene_max_length, table_min_entries, kind_max_lines}
-use Rattle.protocol.specs.declared.check.Check.{Check}
 use Rattle.scene_line.specs.declared.fields.FieldsFound.{FieldsFound}
 use Rattle.scene_line.specs.Line.{fields_found}
 use Rattle.scene_line.specs.Kind.{first_form}
 use Rattle.scene_reader.specs.declared.state.State.{State}
-use Rattle.scene_reader.specs.declared.state.LineStep.{LineStep}
-use Rattle.scene_reader.specs.declared.state.LineStep.TheVariants.{Next, Refused}
 use Rattle.scene_reader.specs.Reader.{ReaderState, ReaderOutcome, reader_refuses, reader_holds, outcome_after, line_rows, rows_of_line, scene_end_rows, line_put_as, line_put}
 
 -- the state in the code, with the store and the table
@@ -20,27 +17,27 @@ abbrev pub state_holding : State → List ℕ → List ℕ → ReaderState
 state_holding s store table = record { last = s.last; seen = s.seen; used = s.used; filled = s.filled; store = store; table = table }
 
 -- what a step of the code leaves
-abbrev pub step_outcome : LineStep → List ℕ → List ℕ → ReaderOutcome
-step_outcome (Next s) store table = reader_holds (state_holding s store table)
-step_outcome (Refused e) store table = reader_refuses e
+abbrev pub step_outcome : Result State ProtocolError → List ℕ → List ℕ → ReaderOutcome
+step_outcome (Ok s) store table = reader_holds (state_holding s store table)
+step_outcome (Err e) store table = reader_refuses e
 
 -- a line of kind k with the fields fs: its rows, and then it is put down
 abbrev pub line_outcome_as : ReaderState → Kind → List (List ℕ) → ReaderOutcome
-line_outcome_as h k fs = outcome_after (decide Passed (line_rows h k fs)) (line_put_as h k fs)
+line_outcome_as h k fs = outcome_after (decide (Ok tt) (line_rows h k fs)) (line_put_as h k fs)
 
 -- what the checks of a line of kind k find, for all fields that are as found and every store of room bytes
 abbrev pub LineChecked : Kind → State → FieldsFound → ℕ → Check → Type 0
 LineChecked k s found room r =
     (fs : List (List ℕ)) (store table : List ℕ) → found ≡ fields_found (first_form k) fs → room ≡ length store
-    → r ≡ decide Passed (line_rows (state_holding s store table) k fs)
+    → r ≡ decide (Ok tt) (line_rows (state_holding s store table) k fs)
 
 -- a line of the text
 abbrev pub line_outcome : ReaderState → List ℕ → ReaderOutcome
-line_outcome h line = outcome_after (decide Passed (rows_of_line h line)) (line_put h line)
+line_outcome h line = outcome_after (decide (Ok tt) (rows_of_line h line)) (line_put h line)
 
 -- what follows the last line's ending
 abbrev pub scene_end_outcome : ReaderState → List ℕ → ReaderOutcome
-scene_end_outcome h rest = outcome_after (decide Passed (scene_end_rows h rest)) h
+scene_end_outcome h rest = outcome_after (decide (Ok tt) (scene_end_rows h rest)) h
 
 -- how many entries of the table are in use, at most, with all lines before the kind of rank last, and where only one line may be
 -- of that kind with it: 8 counts, 2 for script, 1 for tx, then 64 of 8, 5, 3 and 2 for inputs, outputs, deps and witnesses,
@@ -66,6 +63,6 @@ pub record ReaderReady (s : State) (n store table : ℕ) : Type 0 where
   pub fits : s.filled ≤ entries_limit s.last s.seen
 
 -- what a step over n bytes leaves is ready
-abbrev pub ReadyAfter : State → ℕ → ℕ → ℕ → LineStep → Type 0
-ReadyAfter s n store table (Next t) = ReaderReady t 0 store table × (t.used ≤ s.used + n)
-ReadyAfter s n store table (Refused e) = Unit {0}
+abbrev pub ReadyAfter : State → ℕ → ℕ → ℕ → Result State ProtocolError → Type 0
+ReadyAfter s n store table (Ok t) = ReaderReady t 0 store table × (t.used ≤ s.used + n)
+ReadyAfter s n store table (Err e) = Unit {0}

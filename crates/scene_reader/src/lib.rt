@@ -12,29 +12,26 @@ ghost use Rattle.scene_reader.specs.Reader.{reader_check, reader_store, reader_t
 ghost use Rattle.scene_reader.specs.Room.{step_outcome};
 
 use crate::lines::read_lines;
-use crate::state::LineStep;
 use octets::{zero_bytes, zero_words};
-use protocol::{Check, ProtocolError, SCENE_MAX_LEN, TABLE_MIN_ENTRIES};
+use protocol::{ProtocolError, SCENE_MAX_LEN, TABLE_MIN_ENTRIES, require};
 
 // The limits, then the lines, into a store and a table that are all zero.
-fn read_checked(scene: &[u8], store: &mut [u8], table: &mut [u32]) -> LineStep
+fn read_checked(scene: &[u8], store: &mut [u8], table: &mut [u32]) -> Result<State, ProtocolError>
     requires { (store.old ≡ zeroed store.old) × (table.old ≡ zeroed table.old) }
     ensures { step_outcome result store.new table.new ≡ read_into scene.now store.old table.old }
 {
-    let checked = Check::Passed
+    let checked = Ok(())
         .require(scene.len() <= SCENE_MAX_LEN, ProtocolError::SceneTooLong)
         .require(
             TABLE_MIN_ENTRIES <= table.len(),
             ProtocolError::StoreTooShort,
         );
-    match checked {
-        Check::Failed(error) => LineStep::Refused(error),
-        Check::Passed => read_lines(scene, store, table),
-    }
+    checked?;
+    read_lines(scene, store, table)
 }
 
 // Reads a scene into the store and the table. Both are all zero after a refusal.
-pub fn read_scene(scene: &[u8], store: &mut [u8], table: &mut [u32]) -> Check
+pub fn read_scene(scene: &[u8], store: &mut [u8], table: &mut [u32]) -> Result<(), ProtocolError>
     ensures value { result ≡ reader_check (read_into scene.now store.old table.old) }
     ensures store_after { store.new ≡ reader_store (length store.old) (read_into scene.now store.old table.old) }
     ensures table_after { table.new ≡ reader_table (length table.old) (read_into scene.now store.old table.old) }
@@ -43,11 +40,11 @@ pub fn read_scene(scene: &[u8], store: &mut [u8], table: &mut [u32]) -> Check
     zero_words(table);
     let step = read_checked(scene, store, table);
     match step {
-        LineStep::Next(_) => Check::Passed,
-        LineStep::Refused(error) => {
+        Ok(_) => Ok(()),
+        Err(error) => {
             zero_bytes(store);
             zero_words(table);
-            Check::Failed(error)
+            Err(error)
         }
     }
 }

@@ -8,27 +8,26 @@ ghost use Rattle.scene_reader.specs.Reader.{lines_outcome, reader_start};
 ghost use Rattle.scene_reader.specs.Room.{line_outcome_as, line_outcome, scene_end_outcome, ReaderReady, ReadyAfter, state_holding, step_outcome, LineChecked};
 
 use crate::put::put_line;
-use crate::state::{FIRST_RECORD_AT, LineStep, State, seen_with};
-use protocol::{Check, KIND_MAX_LINES, ProtocolError};
+use crate::state::{FIRST_RECORD_AT, State, seen_with};
+use protocol::{KIND_MAX_LINES, ProtocolError, require};
 use scene_line::{FieldsFound, Kind, VERDICTS_RANK, check_fields, first_form, line_kind, rank_of};
 use text::{COMMA, LINE_END, find, head, tail};
 
 // What the rows of a line of kind k find, its fields and a store of room bytes being as found.
-fn check_line(k: Kind, s: State, found: FieldsFound, room: usize) -> Check
+fn check_line(k: Kind, s: State, found: FieldsFound, room: usize) -> Result<(), ProtocolError>
     requires { (s.seen ≤ kind_max_lines) × (s.used + found.bytes ≤ scene_max_length) }
     ensures { LineChecked k s found room result }
 {
     let p = rank_of(k);
     let seen = seen_with(s.last, s.seen, p);
-    Check::Passed
-        .require(p != 0, ProtocolError::InvalidLine)
-        .require(seen <= KIND_MAX_LINES, ProtocolError::TooManyLines)
-        .require(found.ok, ProtocolError::InvalidField)
-        .require(s.used + found.bytes <= room, ProtocolError::StoreTooShort)
+    require(p != 0, ProtocolError::InvalidLine)?;
+    require(seen <= KIND_MAX_LINES, ProtocolError::TooManyLines)?;
+    require(found.ok, ProtocolError::InvalidField)?;
+    require(s.used + found.bytes <= room, ProtocolError::StoreTooShort)
 }
 
 // A line of kind k: its rows, and then it is put down.
-fn read_as(k: Kind, fields: &[u8], s: State, store: &mut [u8], table: &mut [u32]) -> LineStep
+fn read_as(k: Kind, fields: &[u8], s: State, store: &mut [u8], table: &mut [u32]) -> Result<State, ProtocolError>
     requires reader_ready { ReaderReady s (length fields.now) (length store.old) (length table.old) }
     requires fields_len { (rank k ≡ 0 → ⊥) → (length (pieces comma fields.now) ≡ field_count k) × (follows s.last (rank k) ≡ true) }
     ensures table_after { step_outcome result store.new table.new
@@ -36,14 +35,12 @@ fn read_as(k: Kind, fields: &[u8], s: State, store: &mut [u8], table: &mut [u32]
     ensures ready_after { ReadyAfter s (length fields.now) (length store.old) (length table.old) result }
 {
     let found = check_fields(first_form(k), fields);
-    match check_line(k, s, found, store.len()) {
-        Check::Failed(error) => LineStep::Refused(error),
-        Check::Passed => LineStep::Next(put_line(k, fields, s, found.bytes, store, table)),
-    }
+    check_line(k, s, found, store.len())?;
+    Ok(put_line(k, fields, s, found.bytes, store, table))
 }
 
 // One line.
-fn read_line(line: &[u8], s: State, store: &mut [u8], table: &mut [u32]) -> LineStep
+fn read_line(line: &[u8], s: State, store: &mut [u8], table: &mut [u32]) -> Result<State, ProtocolError>
     requires { ReaderReady s (length line.now) (length store.old) (length table.old) }
     ensures table_after { step_outcome result store.new table.new
         ≡ line_outcome (state_holding s store.old table.old) line.now }
@@ -51,7 +48,7 @@ fn read_line(line: &[u8], s: State, store: &mut [u8], table: &mut [u32]) -> Line
 {
     let e = find(line, COMMA);
     if e == line.len() {
-        return LineStep::Refused(ProtocolError::InvalidLine);
+        return Err(ProtocolError::InvalidLine);
     }
     let fields = tail(line, e);
     let k = line_kind(head(line, e), fields, s.last);
@@ -59,20 +56,18 @@ fn read_line(line: &[u8], s: State, store: &mut [u8], table: &mut [u32]) -> Line
 }
 
 // The end of a scene: what follows the last line's ending.
-fn finish_at(s: State, rest: &[u8]) -> LineStep
+fn finish_at(s: State, rest: &[u8]) -> Result<State, ProtocolError>
     ensures { (store table : List ℕ) → step_outcome result store table ≡ scene_end_outcome (state_holding s store table) rest.now }
 {
-    let checked = Check::Passed
+    let checked = Ok(())
         .require(rest.len() == 0, ProtocolError::InvalidLine)
         .require(s.last == VERDICTS_RANK, ProtocolError::InvalidLine);
-    match checked {
-        Check::Failed(error) => LineStep::Refused(error),
-        Check::Passed => LineStep::Next(s),
-    }
+    checked?;
+    Ok(s)
 }
 
 // All lines, into a store and a table that are all zero.
-pub(crate) fn read_lines(scene: &[u8], store: &mut [u8], table: &mut [u32]) -> LineStep
+pub(crate) fn read_lines(scene: &[u8], store: &mut [u8], table: &mut [u32]) -> Result<State, ProtocolError>
     requires scene_len_bound { (length scene.now ≤ scene_max_length) × (table_min_entries ≤ length table.old) }
     requires store_value { (store.old ≡ zeroed store.old) × (table.old ≡ zeroed table.old) }
     ensures { step_outcome result store.new table.new
@@ -91,7 +86,7 @@ pub(crate) fn read_lines(scene: &[u8], store: &mut [u8], table: &mut [u32]) -> L
             return finish_at(s, rest);
         }
         let step = read_line(head(rest, e), s, store, table);
-        let LineStep::Next(after) = step else {
+        let Ok(after) = step else {
             return step;
         };
         s = after;

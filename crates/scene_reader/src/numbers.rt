@@ -7,7 +7,7 @@ ghost use Rattle.scene_line.specs.Line.{field_entries};
 ghost use Rattle.protocol.specs.Limits.{scene_max_length};
 
 use scene_line::Form;
-use text::{Decimal, hex_value, read_decimal};
+use text::{hex_value, read_decimal};
 
 // The value of the first digit of f.
 fn digit(f: &[u8]) -> u8
@@ -25,11 +25,11 @@ fn put_halves(f: &[u8], table: &mut [u32], at: usize)
     ensures { table.new ≡ sets table.old at (u64_halves (number_in (decimal_of f.now))) }
 {
     match read_decimal(f) {
-        Decimal::Value(v) => {
+        Some(v) => {
             table[at] = (v % 4294967296) as u32;
             table[at + 1] = (v / 4294967296) as u32;
         }
-        Decimal::Invalid => {
+        None => {
             table[at] = 0;
             table[at + 1] = 0;
         }

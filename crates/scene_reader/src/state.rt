@@ -18,13 +18,6 @@ pub(crate) struct State {
     pub filled: usize,
 }
 
-// What one line gives.
-#[derive(Drop)]
-pub(crate) enum LineStep {
-    Next(State),
-    Refused(ProtocolError),
-}
-
 // How many lines of the kind of rank k were read, with this one.
 pub(crate) fn seen_with(last: usize, seen: usize, k: usize) -> usize
     requires { seen ≤ kind_max_lines }

@@ -1,6 +1,7 @@
 -- What the lock reads in the table and the store of an accepted text is the scene that the text says; its test of a table
 -- passes exactly where an accepted text, its length aside, leaves that table; so it passes the table of every accepted text.
 -- Assumes nothing.
+use Rattle.std.specs.Prelude.{Ok}
 use Prim.Native.Nat.{ℕ, ◌-◌, ◌≤◌}
 use mathlib.Core.Bool.{true}
 use mathlib.Core.Path.{◌≡◌, sym, ap, ◌∙◌}
@@ -8,7 +9,6 @@ use mathlib.Core.List.{List}
 use mathlib.Core.Logic.{◌↔◌}
 use native.Mathlib.Omega.{arith}
 use lib.ListN.{length, replicate, length-append, length-replicate}
-use Rattle.protocol.specs.declared.check.Check.TheVariants.{Passed}
 use Rattle.scene_reader.specs.Reader as reader
 use Rattle.scene_reader.specs.Reader.{read_of, reader_check}
 use Rattle.scene_table.specs.Scene.{Scene, scene_bytes, scene_numbers, padded_to, scene_store, scene_table}
@@ -29,7 +29,7 @@ use Rattle.scene_reading.proofs.SceneAccepts.{reader-accepts, scene-encodes}
 use Rattle.scene_reading.proofs.Printed.{printed-passes, printed-lines, printed-reading}
 
 -- the lent table and store of an accepted text are read as its scene
-pub accessors-give : (text : List ℕ) (n m : ℕ) → reader_check (read_of text n m) ≡ Passed → (p : LinesAccepted text n)
+pub accessors-give : (text : List ℕ) (n m : ℕ) → reader_check (read_of text n m) ≡ Ok tt → (p : LinesAccepted text n)
     → scene_in (reader.reader_table m (read_of text n m)) (reader.reader_store n (read_of text n m)) ≡ scene_of p.lines
 accessors-give text n m e p =
     let l = scene-encodes text n m e p in
@@ -68,7 +68,7 @@ padded-length : (xs : List ℕ) (n : ℕ) → length xs ≤ n → length (padded
 unfolding padded_to
 padded-length xs n h = omega (arith, length-append xs (replicate (n - length xs) 0), length-replicate {A = ℕ} (n - length xs) 0)
 
-module _ (text : List ℕ) (n m : ℕ) (e : reader_check (read_of text n m) ≡ Passed) where
+module _ (text : List ℕ) (n m : ℕ) (e : reader_check (read_of text n m) ≡ Ok tt) where
   -- the store is as long as the one that was lent
   pub left-store-length : length (reader.reader_store n (read_of text n m)) ≡ n
   unfolding scene_store

@@ -1,5 +1,6 @@
 -- A run over lines holds exactly where each line passes its rows, and then every line has been put down.
 -- Assumes nothing.
+use Rattle.std.specs.Prelude.{Err, Ok}
 use Prim.Native.Nat.{ℕ, suc, ◌+◌, ◌≤◌}
 use mathlib.Core.Bool.{Bool, true, false, cond, not, ◌&&◌, false≢true}
 use mathlib.Core.Path.{◌≡◌, refl, sym, ap, ◌∙◌}
@@ -9,9 +10,7 @@ use lib.ListN.{length}
 use lib.Seq.{length-sets}
 use lib.Dec.{ltb, leb, eqb}
 use borrow.Author.Tests.{leb-true, le-leb, eqb-true, ne_eqb, eq-eqb, not-true}
-use Rattle.protocol.specs.Rows.{decide, AllPass}
-use Rattle.protocol.specs.declared.check.Check.{Check}
-use Rattle.protocol.specs.declared.check.Check.TheVariants.{Passed, Failed}
+use Rattle.protocol.specs.Rows.{decide, AllPass, Check}
 use Rattle.protocol.proofs.AllPass.{passed-all-pass, all-pass-passed}
 use Rattle.text.specs.Text.{pieces, comma, line_end}
 use Rattle.scene_line.specs.declared.kind.Kind.{Kind}
@@ -137,7 +136,7 @@ module _ (h : ReaderState) (l : List ℕ) (ls : List (List ℕ)) where
   from p = rw (length-sets h.store h.used _) at p
 
 -- behind a line that passes come those behind it, and the end
-line-run : (h : ReaderState) (l : List ℕ) (ls : List (List ℕ)) → decide Passed (rows_of_line h l) ≡ Passed → lines_outcome h (l ∷ (ls ++ ([] ∷ []))) ≡ lines_outcome (line_put h l) (ls ++ ([] ∷ []))
+line-run : (h : ReaderState) (l : List ℕ) (ls : List (List ℕ)) → decide (Ok tt) (rows_of_line h l) ≡ Ok tt → lines_outcome h (l ∷ (ls ++ ([] ∷ []))) ≡ lines_outcome (line_put h l) (ls ++ ([] ∷ []))
 line-run h l [] e = run-passed h l [] [] e
 line-run h l (k ∷ ls) e = run-passed h l k (ls ++ ([] ∷ [])) e
 
@@ -176,11 +175,11 @@ ran-last h g l e =
 run-lines : (l : List ℕ) (ls : List (List ℕ)) (h g : ReaderState) → lines_outcome h (l ∷ ls) ≡ reader_holds g → Ran h g (l ∷ ls)
 unfolding LinesPass put_lines
 run-lines l [] h g e = ran-last h g l e
-run-lines l (k ∷ ls) h g e = on (decide Passed (rows_of_line h l)) refl (λ j q. run-lines k ls j g q)
+run-lines l (k ∷ ls) h g e = on (decide (Ok tt) (rows_of_line h l)) refl (λ j q. run-lines k ls j g q)
   where
-    on : (c : Check) → decide Passed (rows_of_line h l) ≡ c → ((j : ReaderState) → lines_outcome j (k ∷ ls) ≡ reader_holds g → Ran j g (k ∷ ls)) → Ran h g (l ∷ k ∷ ls)
-    on (Failed a) s rec = absurd (let r : reader_refuses a ≡ reader_holds g = sym (run-failed h l k ls a s) ∙ e in let z : ◌≡◌ {A = ℕ} 0 1 = cc in omega arith)
-    on Passed s rec =
+    on : (c : Check) → decide (Ok tt) (rows_of_line h l) ≡ c → ((j : ReaderState) → lines_outcome j (k ∷ ls) ≡ reader_holds g → Ran j g (k ∷ ls)) → Ran h g (l ∷ k ∷ ls)
+    on (Err a) s rec = absurd (let r : reader_refuses a ≡ reader_holds g = sym (run-failed h l k ls a s) ∙ e in let z : ◌≡◌ {A = ℕ} 0 1 = cc in omega arith)
+    on (Ok _) s rec =
         let p = holds-line h l (passed-all-pass (rows_of_line h l) s) in
         let r = rec (put_line h l) (rw p.1 at (sym (run-passed h l k ls s) ∙ e)) in
         record { lines = l ∷ r.lines; ended = ap (λ (t : List (List ℕ)). l ∷ t) r.ended; pass = (p.0, from h l r.lines r.pass); result = r.result }

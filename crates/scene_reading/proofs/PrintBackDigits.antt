@@ -1,5 +1,6 @@
 -- Digits that have their form are the print of what they say.
 -- Assumes nothing.
+use Rattle.std.specs.Prelude.{None, Some}
 use Prim.Native.Nat.{ℕ, zero, suc, ◌+◌, ◌-◌, ◌*◌, ◌/◌, ◌%◌, ◌^◌, ◌≤◌, ◌<◌}
 use mathlib.Core.Path.{◌≡◌, refl, ap}
 use mathlib.Core.Bool.{Bool, true, false, cond, not, ◌&&◌, ◌||◌, false≢true}
@@ -9,7 +10,6 @@ use borrow.Author.Tests.{ltb-true, eqb-true, eqb-false, not-true, lt-ltb, le-ltb
 use lib.ListN.{length}
 use lib.Dec.{ltb, eqb}
 use Rattle.octets.specs.Lists.{every}
-use Rattle.text.specs.declared.decimal.Decimal.TheVariants.{Value, Invalid}
 use Rattle.text.specs.Text.{in_range, is_hex, hex_val, hex_ok, hex_bytes, decimal, plain, number_of, decimal_of, number_in}
 use Rattle.text.proofs.RangeLaws.{between-yes, between-low, between-high}
 use Rattle.scene_line.specs.Line.{is_number}
@@ -159,7 +159,7 @@ pub decimal-print : (f : List ℕ) → is_number (decimal_of f) ≡ true → Dec
 unfolding decimal_of number_of number_in number_text
 decimal-print f h = go (plain f) refl (ltb (decimal 0 f) (2 ^ 64)) refl h
   where
-    go : (a : Bool) → plain f ≡ a → (b : Bool) → ltb (decimal 0 f) (2 ^ 64) ≡ b → is_number (cond a (cond b (Value (decimal 0 f)) Invalid) Invalid) ≡ true → DecimalPrint f
+    go : (a : Bool) → plain f ≡ a → (b : Bool) → ltb (decimal 0 f) (2 ^ 64) ≡ b → is_number (cond a (cond b (Some (decimal 0 f)) None) None) ≡ true → DecimalPrint f
     go true p true l h =
         let k = ltb-true (decimal 0 f) (2 ^ 64) l in
         let e : number_in (decimal_of f) ≡ decimal 0 f = rw (p, l) in

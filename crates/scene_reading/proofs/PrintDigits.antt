@@ -1,5 +1,6 @@
 -- Printed digits read back: two hexadecimal digits a byte, a decimal number, and verdicts.
 -- Assumes nothing.
+use Rattle.std.specs.Prelude.{Some}
 use Prim.Native.Nat.{ℕ, zero, suc, ◌+◌, ◌-◌, ◌*◌, ◌/◌, ◌%◌, ◌^◌, ◌≤◌, ◌<◌}
 use mathlib.Core.Path.{◌≡◌, refl, sym, ◌∙◌}
 use mathlib.Core.Bool.{Bool, true, false, cond, ◌||◌}
@@ -10,7 +11,6 @@ use borrow.Author.Tests.{ltb-true, ltb-false, lt-ltb, le-leb, lt-leb, ne_eqb}
 use lib.ListN.{length, get_or, length-append, length-map, get_or-append}
 use lib.Dec.{ltb, leb, eqb}
 use Rattle.octets.specs.Lists.{every}
-use Rattle.text.specs.declared.decimal.Decimal.TheVariants.{Value}
 use Rattle.text.specs.Text.{in_range, is_hex, hex_val, hex_ok, hex_bytes, decimal, plain, number_of, decimal_of}
 use Rattle.text.proofs.RangeLaws.{between-yes}
 use Rattle.scene_table.specs.Valid.{bytes_ok}
@@ -147,7 +147,7 @@ decimal-plain n v h = go (ltb v 10) refl (decimal-digits (suc n) v)
         leads-plain _ (rw e at r) (leads-append (decimal_text n (v / 10)) ((48 + v % 10) ∷ []) (decimal-leads n (v / 10) (omega arith) (tenth n v h)))
 
 -- a number of 64 bits is read back from its text
-pub decimal-back : (v : ℕ) → v < 2 ^ 64 → decimal_of (number_text v) ≡ Value v
+pub decimal-back : (v : ℕ) → v < 2 ^ 64 → decimal_of (number_text v) ≡ Some v
 unfolding decimal_of number_of number_text
 decimal-back v h =
     let k : v < 10 ^ 20 = omega arith in

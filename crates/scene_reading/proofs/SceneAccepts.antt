@@ -1,6 +1,7 @@
 -- The reader accepts exactly the texts within its limits that no line row refuses, and leaves the store and the table of the
 -- scene that the text says.
 -- Assumes nothing.
+use Rattle.std.specs.Prelude.{Ok}
 use Prim.Native.Nat.{ℕ, ◌≤◌}
 use mathlib.Core.Path.{◌≡◌, refl, sym, ◌∙◌}
 use mathlib.Core.List.{List}
@@ -8,7 +9,6 @@ use mathlib.Core.Logic.{◌↔◌}
 use native.Mathlib.Omega.{arith}
 use lib.ListN.{length}
 use borrow.Author.Tests.{le-leb}
-use Rattle.protocol.specs.declared.check.Check.TheVariants.{Passed}
 use Rattle.protocol.proofs.AllPass.{all-pass-passed, all-pass-split}
 use Rattle.text.specs.Text.{pieces, line_end}
 use Rattle.scene_reader.specs.Reader.{ReaderState, ReaderOutcome, reader_refuses, reader_holds, lines_outcome, reader_start, scene_limit_rows, scene_rows, read_of, reader_check}
@@ -25,12 +25,12 @@ use Rattle.scene_reading.proofs.PrintBack.{reading-ok}
 use Rattle.scene_table.proofs.SceneBack.{numbers-few}
 
 -- an outcome that passes holds something
-passed-held : (o : ReaderOutcome) → reader_check o ≡ Passed → (g : ReaderState) × (o ≡ reader_holds g)
+passed-held : (o : ReaderOutcome) → reader_check o ≡ Ok tt → (g : ReaderState) × (o ≡ reader_holds g)
 passed-held (reader_refuses e) h = absurd (let z : ◌≡◌ {A = ℕ} 0 1 = cc in omega arith)
 passed-held (reader_holds g) h = (g, refl)
 
 module _ (text : List ℕ) (n m : ℕ) where
-  accepted : reader_check (read_of text n m) ≡ Passed → (length text ≤ scene_max_length) × ((table_min_entries ≤ m) × LinesAccepted text n)
+  accepted : reader_check (read_of text n m) ≡ Ok tt → (length text ≤ scene_max_length) × ((table_min_entries ≤ m) × LinesAccepted text n)
   unfolding scene_rows
   accepted e =
       let l = all-pass-passed _ (all-pass-split (scene_limit_rows text m) _ ((rows.scene-passes-rows text n m).0 e)).0 in
@@ -43,15 +43,15 @@ module _ (text : List ℕ) (n m : ℕ) where
   unfolding scene_limit_rows
   within-limits a b = limits-passed text n m (all-pass-passed (scene_limit_rows text m) (le-leb (length text) scene_max_length a, (le-leb table_min_entries m b, tt)))
 
-  accepting : (length text ≤ scene_max_length) × ((table_min_entries ≤ m) × LinesAccepted text n) → reader_check (read_of text n m) ≡ Passed
+  accepting : (length text ≤ scene_max_length) × ((table_min_entries ≤ m) × LinesAccepted text n) → reader_check (read_of text n m) ≡ Ok tt
   accepting h = rw (within-limits h.0 h.1.0, (passes-accepted text n m h.1.1).1)
 
   -- accepted exactly where no reader or line row refuses
-  pub reader-accepts : (reader_check (read_of text n m) ≡ Passed) ↔ ((length text ≤ scene_max_length) × ((table_min_entries ≤ m) × LinesAccepted text n))
+  pub reader-accepts : (reader_check (read_of text n m) ≡ Ok tt) ↔ ((length text ≤ scene_max_length) × ((table_min_entries ≤ m) × LinesAccepted text n))
   reader-accepts = (accepted, accepting)
 
   -- the store and the table after an accepted text are those of the scene that its lines say
-  pub scene-encodes : reader_check (read_of text n m) ≡ Passed → (p : LinesAccepted text n) → Encodes text n m (scene_of p.lines)
+  pub scene-encodes : reader_check (read_of text n m) ≡ Ok tt → (p : LinesAccepted text n) → Encodes text n m (scene_of p.lines)
   scene-encodes e p =
       let h = accepted e in
       let r = passes-accepted text n m p in

@@ -3,12 +3,7 @@ ghost use Rattle.std.specs.Prelude.{◌≡◌, ◌≤◌, ◌<◌, ◌^◌};
 ghost use Rattle.scene_table.specs.Lent.{table_entry, table_u64, outputs_at, deps_at, witnesses_at, verdicts_at, hash_length, digit_count, input_count, output_count, dep_count, witness_count, cell_field_places, bytes_place, cell_record_places, script_place, transaction_place};
 ghost use Rattle.scene_table.specs.Places.{input_group, input_since, input_capacity, input_places, output_places, output_capacity, dep_places, witness_place, verdict_of};
 
-use crate::entries::{
-    BYTES_LENGTH, BYTES_WIDTH, CELL_DATA_LENGTH, CELL_SCRIPT_LENGTH, CELL_WIDTH, DEP_COUNT_AT,
-    DIGIT_COUNT, DIGITS, INPUT_CAPACITY, INPUT_COUNT_AT, INPUT_DATA_LENGTH, INPUT_GROUP,
-    INPUT_SCRIPT_LENGTH, INPUT_SINCE, INPUT_WIDTH, INPUTS_AT, OUTPUT_CAPACITY, OUTPUT_COUNT_AT,
-    OUTPUT_WIDTH, SCRIPT_AT, TRANSACTION_AT, WITNESS_COUNT_AT,
-};
+use crate::entries::{BYTES_LENGTH, BYTES_WIDTH, CELL_DATA_LENGTH, CELL_SCRIPT_LENGTH, CELL_WIDTH, DEP_COUNT_AT, DIGIT_COUNT, DIGITS, INPUT_CAPACITY, INPUT_COUNT_AT, INPUT_DATA_LENGTH, INPUT_GROUP, INPUT_SCRIPT_LENGTH, INPUT_SINCE, INPUT_WIDTH, INPUTS_AT, OUTPUT_CAPACITY, OUTPUT_COUNT_AT, OUTPUT_WIDTH, SCRIPT_AT, TRANSACTION_AT, WITNESS_COUNT_AT};
 use octets::Place;
 
 // The places of a cell's fields. A cell without a type script has nothing at the first and the third.

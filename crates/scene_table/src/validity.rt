@@ -5,16 +5,8 @@ ghost use Rattle.scene_table.specs.Lent.{table_entry, records_at};
 ghost use Rattle.scene_table.specs.Valid.{valid_table};
 ghost use Rattle.scene_table.specs.RecordsWalk.{required, with_record, cell_size, record_step, walk_records, any_record, group_ok, bytes_size, cell_record_size, input_size, record_ok, record_size, record_width, counts_ok, walk_lines, rest_ok};
 
-use crate::entries::{
-    BYTES_LENGTH, BYTES_WIDTH, CELL_DATA_LENGTH, CELL_SCRIPT_LENGTH, CELL_WIDTH, DIGITS,
-    INPUT_DATA_LENGTH, INPUT_GROUP, INPUT_SCRIPT_LENGTH, INPUT_WIDTH, INPUTS_AT, NO_KIND_AT,
-    OUTPUT_WIDTH, SCRIPT_AT, SCRIPT_COUNT_AT, TRANSACTION_AT, TRANSACTION_COUNT_AT,
-    VERDICTS_COUNT_AT,
-};
-use crate::places::{
-    dep_count, deps_at, digit_count, hash_length, input_count, output_count, outputs_at,
-    table_entry, verdicts_at, witness_count, witnesses_at,
-};
+use crate::entries::{BYTES_LENGTH, BYTES_WIDTH, CELL_DATA_LENGTH, CELL_SCRIPT_LENGTH, CELL_WIDTH, DIGITS, INPUT_DATA_LENGTH, INPUT_GROUP, INPUT_SCRIPT_LENGTH, INPUT_WIDTH, INPUTS_AT, NO_KIND_AT, OUTPUT_WIDTH, SCRIPT_AT, SCRIPT_COUNT_AT, TRANSACTION_AT, TRANSACTION_COUNT_AT, VERDICTS_COUNT_AT};
+use crate::places::{dep_count, deps_at, digit_count, hash_length, input_count, output_count, outputs_at, table_entry, verdicts_at, witness_count, witnesses_at};
 use protocol::{DIGITS_MAX_COUNT, KIND_MAX_LINES, TABLE_MIN_ENTRIES};
 
 // Whether the records so far are good, and where their bytes end.

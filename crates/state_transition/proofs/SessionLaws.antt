@@ -1,5 +1,6 @@
 -- A state's session: its test by the flag and by each entry, an entry a turn.
 -- Assumes nothing.
+use Rattle.std.specs.Prelude.{Err, Ok}
 use mathlib.Core.Path.{◌≡◌, refl, sym, ◌∙◌}
 use mathlib.Core.Logic.{◌↔◌}
 use mathlib.Core.Bool.{Bool, true, false, not, false≢true}
@@ -10,10 +11,8 @@ use lib.ListN.{drop}
 use borrow.Author.Tests.{not-true}
 use Rattle.octets.specs.Lists.{every}
 use Rattle.octets.proofs.Truth.{and_both}
-use Rattle.protocol.specs.Rows.{row, decide, ◌▷◌}
+use Rattle.protocol.specs.Rows.{row, decide, ◌▷◌, Check}
 use Rattle.protocol.specs.declared.error.ProtocolError.TheVariants.{InvalidSequence, SessionWithdrawn}
-use Rattle.protocol.specs.declared.check.Check.{Check}
-use Rattle.protocol.specs.declared.check.Check.TheVariants.{Passed, Failed}
 use Rattle.protocol.proofs.AllPass.{decide-append}
 use Rattle.account_state.specs.Fields.{flags_of, sequence_of, session_enabled, entry_count_of, entry_length_of, entry_bytes_of}
 use Rattle.account_state.specs.Reading.{EntryReading, StateReading, entry_of, entries_of, state_reading}
@@ -56,17 +55,17 @@ session-carried r = (λ h f. false≢true (sym h ∙ (session-free r).1 f), go (
 
 -- a successor without a session is decided by document 01's rows
 pub successor-original : (current successor : List ℕ) → SessionFree (state_reading successor)
-    → decide Passed (successor_rows current successor)
-    ≡ decide Passed (state_rows successor ++ (row (eqb (sequence_of successor) (sequence_of current + 1)) InvalidSequence ∷ []))
+    → decide (Ok tt) (successor_rows current successor)
+    ≡ decide (Ok tt) (state_rows successor ++ (row (eqb (sequence_of successor) (sequence_of current + 1)) InvalidSequence ∷ []))
 unfolding successor_rows decide ◌▷◌
 successor-original current successor h =
-    decide-append Passed (state_rows successor) _
-    ∙ (rw ((session-free (state_reading successor)).1 h) (go (decide Passed (state_rows successor))) ∙ sym (decide-append Passed (state_rows successor) _))
+    decide-append (Ok tt) (state_rows successor) _
+    ∙ (rw ((session-free (state_reading successor)).1 h) (go (decide (Ok tt) (state_rows successor))) ∙ sym (decide-append (Ok tt) (state_rows successor) _))
   where
     go : (k : Check) → k ▷ row true SessionWithdrawn ▷ row (eqb (sequence_of successor) (sequence_of current + 1)) InvalidSequence
         ≡ k ▷ row (eqb (sequence_of successor) (sequence_of current + 1)) InvalidSequence
-    go Passed = refl
-    go (Failed e) = refl
+    go (Ok _) = refl
+    go (Err e) = refl
 
 -- the flag alone
 pub free-flag : (s : List ℕ) → session_enabled (flags_of s) ≡ true → session_free (state_reading s) ≡ false

@@ -1,5 +1,6 @@
 -- What the rows of a wait find, and which of document 01's answers stay.
 -- Assumes nothing.
+use Rattle.std.specs.Prelude.{Err, Ok}
 use mathlib.Core.Path.{◌≡◌, refl, sym, ◌∙◌}
 use mathlib.Core.Logic.{◌≢◌, ◌⊎◌, inl, inr, ⊎_elim, ◌↔◌}
 use mathlib.Core.Bool.{Bool, true, false, true≢false, false≢true}
@@ -8,10 +9,8 @@ use Prim.Native.Nat.{ℕ}
 use native.Mathlib.Omega.{arith}
 use lib.Dec.{eqb, leb}
 use borrow.Author.Tests.{eq-eqb, ne_eqb, eqb-true, eqb-false, le-leb}
-use Rattle.protocol.specs.Rows.{row, decide, ◌▷◌, check_number}
+use Rattle.protocol.specs.Rows.{row, decide, ◌▷◌, check_number, Check}
 use Rattle.protocol.specs.declared.error.ProtocolError.TheVariants.{InvalidCapability, RecoveryLocked, InvalidSince}
-use Rattle.protocol.specs.declared.check.Check.{Check}
-use Rattle.protocol.specs.declared.check.Check.TheVariants.{Passed, Failed}
 use Rattle.protocol.proofs.AllPass.{decide-failed}
 use Rattle.account_state.specs.Fields.{flags_of, recovery_enabled, recovery_since_of}
 use Rattle.since.specs.Since.{since_fields, well_formed, reached, Reached, AbsoluteBlocks}
@@ -23,10 +22,10 @@ use Rattle.state_transition.specs.Waiting.{WellFormed, WaitOver, WaitMalformed, 
 
 -- what the tests of both numbers and of the wait find
 abbrev found : Bool → Bool → Bool → Check
-found true true true = Passed
-found true true false = Failed RecoveryLocked
-found true false r = Failed InvalidSince
-found false g r = Failed InvalidSince
+found true true true = (Ok tt)
+found true true false = Err RecoveryLocked
+found true false r = Err InvalidSince
+found false g r = Err InvalidSince
 
 passes : (f g r : Bool) → check_number (found f g r) ≡ 0 → (f ≡ true) × (g ≡ true) × (r ≡ true)
 passes true true true h = (refl, refl, refl)
@@ -56,22 +55,22 @@ module _ (wait since : ℕ) where
   abbrev over : Bool
   over = reached (since_fields wait) (since_fields since)
 
-  no-wait : wait ≡ 0 → decide Passed (wait_rows wait since) ≡ Passed
+  no-wait : wait ≡ 0 → decide (Ok tt) (wait_rows wait since) ≡ Ok tt
   unfolding wait_rows decide
   no-wait z = rw (eq-eqb wait 0 z)
 
-  a-wait : wait ≢ 0 → decide Passed (wait_rows wait since) ≡ found state input over
+  a-wait : wait ≢ 0 → decide (Ok tt) (wait_rows wait since) ≡ found state input over
   unfolding wait_rows decide ◌▷◌
   a-wait n = rw (ne_eqb wait 0 n) (go state input over)
     where
-      go : (f g r : Bool) → decide Passed (row f InvalidSince ∷ row g InvalidSince ∷ row r RecoveryLocked ∷ []) ≡ found f g r
+      go : (f g r : Bool) → decide (Ok tt) (row f InvalidSince ∷ row g InvalidSince ∷ row r RecoveryLocked ∷ []) ≡ found f g r
       go true true true = refl
       go true true false = refl
       go true false r = refl
       go false g r = refl
 
   abbrev number : ℕ
-  number = check_number (decide Passed (wait_rows wait since))
+  number = check_number (decide (Ok tt) (wait_rows wait since))
 
   formed : state ≡ true → input ≡ true → WellFormed wait since
   formed f g = record { state = f; input = g }
@@ -132,20 +131,20 @@ module _ (wait since : ℕ) where
 plain-wait : (wait since : ℕ) → AbsoluteBlocks (since_fields wait) → AbsoluteBlocks (since_fields since) → (c : Check)
     → decide c (wait_rows wait since) ≡ decide c (row (leb wait since) RecoveryLocked ∷ [])
 unfolding decide ◌▷◌
-plain-wait wait since a b (Failed e) = decide-failed (wait_rows wait since) e ∙ sym (decide-failed (row (leb wait since) RecoveryLocked ∷ []) e)
-plain-wait wait since a b Passed = go (eqb wait 0) refl
+plain-wait wait since a b (Err e) = decide-failed (wait_rows wait since) e ∙ sym (decide-failed (row (leb wait since) RecoveryLocked ∷ []) e)
+plain-wait wait since a b (Ok _) = go (eqb wait 0) refl
   where
-    go : (z : Bool) → eqb wait 0 ≡ z → decide Passed (wait_rows wait since) ≡ decide Passed (row (leb wait since) RecoveryLocked ∷ [])
+    go : (z : Bool) → eqb wait 0 ≡ z → decide (Ok tt) (wait_rows wait since) ≡ decide (Ok tt) (row (leb wait since) RecoveryLocked ∷ [])
     go true z = let n = eqb-true wait 0 z in no-wait wait since n ∙ rw (le-leb wait since (omega arith))
     go false z = a-wait wait since (eqb-false wait 0 z) ∙ rw (blocks-formed wait a, blocks-formed since b, blocks-reached wait since a b) (last (leb wait since))
       where
-        last : (r : Bool) → found true true r ≡ decide Passed (row r RecoveryLocked ∷ [])
+        last : (r : Bool) → found true true r ≡ decide (Ok tt) (row r RecoveryLocked ∷ [])
         last true = refl
         last false = refl
 
 -- where both are absolute blocks, document 01's rows decide: "recovery_since and the input's since are compared as plain u64"
 pub since-plain : (since : ℕ) (current : List ℕ) → AbsoluteBlocks (since_fields (recovery_since_of current)) → AbsoluteBlocks (since_fields since)
-    → decide Passed (recovery_rows since current)
-    ≡ decide Passed (row (recovery_enabled (flags_of current)) InvalidCapability ∷ row (leb (recovery_since_of current) since) RecoveryLocked ∷ [])
+    → decide (Ok tt) (recovery_rows since current)
+    ≡ decide (Ok tt) (row (recovery_enabled (flags_of current)) InvalidCapability ∷ row (leb (recovery_since_of current) since) RecoveryLocked ∷ [])
 unfolding recovery_rows decide
 since-plain since current a b = plain-wait (recovery_since_of current) since a b _

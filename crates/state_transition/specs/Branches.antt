@@ -1,8 +1,7 @@
 -- Private: no public contract cites this file.
 -- What the search for the account's state answers for a spend and for a change.
 use Rattle.std.specs.Prelude.{List, ℕ}
-use Rattle.protocol.specs.Rows.{decide}
-use Rattle.protocol.specs.declared.check.Check.{Check}
+use Rattle.protocol.specs.Rows.{decide, Check}
 use Rattle.scene_table.specs.Scene.{Scene}
 use Rattle.cell_search.specs.declared.cells.Source.TheVariants as source
 use Rattle.state_transition.specs.declared.resolve.ResolvedState.{ResolvedState}

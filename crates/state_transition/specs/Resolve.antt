@@ -1,9 +1,8 @@
 -- The cells of an account's state in a transaction: the current one, and its successor where the state changes.
-use Rattle.std.specs.Prelude.{ℕ, cond, List, [], ◌∷◌, ◌++◌, length, get_or, eqb, leb}
+use Rattle.std.specs.Prelude.{ℕ, cond, List, [], ◌∷◌, ◌++◌, length, get_or, eqb, leb, Ok}
 use Rattle.octets.specs.Lists.{same}
 use Rattle.protocol.specs.Policy.{operation_rows}
 use Rattle.protocol.specs.Rows.{Row, row, decide}
-use Rattle.protocol.specs.declared.check.Check.TheVariants.{Passed}
 use Rattle.protocol.specs.declared.error.ProtocolError.TheVariants.{InvalidState, StateNotFound, DuplicateState, StateConsumedOnSpend, InvalidTransition}
 use Rattle.scene_table.specs.Scene.{Cell, Input, Scene}
 use Rattle.cell_search.specs.declared.cells.Source.{Source}
@@ -83,7 +82,7 @@ state_since operation id s = since_at (state_index (state_source operation) id s
 unfoldable pub resolved_of : ℕ → List ℕ → Scene → ResolvedState
 resolved_of operation id s =
     record {
-      found = decide Passed (operation_rows operation ++ resolve_rows operation id s);
+      found = decide (Ok tt) (operation_rows operation ++ resolve_rows operation id s);
       current = state_index (state_source operation) id s;
       successor = cond (eqb operation 1) 0 (state_index source.Output id s);
     }

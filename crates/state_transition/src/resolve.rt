@@ -1,5 +1,5 @@
 // Where the account's state stands in a transaction.
-ghost use Rattle.std.specs.Prelude.{◌≡◌};
+ghost use Rattle.std.specs.Prelude.{◌≡◌, Ok};
 ghost use Rattle.protocol.specs.Rows.{decide};
 ghost use Rattle.scene_table.specs.Lent.{scene_in};
 ghost use Rattle.state_transition.specs.Branches.{spend_of, change_of};
@@ -7,31 +7,30 @@ ghost use Rattle.state_transition.specs.Resolve.{type_rows, resolved_of, current
 
 use cell_search::{CellField, Source, cell_content, cell_type_script, search_cells};
 use octets::{part, same_bytes};
-use protocol::{Check, OP_SPEND, ProtocolError, is_operation};
+use protocol::{OP_SPEND, ProtocolError, is_operation, require};
 use scene_table::{input_count, input_since};
 
 // What the rows of the search found, and the indices of the two cells: the current state's among the deps where it is spent
 // from, else among the inputs, and its successor's among the outputs.
 #[derive(Drop)]
 pub struct ResolvedState {
-    pub found: Check,
+    pub found: Result<(), ProtocolError>,
     pub current: u32,
     pub successor: u32,
 }
 
 const MAX_TYPE_SCRIPT: usize = 512;
 
-fn check_types(input: &[u8], output: &[u8]) -> Check
-    ensures { result ≡ decide Check.Passed (type_rows input.now output.now) }
+fn check_types(input: &[u8], output: &[u8]) -> Result<(), ProtocolError>
+    ensures { result ≡ decide (Ok tt) (type_rows input.now output.now) }
 {
-    Check::Passed
-        .require(input.len() <= MAX_TYPE_SCRIPT, ProtocolError::InvalidState)
-        .require(output.len() <= MAX_TYPE_SCRIPT, ProtocolError::InvalidState)
-        .require(same_bytes(input, output), ProtocolError::InvalidTransition)
+    require(input.len() <= MAX_TYPE_SCRIPT, ProtocolError::InvalidState)?;
+    require(output.len() <= MAX_TYPE_SCRIPT, ProtocolError::InvalidState)?;
+    require(same_bytes(input, output), ProtocolError::InvalidTransition)
 }
 
 // A spend reads the state from a dep.
-fn resolve_spend(earlier: Check, table: &[u32], store: &[u8], account_id: &[u8]) -> ResolvedState
+fn resolve_spend(earlier: Result<(), ProtocolError>, table: &[u32], store: &[u8], account_id: &[u8]) -> ResolvedState
     ensures { result ≡ spend_of earlier account_id.now (scene_in table.now store.now) }
 {
     let inputs = search_cells(table, store, Source::Input, CellField::TypeHash, account_id);
@@ -54,7 +53,7 @@ fn resolve_spend(earlier: Check, table: &[u32], store: &[u8], account_id: &[u8])
 }
 
 // A rotation or a recovery consumes the state and leaves its successor.
-fn resolve_change(earlier: Check, table: &[u32], store: &[u8], account_id: &[u8]) -> ResolvedState
+fn resolve_change(earlier: Result<(), ProtocolError>, table: &[u32], store: &[u8], account_id: &[u8]) -> ResolvedState
     ensures { result ≡ change_of earlier account_id.now (scene_in table.now store.now) }
 {
     let inputs = search_cells(table, store, Source::Input, CellField::TypeHash, account_id);
@@ -86,7 +85,7 @@ fn resolve_change(earlier: Check, table: &[u32], store: &[u8], account_id: &[u8]
 pub fn resolve_state(table: &[u32], store: &[u8], operation: u8, account_id: &[u8]) -> ResolvedState
     ensures { result ≡ resolved_of operation account_id.now (scene_in table.now store.now) }
 {
-    let known = Check::Passed.require(is_operation(operation), ProtocolError::InvalidOperation);
+    let known = Ok(()).require(is_operation(operation), ProtocolError::InvalidOperation);
     if operation == OP_SPEND {
         resolve_spend(known, table, store, account_id)
     } else {

@@ -1,25 +1,20 @@
 // The current state against the witness, its successor and a recovery's wait.
-ghost use Rattle.std.specs.Prelude.{◌≡◌, eqb, ◌+◌};
+ghost use Rattle.std.specs.Prelude.{◌≡◌, eqb, ◌+◌, Ok};
 ghost use Rattle.protocol.specs.Rows.{decide};
 ghost use Rattle.state_transition.specs.Transition.{data_rows, current_rows, successor_rows, wait_rows, recovery_rows, succession_rows, transition_rows};
 
 use crate::session::session_free;
 use account_state::{check_state, flags_of, recovery_enabled, recovery_since_of, sequence_of};
-use protocol::{ACCOUNT_STATE_MAX_LEN, Check, OP_RECOVERY, OP_SPEND, ProtocolError};
+use protocol::{ACCOUNT_STATE_MAX_LEN, OP_RECOVERY, OP_SPEND, ProtocolError, require};
 use since::{is_reached, is_well_formed};
 
-pub fn check_data(current: &[u8], successor: &[u8]) -> Check
-    ensures { result ≡ decide Check.Passed (data_rows current.now successor.now) }
+pub fn check_data(current: &[u8], successor: &[u8]) -> Result<(), ProtocolError>
+    ensures { result ≡ decide (Ok tt) (data_rows current.now successor.now) }
 {
-    Check::Passed
-        .require(
-            current.len() <= ACCOUNT_STATE_MAX_LEN,
-            ProtocolError::InvalidState,
-        )
-        .require(
-            successor.len() <= ACCOUNT_STATE_MAX_LEN,
-            ProtocolError::InvalidState,
-        )
+    require(current.len() <= ACCOUNT_STATE_MAX_LEN,
+            ProtocolError::InvalidState)?;
+    require(successor.len() <= ACCOUNT_STATE_MAX_LEN,
+            ProtocolError::InvalidState)
 }
 
 // Whether a sequence is one more; none is after the last.
@@ -33,59 +28,55 @@ fn is_next(next: u64, sequence: u64) -> bool
     }
 }
 
-fn check_current(sequence: u64, current: &[u8]) -> Check
-    ensures { result ≡ decide Check.Passed (current_rows sequence current.now) }
+fn check_current(sequence: u64, current: &[u8]) -> Result<(), ProtocolError>
+    ensures { result ≡ decide (Ok tt) (current_rows sequence current.now) }
 {
-    check_state(current).require(
-        sequence == sequence_of(current),
-        ProtocolError::InvalidSequence,
-    )
+    check_state(current)?;
+    require(sequence == sequence_of(current),
+        ProtocolError::InvalidSequence)
 }
 
-fn check_successor(current: &[u8], successor: &[u8]) -> Check
-    ensures { result ≡ decide Check.Passed (successor_rows current.now successor.now) }
+fn check_successor(current: &[u8], successor: &[u8]) -> Result<(), ProtocolError>
+    ensures { result ≡ decide (Ok tt) (successor_rows current.now successor.now) }
 {
     let free = session_free(successor);
     let next = is_next(sequence_of(successor), sequence_of(current));
-    check_state(successor)
-        .require(free, ProtocolError::SessionWithdrawn)
-        .require(next, ProtocolError::InvalidSequence)
+    check_state(successor)?;
+    require(free, ProtocolError::SessionWithdrawn)?;
+    require(next, ProtocolError::InvalidSequence)
 }
 
 // The state's wait, of which 0 is none, against the since of its input.
-fn check_wait(wait: u64, since: u64) -> Check
-    ensures { result ≡ decide Check.Passed (wait_rows wait since) }
+fn check_wait(wait: u64, since: u64) -> Result<(), ProtocolError>
+    ensures { result ≡ decide (Ok tt) (wait_rows wait since) }
 {
     if wait == 0 {
-        return Check::Passed;
+        return Ok(());
     }
     let state = is_well_formed(wait);
     let input = is_well_formed(since);
     let over = is_reached(wait, since);
-    Check::Passed
-        .require(state, ProtocolError::InvalidSince)
-        .require(input, ProtocolError::InvalidSince)
-        .require(over, ProtocolError::RecoveryLocked)
+    require(state, ProtocolError::InvalidSince)?;
+    require(input, ProtocolError::InvalidSince)?;
+    require(over, ProtocolError::RecoveryLocked)
 }
 
-fn check_recovery(since: u64, current: &[u8]) -> Check
-    ensures { result ≡ decide Check.Passed (recovery_rows since current.now) }
+fn check_recovery(since: u64, current: &[u8]) -> Result<(), ProtocolError>
+    ensures { result ≡ decide (Ok tt) (recovery_rows since current.now) }
 {
-    Check::Passed
-        .require(
-            recovery_enabled(flags_of(current)),
-            ProtocolError::InvalidCapability,
-        )
-        .and(check_wait(recovery_since_of(current), since))
+    require(recovery_enabled(flags_of(current)),
+            ProtocolError::InvalidCapability)?;
+    check_wait(recovery_since_of(current), since)
 }
 
 // The rows of an operation that changes the state.
-fn check_change(operation: u8, since: u64, current: &[u8], successor: &[u8]) -> Check
-    ensures { result ≡ decide Check.Passed (succession_rows operation since current.now successor.now) }
+fn check_change(operation: u8, since: u64, current: &[u8], successor: &[u8]) -> Result<(), ProtocolError>
+    ensures { result ≡ decide (Ok tt) (succession_rows operation since current.now successor.now) }
 {
     let check = check_successor(current, successor);
     if operation == OP_RECOVERY {
-        check.and(check_recovery(since, current))
+        check?;
+        check_recovery(since, current)
     } else {
         check
     }
@@ -97,13 +88,14 @@ pub fn validate_transition(
     since: u64,
     current: &[u8],
     successor: &[u8],
-) -> Check
-    ensures { result ≡ decide Check.Passed (transition_rows operation sequence since current.now successor.now) }
+) -> Result<(), ProtocolError>
+    ensures { result ≡ decide (Ok tt) (transition_rows operation sequence since current.now successor.now) }
 {
     let check = check_current(sequence, current);
     if operation == OP_SPEND {
         check
     } else {
-        check.and(check_change(operation, since, current, successor))
+        check?;
+        check_change(operation, since, current, successor)
     }
 }

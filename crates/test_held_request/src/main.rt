@@ -3,7 +3,7 @@
 
 use held_request::{is_for, request_authorization_digest_of, request_refusal_of};
 use octets::{part, same_bytes};
-use protocol::{WriteAnswer, error_number};
+use protocol::error_number;
 use std::io;
 use verifier_request::encode_verifier_request;
 
@@ -15,10 +15,10 @@ fn print_answer(rt: &impl Print, answer: bool) -> io::Result<()> {
     }
 }
 
-fn write_number(answer: WriteAnswer) -> u8 {
+fn write_number(answer: Result<usize, ProtocolError>) -> u8 {
     match answer {
-        WriteAnswer::Written(_) => 0,
-        WriteAnswer::Refused(error) => error_number(error),
+        Ok(_) => 0,
+        Err(error) => error_number(error),
     }
 }
 

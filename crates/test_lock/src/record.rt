@@ -3,11 +3,11 @@ ghost use Rattle.std.specs.Prelude.{◌≤◌, length};
 
 use account_lock::{LockAnswer, lock};
 use octets::{part, rest, same_bytes};
-use protocol::{Check, check_number};
+use protocol::{check_number, ProtocolError};
 use scene_reader::read_scene;
 use std::io;
 use test_support::{field, fields_after, value};
-use text::{Decimal, LINE_END, decode, find, head, read_decimal, tail};
+use text::{LINE_END, decode, find, head, read_decimal, tail};
 
 // What follows the record of a scene of that length.
 pub(crate) fn behind_record(text: &[u8], len: usize) -> &[u8]
@@ -27,12 +27,12 @@ fn same_digest(digits: &[u8], reached: bool, digest: &[u8]) -> bool {
 }
 
 // Whether the field is the fee of an accepted scene, or empty.
-fn same_fee(text: &[u8], found: Check, fee: u64) -> bool {
+fn same_fee(text: &[u8], found: Result<(), ProtocolError>, fee: u64) -> bool {
     match found {
-        Check::Failed(_) => (text.len() == 0) & (fee == 0),
-        Check::Passed => match read_decimal(text) {
-            Decimal::Value(v) => v == fee,
-            Decimal::Invalid => false,
+        Err(_) => (text.len() == 0) & (fee == 0),
+        Ok(()) => match read_decimal(text) {
+            Some(v) => v == fee,
+            None => false,
         },
     }
 }
@@ -61,8 +61,8 @@ fn passes(
     answer: &mut [u8],
 ) -> bool {
     match read_scene(scene, store, table) {
-        Check::Failed(_) => false,
-        Check::Passed => same_answer(line, lock(table, store, answer)),
+        Err(_) => false,
+        Ok(()) => same_answer(line, lock(table, store, answer)),
     }
 }
 

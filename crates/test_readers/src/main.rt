@@ -3,32 +3,32 @@
 // flag 2, and capability 0x0008.
 #![tactic(auto)]
 
-use account_state::{StateAnswer, validate_state};
+use account_state::validate_state;
 use account_state_writer::encode_state;
-use account_witness::{WitnessAnswer, validate_witness};
+use account_witness::validate_witness;
 use account_witness_writer::encode_witness;
 use octets::{part, store_number};
-use protocol::{WriteAnswer, error_number};
+use protocol::error_number;
 use std::io;
 
 fn state_number(state: &[u8]) -> u8 {
     match validate_state(state) {
-        StateAnswer::Valid(_, _) => 0,
-        StateAnswer::Refused(error) => error_number(error),
+        Ok((_, _)) => 0,
+        Err(error) => error_number(error),
     }
 }
 
 fn witness_number(witness: &[u8]) -> u8 {
     match validate_witness(witness) {
-        WitnessAnswer::Witness(_) => 0,
-        WitnessAnswer::Refused(error) => error_number(error),
+        Ok(_) => 0,
+        Err(error) => error_number(error),
     }
 }
 
-fn write_number(answer: WriteAnswer) -> u8 {
+fn write_number(answer: Result<usize, ProtocolError>) -> u8 {
     match answer {
-        WriteAnswer::Written(_) => 0,
-        WriteAnswer::Refused(error) => error_number(error),
+        Ok(_) => 0,
+        Err(error) => error_number(error),
     }
 }
 

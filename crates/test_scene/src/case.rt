@@ -2,7 +2,7 @@
 ghost use Rattle.std.specs.Prelude.{◌≤◌, length, IfOk};
 
 use octets::store_bytes;
-use protocol::{Check, error_number};
+use protocol::{error_number, ProtocolError};
 use scene_reader::read_scene;
 use std::io;
 use test_support::{Counts, counted, field, fields_after, value, wide};
@@ -120,14 +120,14 @@ fn number(scene: &[u8], store: &mut [u8], table: &mut [u32]) -> u64 {
     fill_bytes(store);
     fill_words(table);
     match read_scene(scene, store, table) {
-        Check::Passed => {
+        Ok(()) => {
             if all_between(tail(store, scene.len()), 0, 0) & zero_from(table, 1181) {
                 0
             } else {
                 98
             }
         }
-        Check::Failed(error) => {
+        Err(error) => {
             if all_between(store, 0, 0) & zero_from(table, 0) {
                 wide(error_number(error))
             } else {

@@ -3,7 +3,7 @@ ghost use Rattle.std.specs.Prelude.{◌≡◌};
 ghost use Rattle.text.specs.Text.{decimal_of};
 ghost use Rattle.test_support.specs.Fields.{first_field, fields_after, field_number};
 
-use text::{COMMA, Decimal, find, head, read_decimal, tail};
+use text::{COMMA, find, head, read_decimal, tail};
 
 // The number of a bad field, which no answer has.
 pub const NO_NUMBER: u64 = 18446744073709551615;
@@ -27,8 +27,8 @@ pub fn value(f: &[u8]) -> u64
     ensures { result ≡ field_number (decimal_of f.now) }
 {
     match read_decimal(f) {
-        Decimal::Value(v) => v,
-        Decimal::Invalid => NO_NUMBER,
+        Some(v) => v,
+        None => NO_NUMBER,
     }
 }
 

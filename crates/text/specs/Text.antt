@@ -1,8 +1,6 @@
 -- Text as it is read: pieces between separators, and the values of hexadecimal and decimal digits. Byte values are ASCII.
-use Rattle.std.specs.Prelude.{ℕ, ◌+◌, ◌-◌, ◌*◌, ◌%◌, ◌^◌, ◌≤◌, ◌<◌, Bool, cond, not, ◌&&◌, ◌||◌, ◌≡◌, List, [], ◌∷◌, ◌++◌, length, take, drop, get_or, ltb, leb, eqb}
+use Rattle.std.specs.Prelude.{ℕ, ◌+◌, ◌-◌, ◌*◌, ◌%◌, ◌^◌, ◌≤◌, ◌<◌, Bool, cond, not, ◌&&◌, ◌||◌, ◌≡◌, List, [], ◌∷◌, ◌++◌, length, take, drop, get_or, ltb, leb, eqb, None, Option, Some}
 use Rattle.octets.specs.Lists.{every}
-use Rattle.text.specs.declared.decimal.Decimal.{Decimal}
-use Rattle.text.specs.declared.decimal.Decimal.TheVariants.{Value, Invalid}
 
 -- 01: "Text lines ended by byte 10, fields parted by commas, no quoting"
 abbrev pub line_end : ℕ
@@ -60,14 +58,14 @@ abbrev pub plain : List ℕ → Bool
 plain s = ltb 0 (length s) && (every (in_range 48 57) s && (eqb (length s) 1 || not (eqb (get_or s 0 0) 48)))
 
 -- the u64 that decimal digits stand for
-unfoldable pub number_of : List ℕ → Decimal
-number_of s = cond (ltb (decimal 0 s) (2 ^ 64)) (Value (decimal 0 s)) Invalid
+unfoldable pub number_of : List ℕ → Option ℕ
+number_of s = cond (ltb (decimal 0 s) (2 ^ 64)) (Some (decimal 0 s)) None
 
 -- 01: "SINCE is a decimal u64 without leading zeros, zero being `0`."; 02, change 9: CAPACITY is "written as SINCE is"
-unfoldable pub decimal_of : List ℕ → Decimal
-decimal_of s = cond (plain s) (number_of s) Invalid
+unfoldable pub decimal_of : List ℕ → Option ℕ
+decimal_of s = cond (plain s) (number_of s) None
 
 -- the number of such a field, 0 where it has none
-unfoldable pub number_in : Decimal → ℕ
-number_in (Value v) = v
-number_in Invalid = 0
+unfoldable pub number_in : Option ℕ → ℕ
+number_in (Some v) = v
+number_in None = 0

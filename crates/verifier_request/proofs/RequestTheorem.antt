@@ -1,6 +1,7 @@
 -- Requests: accepted exactly where every check passes, and then exactly one reading has them as its written form, which is
 -- the one that the reader gives and which the writer writes back; and what the writer writes is accepted.
 -- Assumes nothing.
+use Rattle.std.specs.Prelude.{Err, Ok, Result}
 use mathlib.Core.Path.{◌≡◌, refl, sym, ap, ◌∙◌}
 use mathlib.Core.List.{List}
 use mathlib.Core.Logic.{◌↔◌}
@@ -9,17 +10,13 @@ use native.Mathlib.Omega.{arith}
 use borrow.Author.Tests.{leb-true}
 use lib.ListN.{length}
 use Rattle.octets.specs.Le.{Bytes}
-use Rattle.protocol.specs.Rows.{decide, AllPass, FirstFailed}
+use Rattle.protocol.specs.Rows.{decide, AllPass, FirstFailed, Check}
 use Rattle.protocol.specs.Reading.{OneReading, WritesBack}
 use Rattle.protocol.specs.declared.error.ProtocolError.{ProtocolError}
-use Rattle.protocol.specs.declared.check.Check.{Check}
-use Rattle.protocol.specs.declared.check.Check.TheVariants.{Passed, Failed}
 use Rattle.protocol.proofs.AllPass.{passed-all-pass}
 use Rattle.protocol.proofs.Answers.{answer-given, answer-accepts, answer-refuses}
 use Rattle.protocol.proofs.Back.{writes-back}
 use Rattle.verifier_request.specs.declared.reader.RequestFields.{RequestFields}
-use Rattle.verifier_request.specs.declared.reader.RequestAnswer.{RequestAnswer}
-use Rattle.verifier_request.specs.declared.reader.RequestAnswer.TheVariants.{Request, Refused}
 use Rattle.verifier_request.specs.Reader.{request_rows, request_fault, request_fields_of, request_answer, read_request}
 use Rattle.verifier_request.specs.Reading.{RequestReading, RequestTyped, request_given, request_reading, request_bytes}
 use Rattle.verifier_request.specs.Writer.{request_writer_limit_rows, request_writer_rows, request_total, request_writer_fault, request_written, request_stored}
@@ -27,23 +24,23 @@ use Rattle.verifier_request.proofs.Form.{request-typed-sized, length-request}
 use Rattle.verifier_request.proofs.Inverse.{RequestPasses, request-passes, request-passes-hold, request-back, request-typed, request-reading-limits, request-reading-total, request-written-read, request-written-passes}
 
 -- what the checks found, by the answer
-abbrev request_found : RequestAnswer → Check
-request_found (Request f) = Passed
-request_found (Refused e) = Failed e
+abbrev request_found : Result RequestFields ProtocolError → Check
+request_found (Ok f) = (Ok tt)
+request_found (Err e) = Err e
 
 -- which is what it was made from
 request-found-back : (g : RequestFields) (k : Check) → request_found (request_answer k g) ≡ k
 unfolding request_answer
-request-found-back g Passed = refl
-request-found-back g (Failed e) = refl
+request-found-back g (Ok _) = refl
+request-found-back g (Err e) = refl
 
 -- accepted exactly where every check passes
-pub request-accepts : (s : List ℕ) → (read_request s ≡ Request (request_fields_of s)) ↔ AllPass (request_rows s)
+pub request-accepts : (s : List ℕ) → (read_request s ≡ Ok (request_fields_of s)) ↔ AllPass (request_rows s)
 unfolding read_request request_fault request_answer
 request-accepts s = answer-accepts (λ k. request_answer k (request_fields_of s)) request_found (request-found-back (request_fields_of s)) (request_rows s)
 
 -- refused exactly with the first check that fails
-pub request-refuses : (s : List ℕ) (e : ProtocolError) → (read_request s ≡ Refused e) ↔ FirstFailed (request_rows s) e
+pub request-refuses : (s : List ℕ) (e : ProtocolError) → (read_request s ≡ Err e) ↔ FirstFailed (request_rows s) e
 unfolding read_request request_fault request_answer
 request-refuses s e = answer-refuses (λ k. request_answer k (request_fields_of s)) request_found (request-found-back (request_fields_of s)) (request_rows s) e
 
@@ -73,11 +70,11 @@ request-one s b h =
         omega arith
 
 -- is the one that the reader gives,
-pub request-given : (s : List ℕ) (f : RequestFields) → read_request s ≡ Request f → AllPass (request_rows s) × (request_given s f ≡ request_reading s)
+pub request-given : (s : List ℕ) (f : RequestFields) → read_request s ≡ Ok f → AllPass (request_rows s) × (request_given s f ≡ request_reading s)
 unfolding read_request request_fault request_reading request_answer
 request-given s f h =
-    let z = answer-given (λ k. request_answer k (request_fields_of s)) request_found (request-found-back (request_fields_of s)) (decide Passed (request_rows s)) (Request f) h refl in
-    let e : Request (request_fields_of s) ≡ Request f = z.1 in
+    let z = answer-given (λ k. request_answer k (request_fields_of s)) request_found (request-found-back (request_fields_of s)) (decide (Ok tt) (request_rows s)) (Ok f) h refl in
+    let e : Ok (request_fields_of s) ≡ Ok f = z.1 in
     let same : f ≡ request_fields_of s = cc in
     (passed-all-pass (request_rows s) z.0, ap (request_given s) same)
 
@@ -90,7 +87,7 @@ request-writes-back s b h =
     writes-back (request_writer_rows r) (request_bytes r) (request_total r) s (request-reading-limits s b z) (request-back s b z) (request-reading-total s b z)
 
 -- The theorem: an accepted request has exactly one reading, that of the answer, and writing it gives the same bytes or 5.
-pub request-theorem : (s : List ℕ) (f : RequestFields) → Bytes s → read_request s ≡ Request f
+pub request-theorem : (s : List ℕ) (f : RequestFields) → Bytes s → read_request s ≡ Ok f
     → OneReading RequestTyped request_bytes s (request_given s f) × WritesBack (request_written (request_given s f)) (request_stored (request_given s f)) s
 request-theorem s f b e =
     let g = request-given s f e in

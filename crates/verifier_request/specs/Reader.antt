@@ -1,16 +1,13 @@
 -- 01, Request: "96 bytes then aux and proof: `CKVR`, 1, 0, 96 (u16), algorithm, slot (u16), operation, profile, two zeros,
 -- digest, key (32 bytes each), aux and proof lengths (u32), eight zeros." Its checks, and what its reader answers.
-use Rattle.std.specs.Prelude.{ℕ, ◌+◌, List, [], ◌∷◌, ◌++◌, eqb, leb, length}
+use Rattle.std.specs.Prelude.{ℕ, ◌+◌, List, [], ◌∷◌, ◌++◌, eqb, leb, length, Err, Ok, Result}
+use Rattle.protocol.specs.declared.error.ProtocolError.{ProtocolError}
 use Rattle.protocol.specs.Errors.{error_number}
 use Rattle.protocol.specs.Policy.{is_operation}
-use Rattle.protocol.specs.Rows.{Row, row, decide}
+use Rattle.protocol.specs.Rows.{Row, row, decide, Check}
 use Rattle.protocol.specs.declared.error.ProtocolError.TheVariants.{InvalidRequest, InvalidOperation, UnsupportedVersion}
-use Rattle.protocol.specs.declared.check.Check.{Check}
-use Rattle.protocol.specs.declared.check.Check.TheVariants.{Passed, Failed}
 use Rattle.verifier_request.specs.Fields.{request_magic_of, request_abi_of, request_reserved_of, request_header_length_of, request_algorithm_of, request_slot_of, request_operation_of, request_profile_of, request_zeros_of, request_digest_offset, request_key_offset, request_aux_length_of, request_proof_length_of, request_last_zeros_of, request_size}
 use Rattle.verifier_request.specs.declared.reader.RequestFields.{RequestFields}
-use Rattle.verifier_request.specs.declared.reader.RequestAnswer.{RequestAnswer}
-use Rattle.verifier_request.specs.declared.reader.RequestAnswer.TheVariants.{Request, Refused}
 
 -- `CKVR`, as a number
 abbrev pub request_magic : ℕ
@@ -42,7 +39,7 @@ unfoldable pub request_rows : List ℕ → List Row
 request_rows s = request_header_rows s ++ request_field_rows s
 
 unfoldable pub request_fault : List ℕ → Check
-request_fault s = decide Passed (request_rows s)
+request_fault s = decide (Ok tt) (request_rows s)
 
 -- the fields, and the places of the parts
 unfoldable pub request_fields_of : List ℕ → RequestFields
@@ -60,14 +57,14 @@ request_fields_of s =
       proof_len = request_proof_length_of s;
     }
 
-unfoldable pub request_answer : Check → RequestFields → RequestAnswer
-request_answer Passed f = Request f
-request_answer (Failed e) f = Refused e
+unfoldable pub request_answer : Check → RequestFields → Result RequestFields ProtocolError
+request_answer (Ok _) f = Ok f
+request_answer (Err e) f = Err e
 
-unfoldable pub read_request : List ℕ → RequestAnswer
+unfoldable pub read_request : List ℕ → Result RequestFields ProtocolError
 read_request s = request_answer (request_fault s) (request_fields_of s)
 
 -- document 01's number of the answer
-abbrev pub request_number : RequestAnswer → ℕ
-request_number (Request f) = 0
-request_number (Refused e) = error_number e
+abbrev pub request_number : Result RequestFields ProtocolError → ℕ
+request_number (Ok f) = 0
+request_number (Err e) = error_number e

@@ -1,11 +1,10 @@
 -- What the writer of a request answers and leaves: 01, "Then writers refuse as in the Rust, then with 5 if the buffer is short".
-use Rattle.std.specs.Prelude.{ℕ, List, [], ◌∷◌, leb, length}
+use Rattle.std.specs.Prelude.{ℕ, List, [], ◌∷◌, leb, length, Result}
+use Rattle.protocol.specs.declared.error.ProtocolError.{ProtocolError}
 use Rattle.protocol.specs.Policy.{is_operation}
-use Rattle.protocol.specs.Rows.{Row, row}
+use Rattle.protocol.specs.Rows.{Row, row, Check}
 use Rattle.protocol.specs.Write.{write_fault, write_answer, after_write}
 use Rattle.protocol.specs.declared.error.ProtocolError.TheVariants.{InvalidRequest, InvalidOperation}
-use Rattle.protocol.specs.declared.check.Check.{Check}
-use Rattle.protocol.specs.declared.check.WriteAnswer.{WriteAnswer}
 use Rattle.verifier_request.specs.Fields.{request_size}
 use Rattle.verifier_request.specs.Reading.{RequestReading, request_bytes}
 
@@ -29,7 +28,7 @@ unfoldable pub request_writer_fault : RequestReading → ℕ → Check
 request_writer_fault r room = write_fault (request_writer_rows r) (request_total r) room
 
 -- the writer's answer
-unfoldable pub request_written : RequestReading → List ℕ → WriteAnswer
+unfoldable pub request_written : RequestReading → List ℕ → Result ℕ ProtocolError
 request_written r out = write_answer (request_writer_fault r (length out)) (request_total r)
 
 -- and the buffer afterwards

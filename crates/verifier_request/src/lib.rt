@@ -6,5 +6,5 @@ mod offsets; // offsets.rt
 mod reader; // reader.rt
 mod writer; // writer.rt
 
-pub use self::reader::{RequestAnswer, RequestFields, parse_verifier_request};
+pub use self::reader::{RequestFields, parse_verifier_request};
 pub use self::writer::encode_verifier_request;

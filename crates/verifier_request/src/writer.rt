@@ -7,16 +7,9 @@ ghost use Rattle.verifier_request.specs.Fields.{request_size};
 ghost use Rattle.verifier_request.specs.Reading.{request_with, request_head, request_lengths, request_bytes};
 ghost use Rattle.verifier_request.specs.Writer.{request_writer_limit_rows, request_written, request_stored};
 
-use crate::offsets::{
-    ABI_OFFSET, ALGORITHM_OFFSET, AUX_LENGTH_OFFSET, DIGEST_OFFSET, HEADER_LENGTH_OFFSET,
-    KEY_OFFSET, LAST_ZEROS_OFFSET, MAGIC_OFFSET, OPERATION_OFFSET, PROFILE_OFFSET,
-    PROOF_LENGTH_OFFSET, RESERVED_OFFSET, SLOT_OFFSET, ZEROS_OFFSET,
-};
+use crate::offsets::{ABI_OFFSET, ALGORITHM_OFFSET, AUX_LENGTH_OFFSET, DIGEST_OFFSET, HEADER_LENGTH_OFFSET, KEY_OFFSET, LAST_ZEROS_OFFSET, MAGIC_OFFSET, OPERATION_OFFSET, PROFILE_OFFSET, PROOF_LENGTH_OFFSET, RESERVED_OFFSET, SLOT_OFFSET, ZEROS_OFFSET};
 use octets::{fits, store_bytes, store_number};
-use protocol::{
-    Check, ProtocolError, VERIFIER_ABI_V1, VERIFIER_MAGIC, VERIFIER_MAX_AUX_LEN,
-    VERIFIER_MAX_PROOF_LEN, VERIFIER_REQUEST_HEADER_LEN, WriteAnswer, is_operation,
-};
+use protocol::{ProtocolError, VERIFIER_ABI_V1, VERIFIER_MAGIC, VERIFIER_MAX_AUX_LEN, VERIFIER_MAX_PROOF_LEN, VERIFIER_REQUEST_HEADER_LEN, is_operation, require};
 
 // Bytes 0 to 15.
 fn store_head(out: &mut [u8], algorithm: u16, slot: u16, operation: u8, profile: u8)
@@ -71,21 +64,18 @@ fn store_request(
 }
 
 // The writer's refusals, and then that of a buffer of `room` bytes.
-fn check_room(operation: u8, aux: &[u8], proof: &[u8], room: usize) -> Check
+fn check_room(operation: u8, aux: &[u8], proof: &[u8], room: usize) -> Result<(), ProtocolError>
     ensures { result ≡ write_fault
         (request_writer_limit_rows operation (length aux.now) (length proof.now))
         (request_size (length aux.now) (length proof.now))
         room }
 {
     let invalid = ProtocolError::InvalidRequest;
-    Check::Passed
-        .require(is_operation(operation), ProtocolError::InvalidOperation)
-        .require(aux.len() <= VERIFIER_MAX_AUX_LEN, invalid)
-        .require(proof.len() <= VERIFIER_MAX_PROOF_LEN, invalid)
-        .require(
-            fits(room, VERIFIER_REQUEST_HEADER_LEN + aux.len(), proof.len()),
-            ProtocolError::BufferTooShort,
-        )
+    require(is_operation(operation), ProtocolError::InvalidOperation)?;
+    require(aux.len() <= VERIFIER_MAX_AUX_LEN, invalid)?;
+    require(proof.len() <= VERIFIER_MAX_PROOF_LEN, invalid)?;
+    require(fits(room, VERIFIER_REQUEST_HEADER_LEN + aux.len(), proof.len()),
+            ProtocolError::BufferTooShort)
 }
 
 // Writes a request to the front of `out` and answers its length. A refused writer writes nothing.
@@ -99,7 +89,7 @@ pub fn encode_verifier_request(
     aux: &[u8],
     proof: &[u8],
     out: &mut [u8],
-) -> WriteAnswer
+) -> Result<usize, ProtocolError>
     ensures value { result ≡ request_written
         (request_with algorithm slot operation profile digest key aux.now proof.now)
         out.old }
@@ -107,13 +97,9 @@ pub fn encode_verifier_request(
         (request_with algorithm slot operation profile digest key aux.now proof.now)
         out.old }
 {
-    match check_room(operation, aux, proof, out.len()) {
-        Check::Failed(error) => WriteAnswer::Refused(error),
-        Check::Passed => {
-            store_request(
+    check_room(operation, aux, proof, out.len())?;
+    store_request(
                 algorithm, slot, operation, profile, digest, key, aux, proof, out,
             );
-            WriteAnswer::Written(VERIFIER_REQUEST_HEADER_LEN + aux.len() + proof.len())
-        }
-    }
+            Ok(VERIFIER_REQUEST_HEADER_LEN + aux.len() + proof.len())
 }

@@ -1,8 +1,8 @@
 -- `account_lock::lock_scene` meets its contract. Assumes nothing.
+use Rattle.std.specs.Prelude.{Ok}
 use mathlib.Core.Path.{◌≡◌, sym, ap, ◌∙◌}
 use lib.ListN.{length}
 use Rattle.protocol.specs.Rows.{AllPass, decide, ◌then◌}
-use Rattle.protocol.specs.declared.check.Check.TheVariants.{Passed}
 use Rattle.protocol.proofs.AllPass.{passed-all-pass, then-passed}
 use Rattle.scene_table.specs.Scene.{Scene}
 use Rattle.scene_table.specs.Lent.{scene_in}
@@ -39,30 +39,30 @@ own-3 c =
     rw c.script.ensures at c.part_at-script.ensures ∙ sym (lent-given c.args.table.now c.args.store.now).script
 
 -- what the rows of the hashes, the script and the group find
-hashes-found-1 : (c : goal.After-refused) → c.check_hashes.result ≡ decide Passed (hash_rows (scene-1 c))
+hashes-found-1 : (c : goal.After-refused) → c.check_hashes.result ≡ decide (Ok tt) (hash_rows (scene-1 c))
 hashes-found-1 c = c.check_hashes.ensures
 
-hashes-found-2 : (c : goal.After-slice_known-in-Passed-1) → c.check_hashes.result ≡ decide Passed (hash_rows (scene-3 c))
+hashes-found-2 : (c : goal.After-slice_known-in-Passed-1) → c.check_hashes.result ≡ decide (Ok tt) (hash_rows (scene-3 c))
 hashes-found-2 c = c.check_hashes.ensures
 
-script-found-1 : (c : goal.After-refused) → c.check_script.result ≡ decide Passed (script_rows (scene-1 c).script)
+script-found-1 : (c : goal.After-refused) → c.check_script.result ≡ decide (Ok tt) (script_rows (scene-1 c).script)
 script-found-1 c = rw (own-1 c) at c.check_script.ensures
 
-script-found-2 : (c : goal.After-lock_account-arg-1) → c.check_script.result ≡ decide Passed (script_rows (scene-2 c).script)
+script-found-2 : (c : goal.After-lock_account-arg-1) → c.check_script.result ≡ decide (Ok tt) (script_rows (scene-2 c).script)
 script-found-2 c = rw (own-2 c) at c.check_script.ensures
 
-script-found-3 : (c : goal.After-slice_known-in-Passed-1) → c.check_script.result ≡ decide Passed (script_rows (scene-3 c).script)
+script-found-3 : (c : goal.After-slice_known-in-Passed-1) → c.check_script.result ≡ decide (Ok tt) (script_rows (scene-3 c).script)
 script-found-3 c = rw (own-3 c) at c.check_script.ensures
 
-group-found-1 : (c : goal.After-refused) → c.check_first_witness.result ≡ decide Passed (group_rows (scene-1 c))
+group-found-1 : (c : goal.After-refused) → c.check_first_witness.result ≡ decide (Ok tt) (group_rows (scene-1 c))
 group-found-1 c =
     rw c.first_witness-witness.ensures at c.check_first_witness.ensures ∙ group-first _
 
-group-found-2 : (c : goal.After-lock_account-arg-1) → c.check_first_witness.result ≡ decide Passed (group_rows (scene-2 c))
+group-found-2 : (c : goal.After-lock_account-arg-1) → c.check_first_witness.result ≡ decide (Ok tt) (group_rows (scene-2 c))
 group-found-2 c =
     rw c.first_witness-witness.ensures at c.check_first_witness.ensures ∙ group-first _
 
-group-found-3 : (c : goal.After-slice_known-in-Passed-1) → c.check_first_witness.result ≡ decide Passed (group_rows (scene-3 c))
+group-found-3 : (c : goal.After-slice_known-in-Passed-1) → c.check_first_witness.result ≡ decide (Ok tt) (group_rows (scene-3 c))
 group-found-3 c =
     rw c.first_witness-witness.ensures at c.check_first_witness.ensures ∙ group-first _
 

@@ -1,23 +1,23 @@
 -- `account_state::validate_state` meets its contract: header, entries and end, by what each finds. Assumes nothing.
+use Rattle.std.specs.Prelude.{Ok}
 use mathlib.Core.Path.{◌≡◌, sym, ◌∙◌}
 use Rattle.protocol.specs.Rows.{decide}
-use Rattle.protocol.specs.declared.check.Check.TheVariants.{Passed}
 use Rattle.account_state.specs.State.{state_header_rows, state_answer, read_state}
 use Rattle.account_state.proofs.AuxLimit.{state-promised}
 use Rattle.account_state.proofs.StateLaws.{head-room, fault-head, fault-entries, fault-end}
 use Rattle.account_state.proofs.validate_state.Goals as goal
 
 -- the header passed
-head-1 : (c : goal.After-entry_count_of) → decide Passed (state_header_rows c.args.state.now) ≡ Passed
+head-1 : (c : goal.After-entry_count_of) → decide (Ok tt) (state_header_rows c.args.state.now) ≡ Ok tt
 head-1 c = sym c.check_head.ensures ∙ c.in-Passed.is
 
-head-2 : (c : goal.In-Refused) → decide Passed (state_header_rows c.args.state.now) ≡ Passed
+head-2 : (c : goal.In-Refused) → decide (Ok tt) (state_header_rows c.args.state.now) ≡ Ok tt
 head-2 c = sym c.check_head.ensures ∙ c.in-Passed.is
 
-head-3 : (c : goal.In-Walked) → decide Passed (state_header_rows c.args.state.now) ≡ Passed
+head-3 : (c : goal.In-Walked) → decide (Ok tt) (state_header_rows c.args.state.now) ≡ Ok tt
 head-3 c = sym c.check_head.ensures ∙ c.in-Passed.is
 
-head-4 : (c : goal.After-state_end) → decide Passed (state_header_rows c.args.state.now) ≡ Passed
+head-4 : (c : goal.After-state_end) → decide (Ok tt) (state_header_rows c.args.state.now) ≡ Ok tt
 head-4 c = sym c.check_head.ensures ∙ c.in-Passed.is
 
 pub walk_entries-requires : goal.walk_entries-requires

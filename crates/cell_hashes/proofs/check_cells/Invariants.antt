@@ -1,8 +1,8 @@
 -- `cell_hashes::check_cells` meets its contract: what is left to test gives what the whole list gives. Assumes nothing.
+use Rattle.std.specs.Prelude.{Ok}
 use mathlib.Core.Path.{◌≡◌}
 use Prim.Native.Nat.{◌-◌}
 use Rattle.protocol.specs.Rows.{decide}
-use Rattle.protocol.specs.declared.check.Check.TheVariants.{Passed}
 use Rattle.scene_table.specs.Lent.{scene_in}
 use Rattle.cell_search.specs.Search.{cells_of}
 use Rattle.cell_search.specs.Cells.{cell_count}
@@ -12,7 +12,7 @@ use Rattle.cell_hashes.proofs.check_cells.Given as goal
 
 abbrev pub invariant-loop-i : goal.invariant-loop-i
 invariant-loop-i l = (l.count ≡ cell_count l.source l.table)
-    × (decide Passed (cells_hash_rows (cells_of l.source (scene_in l.table l.store))) ≡ found_from (cells_of l.source (scene_in l.table l.store)) l.i)
+    × (decide (Ok tt) (cells_hash_rows (cells_of l.source (scene_in l.table l.store))) ≡ found_from (cells_of l.source (scene_in l.table l.store)) l.i)
 
 abbrev pub decreases-loop-i : goal.decreases-loop-i
 decreases-loop-i l = l.count - l.i

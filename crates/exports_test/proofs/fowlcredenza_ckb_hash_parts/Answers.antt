@@ -1,4 +1,5 @@
 -- `exports_test::fowlcredenza_ckb_hash_parts` meets its contract, by whether there is a first part. Assumes nothing.
+use Rattle.std.specs.Prelude.{Err, Ok}
 use mathlib.Core.Path.{◌≡◌}
 use mathlib.Core.List.{List}
 use Prim.Native.Nat.{ℕ, ◌≤◌, ◌<◌}
@@ -7,16 +8,15 @@ use lib.ListN.{length}
 use borrow.Author.Tests.{le-leb, lt-leb}
 use Rattle.protocol.specs.Rows.{decide, ◌▷◌}
 use Rattle.protocol.specs.declared.error.ProtocolError.TheVariants.{SlicesDisagree}
-use Rattle.protocol.specs.declared.check.Check.TheVariants.{Passed, Failed}
 use Rattle.export_answers.proofs.Fits.{bytes-refused}
 use Rattle.exports_test.specs.Parts.{parts_fault}
 use Rattle.exports_test.proofs.fowlcredenza_ckb_hash_parts.Goals as goal
 
-parts-agree : (bytes : List ℕ) (first : ℕ) → first ≤ length bytes → parts_fault bytes first ≡ Passed
+parts-agree : (bytes : List ℕ) (first : ℕ) → first ≤ length bytes → parts_fault bytes first ≡ Ok tt
 unfolding parts_fault decide ◌▷◌
 parts-agree bytes first h = rw (le-leb first (length bytes) h)
 
-parts-disagree : (bytes : List ℕ) (first : ℕ) → length bytes < first → parts_fault bytes first ≡ Failed SlicesDisagree
+parts-disagree : (bytes : List ℕ) (first : ℕ) → length bytes < first → parts_fault bytes first ≡ Err SlicesDisagree
 unfolding parts_fault decide ◌▷◌
 parts-disagree bytes first h = rw (lt-leb first (length bytes) h)
 

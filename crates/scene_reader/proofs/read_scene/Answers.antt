@@ -1,8 +1,10 @@
 -- `scene_reader::read_scene` meets its contract. Assumes nothing.
+use Rattle.std.specs.Prelude.{Result}
+use Rattle.scene_reader.specs.declared.state.State.{State}
+use Rattle.protocol.specs.declared.error.ProtocolError.{ProtocolError}
 use Prim.Native.Nat.{ℕ}
 use mathlib.Core.Path.{◌≡◌, sym, ap, ◌∙◌}
 use lib.ListN.{length, replicate}
-use Rattle.scene_reader.specs.declared.state.LineStep.{LineStep}
 use Rattle.scene_reader.specs.Reader.{read_of}
 use Rattle.scene_reader.specs.Room.{step_outcome}
 use Rattle.scene_reader.proofs.read_scene.Goals as goal
@@ -21,7 +23,7 @@ returns-in-Next c =
     let st = c.read_checked-step.new.store in
     let tb = c.read_checked-step.new.table in
     let done : step_outcome c.read_checked-step.result st tb ≡ read_of a.scene.now (length a.store.now) (length a.table.now) = rw (n, m) at c.read_checked-step.ensures in
-    let is = sym done ∙ ap (λ (x : LineStep). step_outcome x st tb) c.in-Next.is in
+    let is = sym done ∙ ap (λ (x : Result State ProtocolError). step_outcome x st tb) c.in-Next.is in
     record { value = rw is; store_after = rw is; table_after = rw is }
 
 pub returns-in-Refused : goal.returns-in-Refused
@@ -32,5 +34,5 @@ returns-in-Refused c =
     let st = c.read_checked-step.new.store in
     let tb = c.read_checked-step.new.table in
     let done : step_outcome c.read_checked-step.result st tb ≡ read_of a.scene.now (length a.store.now) (length a.table.now) = rw (n, m) at c.read_checked-step.ensures in
-    let is = sym done ∙ ap (λ (x : LineStep). step_outcome x st tb) c.in-Refused.is in
+    let is = sym done ∙ ap (λ (x : Result State ProtocolError). step_outcome x st tb) c.in-Refused.is in
     let k = c.read_checked-step.auto in record { value = rw is; store_after = rw is (c.zero_bytes-in-Refused.ensures ∙ ap (λ (n : ℕ). replicate n 0) (k.store ∙ n)); table_after = rw is (c.zero_words-in-Refused.ensures ∙ ap (λ (n : ℕ). replicate n 0) (k.table ∙ m)) }

@@ -1,7 +1,7 @@
 -- `account_lock::account::check_states` meets its contract. Assumes nothing.
+use Rattle.std.specs.Prelude.{Ok}
 use mathlib.Core.Path.{sym, ◌∙◌}
 use Rattle.protocol.proofs.AllPass.{decide-append, decide-then}
-use Rattle.protocol.specs.declared.check.Check.TheVariants.{Passed}
 use Rattle.scene_table.specs.Lent.{scene_in}
 use Rattle.state_transition.specs.Transition.{data_rows, transition_rows}
 use Rattle.account_lock.specs.Lock.{account, operation, witness_sequence, successor, states_rows}
@@ -26,4 +26,4 @@ returns c =
       state-since (operation s) (account s) s,
       state-successor (operation s) (account s) s,
     )
-    (sym (decide-append Passed (data_rows _ _) _ ∙ decide-then _ (transition_rows _ _ _ _ _)))
+    (sym (decide-append (Ok tt) (data_rows _ _) _ ∙ decide-then _ (transition_rows _ _ _ _ _)))

@@ -1,8 +1,8 @@
 -- `account_lock::account::lock_account` meets its contract. Assumes nothing.
+use Rattle.std.specs.Prelude.{Ok}
 use mathlib.Core.Path.{◌≡◌, sym, ap, ◌∙◌}
 use lib.ListN.{length}
 use Rattle.protocol.specs.Rows.{decide}
-use Rattle.protocol.specs.declared.check.Check.TheVariants.{Passed}
 use Rattle.scene_table.specs.Lent.{scene_in}
 use Rattle.state_transition.specs.declared.resolve.ResolvedState.{ResolvedState}
 use Rattle.state_transition.specs.Resolve.{resolved_of}
@@ -101,7 +101,7 @@ found-5 c =
 
 -- and what the rows find
 late-1 : (c : goal.After-refused) →
-    c.and-2.result ≡ decide Passed (late_rows (scene_in c.args.table.now c.args.store.now))
+    c.and-2.result ≡ decide (Ok tt) (late_rows (scene_in c.args.table.now c.args.store.now))
 late-1 c =
     let s = scene_in c.args.table.now c.args.store.now in
     let resolve = ap (λ (x : ResolvedState). x.found) (found-2 c).resolved ∙ resolved-found (operation s) (account s) s (group-operation s c.requires.group) in
@@ -109,7 +109,7 @@ late-1 c =
     ∙ rw c.and.ensures (late-found s resolve c.check_states.ensures c.check_others.ensures)
 
 late-2 : (c : goal.After-slice_known-in-Passed-1) →
-    c.and-2.result ≡ decide Passed (late_rows (scene_in c.args.table.now c.args.store.now))
+    c.and-2.result ≡ decide (Ok tt) (late_rows (scene_in c.args.table.now c.args.store.now))
 late-2 c =
     let s = scene_in c.args.table.now c.args.store.now in
     let resolve = ap (λ (x : ResolvedState). x.found) (found-5 c).resolved ∙ resolved-found (operation s) (account s) s (group-operation s c.requires.group) in

@@ -4,9 +4,8 @@ use mathlib.Core.List.{List, ◌++◌}
 use Prim.Native.Nat.{ℕ}
 use Rattle.octets.specs.Places.{bytes_at}
 use Rattle.protocol.specs.Args.{args_rows}
-use Rattle.protocol.specs.Rows.{decide}
+use Rattle.protocol.specs.Rows.{decide, Check}
 use Rattle.protocol.proofs.AllPass.{decide-then, decide-where}
-use Rattle.protocol.specs.declared.check.Check.{Check}
 use Rattle.molecule.specs.Bytes as molecule
 use Rattle.molecule.proofs.BytesTheorem.{args_read}
 use Rattle.account_lock.specs.Lock.{script_rows, args_in}

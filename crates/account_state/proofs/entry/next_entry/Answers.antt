@@ -1,21 +1,21 @@
 -- `account_state::entry::next_entry` meets its contract: by what the checks find; an entry that passes is present. Assumes nothing.
+use Rattle.std.specs.Prelude.{Ok}
 use mathlib.Core.Path.{◌≡◌, sym, ◌∙◌}
 use lib.ListN.{drop}
 use Rattle.protocol.specs.Rows.{decide}
-use Rattle.protocol.specs.declared.check.Check.TheVariants.{Passed}
 use Rattle.account_state.specs.State.{entry_rows, entry_step_answer, entry_step}
 use Rattle.account_state.proofs.AuxLimit.{step-promised}
 use Rattle.account_state.proofs.EntriesWalkLaws.{entry-room}
 use Rattle.account_state.proofs.entry.next_entry.Goals as goal
 
 -- the checks passed
-passed-1 : (c : goal.In-Passed) → decide Passed (entry_rows (drop c.args.cursor.offset c.args.state.now) c.args.cursor.least) ≡ Passed
+passed-1 : (c : goal.In-Passed) → decide (Ok tt) (entry_rows (drop c.args.cursor.offset c.args.state.now) c.args.cursor.least) ≡ Ok tt
 passed-1 c = rw (← c.rest.ensures) (sym c.check_entry.ensures ∙ c.in-Passed.is)
 
-passed-2 : (c : goal.After-entry_at) → decide Passed (entry_rows (drop c.args.cursor.offset c.args.state.now) c.args.cursor.least) ≡ Passed
+passed-2 : (c : goal.After-entry_at) → decide (Ok tt) (entry_rows (drop c.args.cursor.offset c.args.state.now) c.args.cursor.least) ≡ Ok tt
 passed-2 c = rw (← c.rest.ensures) (sym c.check_entry.ensures ∙ c.in-Passed.is)
 
-passed-3 : (c : goal.After-cursor_behind) → decide Passed (entry_rows (drop c.args.cursor.offset c.args.state.now) c.args.cursor.least) ≡ Passed
+passed-3 : (c : goal.After-cursor_behind) → decide (Ok tt) (entry_rows (drop c.args.cursor.offset c.args.state.now) c.args.cursor.least) ≡ Ok tt
 passed-3 c = rw (← c.rest.ensures) (sym c.check_entry.ensures ∙ c.in-Passed.is)
 
 pub entry_at-requires : goal.entry_at-requires

@@ -1,12 +1,12 @@
 -- `account_state::walk::walk_entries` meets its contract: what is left to walk gives the whole.
 -- Assumes nothing.
+use Rattle.std.specs.Prelude.{Ok}
 use mathlib.Core.Path.{◌≡◌, sym, ◌∙◌}
 use Prim.Native.Nat.{◌-◌, ◌≤◌}
 use native.Mathlib.Omega.{arith}
 use lib.ListN.{length}
 use Rattle.octets.proofs.Parts.{part-clip}
 use Rattle.protocol.specs.Rows.{decide}
-use Rattle.protocol.specs.declared.check.Check.TheVariants.{Passed}
 use Rattle.protocol.proofs.AllPass.{passed-all-pass}
 use Rattle.account_state.specs.State.{entry_rows}
 use Rattle.account_state.specs.EntriesWalk.{entries_walk_answer, entries_walk_of, walk_entries}
@@ -24,12 +24,12 @@ loop-left-init c =
 -- the entry passed
 passed-1 : (c : goal.After-entry_length_of-len)
     → let l = c.loop-left in
-    decide Passed (entry_rows l.entry.now l.least) ≡ Passed
+    decide (Ok tt) (entry_rows l.entry.now l.least) ≡ Ok tt
 passed-1 c = sym c.check_entry.ensures ∙ c.in-Passed.is
 
 passed-2 : (c : goal.After-entry-in-Passed-1)
     → let l = c.loop-left in
-    decide Passed (entry_rows l.entry.now l.least) ≡ Passed
+    decide (Ok tt) (entry_rows l.entry.now l.least) ≡ Ok tt
 passed-2 c = sym c.check_entry.ensures ∙ c.in-Passed.is
 
 pub returns-in-Failed : goal.returns-in-Failed

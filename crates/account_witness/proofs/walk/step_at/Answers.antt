@@ -1,14 +1,14 @@
 -- `account_witness::walk::step_at` meets its contract, by what the checks find. Assumes nothing.
+use Rattle.std.specs.Prelude.{Ok}
 use mathlib.Core.Path.{◌≡◌, sym, ◌∙◌}
 use native.Mathlib.Omega.{arith}
 use Rattle.protocol.specs.Rows.{decide}
-use Rattle.protocol.specs.declared.check.Check.TheVariants.{Passed}
 use Rattle.protocol.proofs.AllPass.{passed-all-pass}
 use Rattle.account_witness.specs.Walk.{proof_layout_rows, proof_at, proof_cursor_behind, proof_step_answer, proof_step}
 use Rattle.account_witness.proofs.WalkLaws.{ProofHolds, proof-holds}
 use Rattle.account_witness.proofs.walk.step_at.Goals as goal
 
-passed : (c : goal.After-proof_length_at-len) → let a = c.args in decide Passed (proof_layout_rows a.witness.now a.offset a.least) ≡ Passed
+passed : (c : goal.After-proof_length_at-len) → let a = c.args in decide (Ok tt) (proof_layout_rows a.witness.now a.offset a.least) ≡ Ok tt
 passed c = sym c.check_proof.ensures ∙ c.in-Passed.is
 
 pub overflow_add-next : goal.overflow_add-next

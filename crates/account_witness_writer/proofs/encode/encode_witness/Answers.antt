@@ -1,17 +1,17 @@
 -- `account_witness_writer::encode::encode_witness` meets its contract, by what the checks find. Assumes nothing.
+use Rattle.std.specs.Prelude.{Ok}
 use mathlib.Core.Path.{◌≡◌, sym, ◌∙◌}
 use lib.ListN.{length}
 use Rattle.protocol.specs.Write.{write_answer, after_write}
-use Rattle.protocol.specs.declared.check.Check.TheVariants.{Passed}
 use Rattle.account_witness_writer.specs.Writer.{witness_writer_fault, witness_written, witness_stored}
 use Rattle.account_witness_writer.proofs.WriterLaws.{WitnessWriterHolds, witness-writer-holds, witness-stored}
 use native.Mathlib.Omega.{arith}
 use Rattle.account_witness_writer.proofs.encode.encode_witness.Goals as goal
 
-passed-1 : (c : goal.After-store_proofs-arg-1) → let a = c.args in witness_writer_fault a.operation a.slots.now a.lengths.now a.bytes.now (length a.out.now) ≡ Passed
+passed-1 : (c : goal.After-store_proofs-arg-1) → let a = c.args in witness_writer_fault a.operation a.slots.now a.lengths.now a.bytes.now (length a.out.now) ≡ Ok tt
 passed-1 c = sym c.check_encode.ensures ∙ c.in-Passed.is
 
-passed-2 : (c : goal.After-slice_known-in-Passed-2-1) → let a = c.args in witness_writer_fault a.operation a.slots.now a.lengths.now a.bytes.now (length a.out.now) ≡ Passed
+passed-2 : (c : goal.After-slice_known-in-Passed-2-1) → let a = c.args in witness_writer_fault a.operation a.slots.now a.lengths.now a.bytes.now (length a.out.now) ≡ Ok tt
 passed-2 c = sym c.check_encode.ensures ∙ c.in-Passed.is
 
 holds-1 : (c : goal.After-store_proofs-arg-1) → let a = c.args in WitnessWriterHolds a.slots.now a.lengths.now a.bytes.now (length a.out.now)

@@ -1,16 +1,16 @@
 -- `authorization::digest::authorization_digest` meets its contract, by what the check finds. Assumes nothing.
+use Rattle.std.specs.Prelude.{Ok}
 use mathlib.Core.Path.{◌≡◌, sym, ◌∙◌}
 use mathlib.Core.List.{List}
 use Prim.Native.Nat.{ℕ}
 use Rattle.protocol.specs.Policy.{operation_rows}
 use Rattle.protocol.specs.Rows.{decide}
-use Rattle.protocol.specs.declared.check.Check.TheVariants.{Passed}
 use Rattle.authorization.specs.declared.digest.AuthorizationDigest.{AuthorizationDigest}
 use Rattle.authorization.specs.Digest.{digest_answer, authorization_of}
 use Rattle.authorization.proofs.digest.authorization_digest.Goals as goal
 
 -- equal but for how the digest is written
-same-digest : {a b : List ℕ} → a ≡ b → ◌≡◌ {A = AuthorizationDigest} (record { found = Passed; digest = a }) (record { found = Passed; digest = b })
+same-digest : {a b : List ℕ} → a ≡ b → ◌≡◌ {A = AuthorizationDigest} (record { found = (Ok tt); digest = a }) (record { found = (Ok tt); digest = b })
 same-digest e = rw e
 
 pub returns-in-Failed : goal.returns-in-Failed

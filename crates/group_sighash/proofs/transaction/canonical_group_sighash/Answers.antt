@@ -1,14 +1,14 @@
 -- `group_sighash::transaction::canonical_group_sighash` meets its contract, by what the check finds. Assumes nothing.
+use Rattle.std.specs.Prelude.{Ok}
 use mathlib.Core.Path.{◌≡◌, sym, ◌∙◌}
 use mathlib.Core.List.{List}
 use Prim.Native.Nat.{ℕ}
-use Rattle.protocol.specs.declared.check.Check.TheVariants.{Passed}
 use Rattle.group_sighash.specs.declared.transaction.Sighash.{Sighash}
 use Rattle.group_sighash.specs.GroupSighash.{sighash_found, group_sighash, group_answer}
 use Rattle.group_sighash.proofs.transaction.canonical_group_sighash.Goals as goal
 
 -- equal but for how the hash is written
-same-hash : {a b : List ℕ} → a ≡ b → ◌≡◌ {A = Sighash} (record { found = Passed; hash = a }) (record { found = Passed; hash = b })
+same-hash : {a b : List ℕ} → a ≡ b → ◌≡◌ {A = Sighash} (record { found = (Ok tt); hash = a }) (record { found = (Ok tt); hash = b })
 same-hash e = rw e
 
 pub check_hashed-requires : goal.check_hashed-requires

@@ -3,8 +3,7 @@ use mathlib.Core.Path.{◌≡◌, sym, ap, ◌∙◌}
 use mathlib.Core.List.{List, ◌++◌}
 use Prim.Native.Nat.{ℕ}
 use Rattle.octets.specs.Places.{bytes_at}
-use Rattle.protocol.specs.Rows.{decide}
-use Rattle.protocol.specs.declared.check.Check.{Check}
+use Rattle.protocol.specs.Rows.{decide, Check}
 use Rattle.protocol.proofs.AllPass.{decide-append, decide-then, decide-where}
 use Rattle.group_sighash.specs.Witnesses.{first_witness_rows, count_rows, lock_in}
 use Rattle.molecule.specs.Bytes.{witness_lock_rows, witness_lock_place}

@@ -1,7 +1,7 @@
 -- `molecule::bytes::check_script_args` meets its contract: one list of rows after another. Assumes nothing.
+use Rattle.std.specs.Prelude.{Ok}
 use mathlib.Core.Path.{sym, ◌∙◌}
 use Rattle.protocol.specs.Rows.{decide}
-use Rattle.protocol.specs.declared.check.Check.TheVariants.{Passed}
 use Rattle.protocol.proofs.AllPass.{decide-append, decide-then}
 use Rattle.molecule.specs.Table3.{table_rows}
 use Rattle.molecule.specs.Bytes.{script_args_rows, bytes_rows}
@@ -16,4 +16,4 @@ returns c =
       c.third_field.ensures,
       c.check_table.ensures,
     )
-    (sym (decide-append Passed (table_rows _ _) (bytes_rows _ _) ∙ decide-then (decide Passed (table_rows _ _)) (bytes_rows _ _)))
+    (sym (decide-append (Ok tt) (table_rows _ _) (bytes_rows _ _) ∙ decide-then (decide (Ok tt) (table_rows _ _)) (bytes_rows _ _)))

@@ -1,12 +1,11 @@
 -- `proof_walk::request::make_request` meets its contract, by what its checks find. Assumes nothing.
+use Rattle.std.specs.Prelude.{Err, Ok}
 use mathlib.Core.Path.{◌≡◌, refl, sym, ap, ◌∙◌}
 use Prim.Native.Nat.{ℕ}
 use native.Mathlib.Omega.{arith}
 use lib.ListN.{length}
 use Rattle.protocol.specs.Rows.{decide}
 use Rattle.protocol.specs.declared.error.ProtocolError.{ProtocolError}
-use Rattle.protocol.specs.declared.check.Check.TheVariants.{Passed}
-use Rattle.protocol.specs.declared.check.WriteAnswer.TheVariants.{Written, Refused}
 use Rattle.account_state.specs.Reading.{entry_of}
 use Rattle.verifier_request.specs.Reading.{request_bytes}
 use Rattle.decision.specs.Proofs.{proof_rows, request_content}
@@ -18,10 +17,10 @@ use borrow.Author.Rules.{rules}
 use Rattle.proof_walk.proofs.request.make_request.Goals as goal
 
 -- a writer that has written did not refuse, and has one length
-refused-written : {A : Type 0} {e : ProtocolError} {n : ℕ} → Refused e ≡ Written n → A
+refused-written : {A : Type 0} {e : ProtocolError} {n : ℕ} → Err e ≡ Ok n → A
 refused-written h = absurd (let z : ◌≡◌ {A = ℕ} 0 1 = cc in omega arith)
 
-written-length : {m n : ℕ} → Written m ≡ Written n → m ≡ n
+written-length : {m n : ℕ} → Ok m ≡ Ok n → m ≡ n
 written-length h = cc
 
 -- the digest is an array of 32 bytes
@@ -35,41 +34,41 @@ digest-long-2 c = search rules
 checked-1 : (c : goal.In-Failed) →
     let a = c.args in
     c.check_found.result
-    ≡ decide Passed (proof_rows (walk_context a.table.now a.store.now a.state.now a.authorization.operation a.authorization.digest (length a.out.now)) 0 (proof_with a.slot a.proof.now))
+    ≡ decide (Ok tt) (proof_rows (walk_context a.table.now a.store.now a.state.now a.authorization.operation a.authorization.digest (length a.out.now)) 0 (proof_with a.slot a.proof.now))
 checked-1 c =
     let a = c.args in
     let f = c.find_authenticator-place in
     (rw (c.is_known-known.ensures, c.entry_in-entry.ensures) at c.check_found.ensures)
-    ∙ ap (decide Passed) (found_rows_lem a.table.now a.store.now a.state.now a.authorization.operation a.authorization.digest (length a.out.now) a.slot a.proof.now f.result f.ensures)
+    ∙ ap (decide (Ok tt)) (found_rows_lem a.table.now a.store.now a.state.now a.authorization.operation a.authorization.digest (length a.out.now) a.slot a.proof.now f.result f.ensures)
 
 checked-2 : (c : goal.After-weight_of) →
     let a = c.args in
     c.check_found.result
-    ≡ decide Passed (proof_rows (walk_context a.table.now a.store.now a.state.now a.authorization.operation a.authorization.digest (length a.out.now)) 0 (proof_with a.slot a.proof.now))
+    ≡ decide (Ok tt) (proof_rows (walk_context a.table.now a.store.now a.state.now a.authorization.operation a.authorization.digest (length a.out.now)) 0 (proof_with a.slot a.proof.now))
 checked-2 c =
     let a = c.args in
     let f = c.find_authenticator-place in
     (rw (c.is_known-known.ensures, c.entry_in-entry.ensures) at c.check_found.ensures)
-    ∙ ap (decide Passed) (found_rows_lem a.table.now a.store.now a.state.now a.authorization.operation a.authorization.digest (length a.out.now) a.slot a.proof.now f.result f.ensures)
+    ∙ ap (decide (Ok tt)) (found_rows_lem a.table.now a.store.now a.state.now a.authorization.operation a.authorization.digest (length a.out.now) a.slot a.proof.now f.result f.ensures)
 
 -- where they find nothing every row passes, by the entry that was found
 rows-1 : (c : goal.In-Refused) →
     let a = c.args in
-    decide Passed (found_rows c.is_known-known.result a.authorization.operation (scene_deps a.table.now a.store.now) (entry_of c.entry_in-entry.result.now) (length a.proof.now) (length a.out.now))
-    ≡ Passed
+    decide (Ok tt) (found_rows c.is_known-known.result a.authorization.operation (scene_deps a.table.now a.store.now) (entry_of c.entry_in-entry.result.now) (length a.proof.now) (length a.out.now))
+    ≡ Ok tt
 rows-1 c = sym c.check_found.ensures ∙ c.in-Passed.is
 
 rows-2 : (c : goal.After-weight_of) →
     let a = c.args in
-    decide Passed (found_rows c.is_known-known.result a.authorization.operation (scene_deps a.table.now a.store.now) (entry_of c.entry_in-entry.result.now) (length a.proof.now) (length a.out.now))
-    ≡ Passed
+    decide (Ok tt) (found_rows c.is_known-known.result a.authorization.operation (scene_deps a.table.now a.store.now) (entry_of c.entry_in-entry.result.now) (length a.proof.now) (length a.out.now))
+    ≡ Ok tt
 rows-2 c = sym c.check_found.ensures ∙ c.in-Passed.is
 
 -- and the writer answers the request's length
 wrote-1 : (c : goal.In-Refused) →
     let a = c.args in
     c.encode_request.result
-    ≡ Written (length (request_bytes (request_content a.authorization.operation a.authorization.digest (entry_of c.entry_in-entry.result.now) (proof_with a.slot a.proof.now))))
+    ≡ Ok (length (request_bytes (request_content a.authorization.operation a.authorization.digest (entry_of c.entry_in-entry.result.now) (proof_with a.slot a.proof.now))))
 wrote-1 c =
     let a = c.args in
     c.encode_request.ensures.value
@@ -78,7 +77,7 @@ wrote-1 c =
 wrote-2 : (c : goal.After-weight_of) →
     let a = c.args in
     c.encode_request.result
-    ≡ Written (length (request_bytes (request_content a.authorization.operation a.authorization.digest (entry_of c.entry_in-entry.result.now) (proof_with a.slot a.proof.now))))
+    ≡ Ok (length (request_bytes (request_content a.authorization.operation a.authorization.digest (entry_of c.entry_in-entry.result.now) (proof_with a.slot a.proof.now))))
 wrote-2 c =
     let a = c.args in
     c.encode_request.ensures.value

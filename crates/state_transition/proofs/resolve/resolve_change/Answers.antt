@@ -1,9 +1,8 @@
 -- `state_transition::resolve::resolve_change` meets its contract. Assumes nothing.
 use Prim.Native.Nat.{ℕ}
-use Rattle.protocol.specs.declared.check.Check.{Check}
 use Rattle.state_transition.specs.declared.resolve.ResolvedState.{ResolvedState}
 use mathlib.Core.Path.{sym, ap}
-use Rattle.protocol.specs.Rows.{decide}
+use Rattle.protocol.specs.Rows.{decide, Check}
 use Rattle.protocol.proofs.AllPass.{decide-then}
 use Rattle.state_transition.specs.Resolve.{change_rows, type_rows, state_indices, state_index, state_cell}
 use Rattle.state_transition.specs.Branches.{change_of}

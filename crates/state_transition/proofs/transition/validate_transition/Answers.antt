@@ -1,7 +1,7 @@
 -- `state_transition::transition::validate_transition` meets its contract. Assumes nothing.
+use Rattle.std.specs.Prelude.{Ok}
 use mathlib.Core.Path.{sym, ◌∙◌}
 use Rattle.protocol.proofs.AllPass.{decide-append, decide-then}
-use Rattle.protocol.specs.declared.check.Check.TheVariants.{Passed}
 use borrow.Author.Tests.{eq-eqb, ne_eqb}
 use mathlib.Core.List.{append-nil}
 use Rattle.state_transition.specs.Transition.{transition_rows, current_rows, succession_rows}
@@ -13,4 +13,4 @@ returns-then-operation-eq-OP_SPEND c = rw (eq-eqb _ 1 c.if-operation-eq-OP_SPEND
 
 pub returns-else-operation-eq-OP_SPEND : goal.returns-else-operation-eq-OP_SPEND
 unfolding transition_rows
-returns-else-operation-eq-OP_SPEND c = rw (ne_eqb _ 1 c.if-operation-eq-OP_SPEND.false, c.and.ensures, c.check_change.ensures, c.check_current-check.ensures) (sym (decide-append Passed (current_rows _ _) _ ∙ decide-then _ (succession_rows _ _ _ _)))
+returns-else-operation-eq-OP_SPEND c = rw (ne_eqb _ 1 c.if-operation-eq-OP_SPEND.false, c.and.ensures, c.check_change.ensures, c.check_current-check.ensures) (sym (decide-append (Ok tt) (current_rows _ _) _ ∙ decide-then _ (succession_rows _ _ _ _)))
