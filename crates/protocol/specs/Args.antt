@@ -27,8 +27,3 @@ args_bytes account = 1 ∷ account
 
 unfoldable pub account_of : List ℕ → List ℕ
 account_of s = take 32 (drop 1 s)
-
--- document 01's number of the answer
-abbrev pub args_number : Result AccountLockArgs ProtocolError → ℕ
-args_number (Ok a) = 0
-args_number (Err e) = error_number e

@@ -23,11 +23,6 @@ unfoldable pub capability_for : ℕ → Result ℕ ProtocolError
 capability_for o =
     cond (eqb o 1) (Ok 1) (cond (eqb o 2) (Ok 2) (cond (eqb o 3) (Ok 4) (Err InvalidOperation)))
 
--- document 01's number of the answer
-abbrev pub capability_number : Result ℕ ProtocolError → ℕ
-capability_number (Ok bit) = 0
-capability_number (Err e) = error_number e
-
 -- the capabilities have this bit; 0 is no bit
 unfoldable pub has_capability : ℕ → ℕ → Bool
 has_capability capabilities bit = eqb (capabilities / bit % 2) 1

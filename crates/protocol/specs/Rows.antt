@@ -42,7 +42,7 @@ abbrev pub FirstFailed : List Row → ProtocolError → Type 0
 FirstFailed [] e = ⊥
 FirstFailed (r ∷ rs) e = ((r.test ≡ false) × (r.error ≡ e)) ⊎ ((r.test ≡ true) × FirstFailed rs e)
 
--- document 01's number of what the checks found, 0 where all passed
-abbrev pub check_number : Check → ℕ
+-- document 01's number of an answer: that of its refusal, 0 where there is none
+abbrev pub check_number : {A : Type 0} → Result A ProtocolError → ℕ
 check_number (Ok _) = 0
 check_number (Err e) = error_number e

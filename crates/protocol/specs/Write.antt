@@ -18,8 +18,3 @@ write_answer (Err e) total = Err e
 unfoldable pub after_write : Check → List ℕ → List ℕ → List ℕ
 after_write (Ok _) bytes out = bytes ++ drop (length bytes) out
 after_write (Err e) bytes out = out
-
--- document 01's number of a writer's answer
-abbrev pub write_number : Result ℕ ProtocolError → ℕ
-write_number (Ok n) = 0
-write_number (Err e) = error_number e

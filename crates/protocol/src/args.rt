@@ -23,6 +23,7 @@ fn args_version_of(args: &[u8]) -> u8
 }
 
 // The account id, as far as the args have it.
+#[tactic(auto, unfolding(crate::specs::Args::account_of))]
 pub fn account_of(args: &[u8]) -> &[u8]
     ensures { result.now ≡ account_of args.now }
 {

@@ -12,12 +12,12 @@ pub fn require(ok: bool, error: ProtocolError) -> Result<(), ProtocolError>
     if ok { Ok(()) } else { Err(error) }
 }
 
-// Document 01's number of what was found, 0 where all passed.
-pub fn check_number(found: Result<(), ProtocolError>) -> u8
-    ensures { result ≡ check_number found }
+// Document 01's number of an answer: that of its refusal, 0 where there is none.
+pub fn check_number<T: Drop>(answer: Result<T, ProtocolError>) -> u8
+    ensures { result ≡ check_number answer }
 {
-    match found {
+    match answer {
         Err(error) => error_number(error),
-        Ok(()) => 0,
+        Ok(_) => 0,
     }
 }

@@ -9,20 +9,18 @@ use crate::constants::{
 use crate::error::ProtocolError;
 
 // Whether the lock knows the algorithm of an entry.
+#[tactic(auto, unfolding(crate::specs::Policy::is_supported_algorithm))]
 pub fn is_supported_algorithm(algorithm: u16) -> bool
     ensures { result ≡ is_supported_algorithm algorithm }
 {
-    match algorithm {
-        ALG_P256_WEBAUTHN => true,
-        ALG_MLDSA44 => true,
-        ALG_MLDSA65 => true,
-        ALG_MLDSA87 => true,
-        ALG_SLHDSA => true,
-        _ => false,
-    }
+    matches!(
+        algorithm,
+        ALG_P256_WEBAUTHN | ALG_MLDSA44 | ALG_MLDSA65 | ALG_MLDSA87 | ALG_SLHDSA
+    )
 }
 
 // The capability that a proof of this operation needs.
+#[tactic(auto, unfolding(crate::specs::Policy::capability_for))]
 pub fn capability_for_operation(operation: u8) -> Result<u16, ProtocolError>
     ensures { result ≡ capability_for operation }
 {
@@ -35,13 +33,9 @@ pub fn capability_for_operation(operation: u8) -> Result<u16, ProtocolError>
 }
 
 // Whether the number names an operation.
+#[tactic(auto, unfolding(crate::specs::Policy::is_operation))]
 pub fn is_operation(operation: u8) -> bool
     ensures { result ≡ is_operation operation }
 {
-    match operation {
-        OP_SPEND => true,
-        OP_ROTATE => true,
-        OP_RECOVERY => true,
-        _ => false,
-    }
+    matches!(operation, OP_SPEND | OP_ROTATE | OP_RECOVERY)
 }
