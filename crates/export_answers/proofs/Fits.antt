@@ -26,8 +26,8 @@ pub part-refused : (number : ℕ) → (number ≡ 0 → ⊥) → (bytes out : Li
 unfolding stored_number stored_after stored_length
 part-refused number h bytes out len = let e = ne_eqb number 0 h in ((rw e, rw (e, e)), rw (e, e))
 
-pub bytes-refused : (e : ProtocolError) (bytes out : List ℕ) → StoresBytes (error_number e) bytes out (error_number e) out
-bytes-refused e bytes out = (part-refused (error_number e) (not-0 e) bytes out 0).0
+pub bytes_refused : (e : ProtocolError) (bytes out : List ℕ) → StoresBytes (error_number e) bytes out (error_number e) out
+bytes_refused e bytes out = (part-refused (error_number e) (not-0 e) bytes out 0).0
 
 -- the length by the number r that is returned
 module _ (number : ℕ) (bytes : List ℕ) (room len r : ℕ) (e : r ≡ stored_number number bytes room) where

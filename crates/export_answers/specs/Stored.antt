@@ -1,10 +1,10 @@
 -- What exported functions answer and store. A reader, a hash or a part: its number, and its bytes at the front of the buffer,
 -- with their length where it is asked for. A writer: its number, and the length that it wrote.
-use Rattle.std.specs.Prelude.{ℕ, cond, List, ◌≡◌, eqb, leb, length, Err, Ok, Result}
+use Rattle.std.specs.Prelude.{ℕ, cond, List, [], ◌≡◌, eqb, leb, length, Err, Ok, Result}
 use Rattle.protocol.specs.declared.error.ProtocolError.{ProtocolError}
 use Rattle.std.proofs.lemmas.List.Edits.{sets}
 use Rattle.protocol.specs.Errors.{error_number}
-use Rattle.protocol.specs.Write.{write_number}
+use Rattle.protocol.specs.Rows.{check_number}
 use Rattle.protocol.specs.declared.error.ProtocolError.TheVariants.{BufferTooShort}
 
 -- 01, of writers: "then with 5 if the buffer is short; a refused writer writes nothing". So it is of all that is stored: its
@@ -30,6 +30,14 @@ abbrev pub StoresBytes : ℕ → List ℕ → List ℕ → ℕ → List ℕ → 
 StoresBytes number bytes out r after =
     (r ≡ stored_number number bytes (length out)) × (after ≡ stored_after number bytes out)
 
+-- of one that stores a hash, of which a refusal has none
+unfoldable pub hash_bytes : Result (List ℕ) ProtocolError → List ℕ
+hash_bytes (Ok hash) = hash
+hash_bytes (Err e) = []
+
+abbrev pub StoresHash : Result (List ℕ) ProtocolError → List ℕ → ℕ → List ℕ → Type 0
+StoresHash answer out r after = StoresBytes (check_number answer) (hash_bytes answer) out r after
+
 -- of one that stores their length too, in `len`
 abbrev pub StoresPart : ℕ → List ℕ → List ℕ → ℕ → ℕ → List ℕ → ℕ → Type 0
 StoresPart number bytes out len r after len_after =
@@ -38,4 +46,4 @@ StoresPart number bytes out len r after len_after =
 -- of one that calls a writer, which leaves the buffer so
 abbrev pub Writes : Result ℕ ProtocolError → List ℕ → ℕ → ℕ → List ℕ → ℕ → Type 0
 Writes answer stored len r after len_after =
-    (r ≡ write_number answer) × (after ≡ stored) × (len_after ≡ length_after answer len)
+    (r ≡ check_number answer) × (after ≡ stored) × (len_after ≡ length_after answer len)

@@ -1,13 +1,14 @@
 // The answer of a writer.
 ghost use Rattle.std.specs.Prelude.{◌≡◌};
-ghost use Rattle.protocol.specs.Write.{write_number};
+ghost use Rattle.protocol.specs.Rows.{check_number};
 ghost use Rattle.export_answers.specs.Stored.{length_after};
 
-use protocol::error_number;
+use protocol::{ProtocolError, error_number};
 
 // A writer's number; the length that it wrote goes to `len`.
+#[tactic(auto, unfolding(crate::specs::Stored::length_after))]
 pub fn written(answer: Result<usize, ProtocolError>, len: &mut usize) -> u32
-    ensures value { result ≡ write_number answer }
+    ensures value { result ≡ check_number answer }
     ensures len_after { len.new ≡ length_after answer len.old }
 {
     match answer {

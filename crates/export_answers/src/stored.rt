@@ -1,7 +1,6 @@
 // Bytes stored at the front of a buffer.
 ghost use Rattle.std.specs.Prelude.{◌≡◌};
-ghost use Rattle.protocol.specs.Rows.{check_number};
-ghost use Rattle.export_answers.specs.Stored.{StoresBytes, StoresPart};
+ghost use Rattle.export_answers.specs.Stored.{StoresBytes, StoresHash, StoresPart};
 
 use octets::store_bytes;
 use protocol::{ProtocolError, error_number};
@@ -24,13 +23,14 @@ fn store_front(bytes: &[u8], out: &mut [u8]) -> u32
     }
 }
 
-// The number of what was found; where all passed the hash is stored, or 5.
-pub fn store_hash(found: Result<(), ProtocolError>, hash: [u8; 32], out: &mut [u8]) -> u32
-    ensures { StoresBytes (check_number found) hash out.old result out.new }
+// A refusal's number; else the hash is stored, or 5.
+#[tactic(auto, unfolding(crate::specs::Stored::hash_bytes))]
+pub fn store_hash(answer: Result<[u8; 32], ProtocolError>, out: &mut [u8]) -> u32
+    ensures { StoresHash answer out.old result out.new }
 {
-    match found {
+    match answer {
         Err(error) => error_number(error) as u32,
-        Ok(()) => store_front(&hash, out),
+        Ok(hash) => store_front(&hash, out),
     }
 }
 

@@ -11,10 +11,8 @@ use octets::store_number;
 fn store_each(words: &[u64], out: &mut [u8])
     ensures { out.new ≡ sets out.old 0 (word_bytes words.now) }
 {
-    let mut i: usize = 0;
-    while i < words.len() {
-        store_number(out, 8 * i, 8, words[i]);
-        i += 1;
+    for (i, &word) in words.iter().enumerate() {
+        store_number(out, 8 * i, 8, word);
     }
 }
 
