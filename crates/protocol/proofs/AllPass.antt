@@ -102,3 +102,6 @@ unfolding decide ◌▷◌
 first-failed [] e f = absurd f
 first-failed (r ∷ rs) e (inl f) = rw (f.0, f.1) (decide-failed rs e)
 first-failed (r ∷ rs) e (inr p) = rw p.0 (first-failed rs e p.1)
+
+-- what a function that tests lists of rows one behind another finds, for the check's own search
+pub ruleset deciding = (decide-both, decide-failed)
