@@ -10,15 +10,16 @@ use lib.ListN.{length, take, drop, length-append, length-take, length-drop, take
 use lib.Seq.{sets, take_at, drop-drop}
 use Rattle.octets.specs.Layout.{Field, layout_bytes}
 use Rattle.octets.proofs.LeLaws.{length_to}
-use Rattle.octets.proofs.Stores.{sets-append}
+use Rattle.octets.proofs.Stores.{sets-append, sets-front}
 use Rattle.octets.proofs.LayoutLaws.{length-numbers}
 use Rattle.protocol.specs.Rows.{row, ◌▷◌, decide, AllPass, Check}
-use Rattle.protocol.specs.Write.{write_fault}
+use Rattle.protocol.specs.Write.{write_fault, write_answer, after_write}
 use Rattle.protocol.specs.declared.error.ProtocolError.TheVariants.{BufferTooShort, InvalidWitness}
 use Rattle.protocol.proofs.AllPass.{passed-all-pass, decide-append}
+use Rattle.protocol.proofs.Back.{write-passed}
 use Rattle.molecule.specs.Molecule.{bytes_vector, table_bytes}
 use Rattle.molecule.specs.Table3.{table_rows, between, field2, field3, second_offset_of, third_offset_of}
-use Rattle.molecule.specs.Canonical.{canonical_of, canonical_room, canonical_head}
+use Rattle.molecule.specs.Canonical.{canonical_of, canonical_room, canonical_written, canonical_stored, canonical_head}
 use Rattle.molecule.proofs.Form.{three-layout, TablePasses, table-passes}
 
 -- a table whose first field is an empty vector
@@ -44,12 +45,12 @@ module _ (s : List ℕ) where
   unfolding canonical_of
   canonical-form = canonical-layout (field2 s) (field3 s)
 
-  pub canonical-first : take 20 (canonical_of s) ≡ layout_bytes Front
-  canonical-first = rw canonical-form (take_at (layout_bytes Front) (field2 s ++ field3 s) 20 length_front)
+  pub canonical_first : take 20 (canonical_of s) ≡ layout_bytes Front
+  canonical_first = rw canonical-form (take_at (layout_bytes Front) (field2 s ++ field3 s) 20 length_front)
 
   -- the first 20 bytes, and fields 2 and 3, are the canonical witness
   pub canonical-whole : take 20 (canonical_of s) ++ (field2 s ++ field3 s) ≡ canonical_of s
-  canonical-whole = ap (λ (l : List ℕ). l ++ (field2 s ++ field3 s)) canonical-first ∙ sym canonical-form
+  canonical-whole = ap (λ (l : List ℕ). l ++ (field2 s ++ field3 s)) canonical_first ∙ sym canonical-form
 
   pub length-canonical : length (canonical_of s) ≡ 20 + length (field2 s) + length (field3 s)
   length-canonical =
@@ -89,7 +90,7 @@ module _ (s : List ℕ) (z : TablePasses s) where
   -- stored one behind the other
   pub parts-stored : (out : List ℕ) → sets (sets out 0 (take 20 (canonical_of s))) 20 (drop (second_offset_of s) s) ≡ sets out 0 (canonical_of s)
   parts-stored out =
-      let n : length (take 20 (canonical_of s)) ≡ 20 = ap length (canonical-first s) ∙ length_front s in
+      let n : length (take 20 (canonical_of s)) ≡ 20 = ap length (canonical_first s) ∙ length_front s in
       sets-append out 0 (take 20 (canonical_of s)) (drop (second_offset_of s) s) 20 (omega arith)
       ∙ ap (sets out 0) whole
     where
@@ -99,14 +100,31 @@ module _ (s : List ℕ) (z : TablePasses s) where
 -- the room for the parts is the room for the whole
 module _ (s : List ℕ) (room : ℕ) where
   room_by : (k : Check) → decide (Ok tt) (table_rows InvalidWitness s) ≡ k
-      → decide (Ok tt) (table_rows InvalidWitness s) ▷ row (leb (20 + length (drop (second_offset_of s) s)) room) BufferTooShort ≡ canonical_room s room
-  unfolding canonical_room write_fault decide ◌▷◌
+      → canonical_room s room ≡ decide (Ok tt) (table_rows InvalidWitness s) ▷ row (leb (20 + length (drop (second_offset_of s) s)) room) BufferTooShort
+  unfolding canonical_room write_fault decide
   room_by (Ok _) h =
       let p : AllPass (table_rows InvalidWitness s) = passed-all-pass (table_rows InvalidWitness s) h in
       rw (← length-from-second s (table-passes InvalidWitness s p))
-      (sym (decide-append (Ok tt) (table_rows InvalidWitness s) (row (leb (length (canonical_of s)) room) BufferTooShort ∷ [])))
+      (decide-append (Ok tt) (table_rows InvalidWitness s) (row (leb (length (canonical_of s)) room) BufferTooShort ∷ []))
   room_by (Err e) h =
-      rw h (sym (decide-append (Ok tt) (table_rows InvalidWitness s) (row (leb (length (canonical_of s)) room) BufferTooShort ∷ []) ∙ rw h))
+      rw h (decide-append (Ok tt) (table_rows InvalidWitness s) (row (leb (length (canonical_of s)) room) BufferTooShort ∷ []) ∙ rw h)
 
-  pub room-found : decide (Ok tt) (table_rows InvalidWitness s) ▷ row (leb (20 + length (drop (second_offset_of s) s)) room) BufferTooShort ≡ canonical_room s room
-  room-found = room_by (decide (Ok tt) (table_rows InvalidWitness s)) refl
+  pub room_found : canonical_room s room ≡ decide (Ok tt) (table_rows InvalidWitness s) ▷ row (leb (20 + length (drop (second_offset_of s) s)) room) BufferTooShort
+  room_found = room_by (decide (Ok tt) (table_rows InvalidWitness s)) refl
+
+-- with a table that passes, and room, the parts stored one behind the other are the whole
+module _ (s out : List ℕ) (found : canonical_room s (length out) ≡ Ok tt) where
+  Passes : AllPass (table_rows InvalidWitness s) × (length (canonical_of s) ≤ length out)
+  unfolding canonical_room
+  Passes = write-passed (table_rows InvalidWitness s) (length (canonical_of s)) (length out) found
+
+  abbrev Table : TablePasses s
+  Table = table-passes InvalidWitness s Passes.0
+
+  pub size_written : canonical_written s out ≡ Ok (20 + length (drop (second_offset_of s) s))
+  unfolding canonical_written write_answer
+  size_written = rw found (ap Ok (length-from-second s Table))
+
+  pub parts_written : canonical_stored s out ≡ sets (sets out 0 (take 20 (canonical_of s))) 20 (drop (second_offset_of s) s)
+  unfolding canonical_stored after_write
+  parts_written = rw found (sym (sets-front out (canonical_of s) Passes.1) ∙ sym (parts-stored s Table out))

@@ -2,7 +2,7 @@
 ghost use Rattle.std.specs.Prelude.{◌≡◌, Ok};
 ghost use Rattle.octets.specs.Places.{bytes_at};
 ghost use Rattle.protocol.specs.Rows.{decide};
-ghost use Rattle.molecule.specs.Bytes.{bytes_rows, bytes_place_from, place_answer, read_bytes};
+ghost use Rattle.molecule.specs.Bytes.{bytes_rows, bytes_place_from, read_bytes};
 ghost use Rattle.molecule.specs.Bytes.{witness_lock_rows, witness_lock_place, read_witness_lock};
 ghost use Rattle.molecule.specs.Bytes.{script_args_rows, script_args_place, read_script_args};
 
@@ -12,6 +12,7 @@ use octets::{Place, part_at};
 use protocol::{ProtocolError, require};
 
 // A length, then exactly so many bytes.
+#[tactic(auto, unfolding(protocol::specs::Rows::decide, crate::specs::Bytes::bytes_rows))]
 fn check_bytes(field: &[u8], error: ProtocolError) -> Result<(), ProtocolError>
     ensures { result ≡ decide (Ok tt) (bytes_rows error field.now) }
 {
@@ -20,6 +21,7 @@ fn check_bytes(field: &[u8], error: ProtocolError) -> Result<(), ProtocolError>
 }
 
 // The place of the bytes of a field that begins at `at`.
+#[tactic(auto, unfolding(crate::specs::Bytes::bytes_place_from))]
 fn place_of(at: u32, field: &[u8]) -> Place
     ensures { result ≡ bytes_place_from at field.now }
 {
@@ -29,29 +31,22 @@ fn place_of(at: u32, field: &[u8]) -> Place
     }
 }
 
-fn place_answer(found: Result<(), ProtocolError>, place: Place) -> Result<Place, ProtocolError>
-    ensures { result ≡ place_answer found place }
-{
-    found?;
-    Ok(place)
-}
-
 // The place of the bytes in a field.
+#[tactic(auto, unfolding(crate::specs::Bytes::read_bytes, crate::specs::Bytes::place_answer))]
 pub fn molecule_bytes(field: &[u8]) -> Result<Place, ProtocolError>
     ensures { result ≡ read_bytes field.now }
 {
-    place_answer(
-        check_bytes(field, ProtocolError::InvalidWitness),
-        place_of(0, field),
-    )
+    check_bytes(field, ProtocolError::InvalidWitness)?;
+    Ok(place_of(0, field))
 }
 
+#[tactic(auto, unfolding(protocol::specs::Rows::decide, crate::specs::Table3::table_rows, crate::specs::Bytes::bytes_rows, crate::specs::Bytes::witness_lock_rows))]
 pub fn check_witness_lock(witness: &[u8]) -> Result<(), ProtocolError>
     ensures { result ≡ decide (Ok tt) (witness_lock_rows witness.now) }
 {
     let invalid = ProtocolError::InvalidWitness;
-    let field = first_field(witness);
     check_table(witness, invalid)?;
+    let field = first_field(witness);
     require(1 <= field.len(), invalid)?;
     check_bytes(field, invalid)
 }
@@ -71,12 +66,15 @@ pub fn lock_of(witness: &[u8]) -> &[u8]
 }
 
 // The place in a witness of its lock's bytes.
+#[tactic(auto, unfolding(crate::specs::Bytes::read_witness_lock, crate::specs::Bytes::place_answer))]
 pub fn witness_lock(witness: &[u8]) -> Result<Place, ProtocolError>
     ensures { result ≡ read_witness_lock witness.now }
 {
-    place_answer(check_witness_lock(witness), witness_lock_place(witness))
+    check_witness_lock(witness)?;
+    Ok(witness_lock_place(witness))
 }
 
+#[tactic(auto, unfolding(protocol::specs::Rows::decide, crate::specs::Table3::table_rows, crate::specs::Bytes::bytes_rows, crate::specs::Bytes::script_args_rows))]
 pub fn check_script_args(script: &[u8]) -> Result<(), ProtocolError>
     ensures { result ≡ decide (Ok tt) (script_args_rows script.now) }
 {
@@ -100,8 +98,10 @@ pub fn args_of(script: &[u8]) -> &[u8]
 }
 
 // The place in a script of its args' bytes.
+#[tactic(auto, unfolding(crate::specs::Bytes::read_script_args, crate::specs::Bytes::place_answer))]
 pub fn script_args(script: &[u8]) -> Result<Place, ProtocolError>
     ensures { result ≡ read_script_args script.now }
 {
-    place_answer(check_script_args(script), script_args_place(script))
+    check_script_args(script)?;
+    Ok(script_args_place(script))
 }

@@ -22,6 +22,7 @@ fn head_bytes(total: u64, third: u64) -> [u8; 20]
 }
 
 // The canonical witness's first 20 bytes; fields 2 and 3 follow them.
+#[tactic(auto, using(crate::proofs::CanonicalForm::canonical_first, crate::proofs::CanonicalForm::fields_within))]
 pub fn canonical_head(witness: &[u8]) -> [u8; 20]
     ensures { result ≡ take 20 (canonical_of witness.now) }
 {
@@ -30,17 +31,18 @@ pub fn canonical_head(witness: &[u8]) -> [u8; 20]
 }
 
 // Writes the canonical witness to the front of `out` and answers its length. A refused writer writes nothing.
+#[tactic(auto, using(crate::proofs::CanonicalForm::room_found, crate::proofs::CanonicalForm::size_written, crate::proofs::CanonicalForm::parts_written), unfolding(crate::specs::Canonical::canonical_written, crate::specs::Canonical::canonical_stored, protocol::specs::Write::write_answer, protocol::specs::Write::after_write))]
 pub fn canonical_witness(witness: &[u8], out: &mut [u8]) -> Result<usize, ProtocolError>
     ensures value { result ≡ canonical_written witness.now out.old }
     ensures out_after { out.new ≡ canonical_stored witness.now out.old }
 {
+    check_table(witness, ProtocolError::InvalidWitness)?;
     let copied = rest(witness, second_offset_of(witness) as usize);
-    check_table(witness, ProtocolError::InvalidWitness).require(
+    require(
         fits(out.len(), 20, copied.len()),
         ProtocolError::BufferTooShort,
     )?;
-    let head = canonical_head(witness);
-            store_bytes(out, 0, &head);
-            store_bytes(out, 20, copied);
-            Ok(20 + copied.len())
+    store_bytes(out, 0, &canonical_head(witness));
+    store_bytes(out, 20, copied);
+    Ok(20 + copied.len())
 }

@@ -36,6 +36,7 @@ pub(crate) fn bytes_length_of(field: &[u8]) -> u32
 }
 
 // The bytes from `start` up to `end`.
+#[tactic(auto, unfolding(crate::specs::Table3::between))]
 fn bytes_between(s: &[u8], start: usize, end: usize) -> &[u8]
     ensures { result.now ≡ between s.now start end }
 {
@@ -45,12 +46,14 @@ fn bytes_between(s: &[u8], start: usize, end: usize) -> &[u8]
     part(s, start, end - start)
 }
 
+#[tactic(auto, unfolding(crate::specs::Table3::field1))]
 pub(crate) fn first_field(table: &[u8]) -> &[u8]
     ensures { result.now ≡ field1 table.now }
 {
     bytes_between(table, 16, second_offset_of(table) as usize)
 }
 
+#[tactic(auto, unfolding(crate::specs::Table3::field2))]
 pub fn second_field(table: &[u8]) -> &[u8]
     ensures { result.now ≡ field2 table.now }
 {
@@ -61,6 +64,7 @@ pub fn second_field(table: &[u8]) -> &[u8]
     )
 }
 
+#[tactic(auto, unfolding(crate::specs::Table3::field3))]
 pub fn third_field(table: &[u8]) -> &[u8]
     ensures { result.now ≡ field3 table.now }
 {

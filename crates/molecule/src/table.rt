@@ -1,7 +1,7 @@
 // The loose reader of a table of three fields.
 ghost use Rattle.std.specs.Prelude.{◌≡◌, Ok};
 ghost use Rattle.protocol.specs.Rows.{decide};
-ghost use Rattle.molecule.specs.Table3.{table_rows, table_fields_of, read_table};
+ghost use Rattle.molecule.specs.Table3.{table_rows, read_table};
 
 use crate::fields::{first_offset_of, second_offset_of, table_total_of, third_offset_of};
 use protocol::{ProtocolError, require};
@@ -14,6 +14,7 @@ pub struct TableFields {
     pub third: usize,
 }
 
+#[tactic(auto, unfolding(protocol::specs::Rows::decide, crate::specs::Table3::table_rows))]
 pub fn check_table(table: &[u8], error: ProtocolError) -> Result<(), ProtocolError>
     ensures { result ≡ decide (Ok tt) (table_rows error table.now) }
 {
@@ -27,20 +28,15 @@ pub fn check_table(table: &[u8], error: ProtocolError) -> Result<(), ProtocolErr
     require(third as usize <= table.len(), error)
 }
 
-fn fields_at(table: &[u8]) -> TableFields
-    ensures { result ≡ table_fields_of table.now }
-{
-    TableFields {
-        first: 16,
-        second: second_offset_of(table) as usize,
-        third: third_offset_of(table) as usize,
-    }
-}
-
 // Where the fields of a table begin, or the refusal.
+#[tactic(auto, unfolding(crate::specs::Table3::read_table, crate::specs::Table3::table_answer, crate::specs::Table3::table_fields_of))]
 pub fn table3_fields(table: &[u8]) -> Result<TableFields, ProtocolError>
     ensures { result ≡ read_table table.now }
 {
     check_table(table, ProtocolError::InvalidWitness)?;
-    Ok(fields_at(table))
+    Ok(TableFields {
+        first: 16,
+        second: second_offset_of(table) as usize,
+        third: third_offset_of(table) as usize,
+    })
 }

@@ -1,5 +1,0 @@
--- `molecule::fields::second_offset_of` meets its contract. Assumes nothing.
-use Rattle.molecule.proofs.fields.second_offset_of.Goals as goal
-
-pub returns : goal.returns
-returns c = c.u32_at.ensures
