@@ -1,6 +1,6 @@
 -- The cells of a list, one by one, and a search over them.
 -- Assumes nothing.
-use mathlib.Core.Path.{◌≡◌, refl, sym}
+use mathlib.Core.Path.{◌≡◌, refl, sym, ap}
 use mathlib.Core.Bool.{Bool, true, false, cond, not}
 use lib.Dec.{eqb, leb, ltb}
 use borrow.Author.Tests.{ne_eqb, le-leb, lt-leb, ltb-true, ltb-false}
@@ -54,6 +54,15 @@ module _ (from : Source) (table store : List ℕ) (i : ℕ) where
           → places.cell_in store (cond b (source_places from table i) no_places) ≡ cell_at (cells_of from (scene_in table store)) i
       go true e = sym (cell-there (ltb-true i (cell_count from table) e))
       go false e = sym (cell-missing (ltb-false i (cell_count from table) e))
+
+  -- its data and its type script, one by one
+  pub content_within : bytes_at store (places_within from table i).content ≡ (cell_at (cells_of from (scene_in table store)) i).content
+  unfolding cell_from
+  content_within = ap (λ (c : Cell). c.content) cell-within
+
+  pub type_script_within : bytes_at store (places_within from table i).type_script ≡ (cell_at (cells_of from (scene_in table store)) i).type_script
+  unfolding cell_from
+  type_script_within = ap (λ (c : Cell). c.type_script) cell-within
 
 -- the indices of the cells that have the hash, from cell k on
 unfoldable pub match_from : CellField → List ℕ → List Cell → ℕ → List ℕ

@@ -6,10 +6,12 @@ ghost use Rattle.cell_search.specs.Search.{cells_of, cell_at, cell_hash};
 ghost use Rattle.cell_search.specs.Cells.{cell_count, source_places, places_within};
 
 use octets::{Place, part_at};
-use scene_table::{CellPlaces, dep_cell, dep_count, input_cell, input_count, output_cell, output_count};
+use scene_table::{
+    CellPlaces, dep_cell, dep_count, input_cell, input_count, output_cell, output_count,
+};
 
 // Which list of the transaction.
-#[derive(Clone, Copy)]
+#[derive(Clone, Copy, Debug, PartialEq, Eq)]
 pub enum Source {
     Input,
     Output,
@@ -17,13 +19,14 @@ pub enum Source {
 }
 
 // Which hash of a cell.
-#[derive(Clone, Copy)]
+#[derive(Clone, Copy, Debug, PartialEq, Eq)]
 pub enum CellField {
     TypeHash,
     DataHash,
 }
 
 // How many cells a list has.
+#[tactic(auto, unfolding(crate::specs::Cells::cell_count))]
 pub fn cell_count(table: &[u32], source: Source) -> u32
     ensures { result ≡ cell_count source table.now }
 {
@@ -35,6 +38,7 @@ pub fn cell_count(table: &[u32], source: Source) -> u32
 }
 
 // The places of a cell's fields, by its record.
+#[tactic(auto, unfolding(crate::specs::Cells::source_places))]
 pub fn cell_places(table: &[u32], source: Source, i: u32) -> CellPlaces
     ensures { result ≡ source_places source table.now i }
 {
@@ -46,6 +50,7 @@ pub fn cell_places(table: &[u32], source: Source, i: u32) -> CellPlaces
 }
 
 // A hash of the cell whose record is there.
+#[tactic(auto, unfolding(crate::specs::Search::cell_hash, scene_table::specs::Lent::cell_from))]
 pub(crate) fn cell_hash<'a>(
     table: &[u32],
     store: &'a [u8],
@@ -63,6 +68,7 @@ pub(crate) fn cell_hash<'a>(
 }
 
 // The places of a cell's fields, empty ones where the list has no such cell.
+#[tactic(auto, unfolding(crate::specs::Cells::places_within, crate::specs::Cells::no_places))]
 fn places_within(table: &[u32], source: Source, i: u32) -> CellPlaces
     ensures { result ≡ places_within source table.now i }
 {
@@ -79,6 +85,7 @@ fn places_within(table: &[u32], source: Source, i: u32) -> CellPlaces
 }
 
 // The data of a cell, nothing where the list has no such cell.
+#[tactic(auto, using(crate::proofs::CellLaws::content_within))]
 pub fn cell_content<'a>(table: &[u32], store: &'a [u8], source: Source, i: u32) -> &'a [u8]
     ensures { result.now ≡ (cell_at (cells_of source (scene_in table.now store.now)) i).content }
 {
@@ -87,6 +94,7 @@ pub fn cell_content<'a>(table: &[u32], store: &'a [u8], source: Source, i: u32) 
 }
 
 // The type script of a cell, nothing where it has none or the list has no such cell.
+#[tactic(auto, using(crate::proofs::CellLaws::type_script_within))]
 pub fn cell_type_script<'a>(table: &[u32], store: &'a [u8], source: Source, i: u32) -> &'a [u8]
     ensures { result.now ≡ (cell_at (cells_of source (scene_in table.now store.now)) i).type_script }
 {

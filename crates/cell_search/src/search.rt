@@ -7,7 +7,7 @@ use crate::cells::{CellField, Source, cell_count, cell_hash};
 use octets::same_bytes;
 
 // None, the index of the one, or several.
-#[derive(Clone, Copy)]
+#[derive(Clone, Copy, Debug, PartialEq, Eq)]
 pub enum Search {
     Missing,
     One(u32),
@@ -24,20 +24,14 @@ pub fn search_cells(
 ) -> Search
     ensures { result ≡ cell_search field hash.now (cells_of source (scene_in table.now store.now)) }
 {
-    let count = cell_count(table, source);
     let mut found = Search::Missing;
-    let mut i: u32 = 0;
-    while i < count {
+    for i in 0..cell_count(table, source) {
         if same_bytes(cell_hash(table, store, source, field, i), hash) {
-            match found {
-                Search::Missing => found = Search::One(i),
-                _ => {
-                    found = Search::Several;
-                    break;
-                }
-            }
+            found = match found {
+                Search::Missing => Search::One(i),
+                _ => return Search::Several,
+            };
         }
-        i += 1;
     }
     found
 }
@@ -46,31 +40,19 @@ impl Search {
     pub fn is_missing(self) -> bool
         ensures { result ≡ is_missing self }
     {
-        match self {
-            Search::Missing => true,
-            Search::One(_) => false,
-            Search::Several => false,
-        }
+        matches!(self, Search::Missing)
     }
 
     pub fn is_several(self) -> bool
         ensures { result ≡ is_several self }
     {
-        match self {
-            Search::Missing => false,
-            Search::One(_) => false,
-            Search::Several => true,
-        }
+        matches!(self, Search::Several)
     }
 
     pub fn is_one(self) -> bool
         ensures { result ≡ is_one self }
     {
-        match self {
-            Search::Missing => false,
-            Search::One(_) => true,
-            Search::Several => false,
-        }
+        matches!(self, Search::One(_))
     }
 
     // The index of the one, 0 where there is none or several.
@@ -78,9 +60,8 @@ impl Search {
         ensures { result ≡ index_of self }
     {
         match self {
-            Search::Missing => 0,
             Search::One(index) => index,
-            Search::Several => 0,
+            _ => 0,
         }
     }
 }

@@ -7,33 +7,32 @@ use Rattle.cell_search.proofs.search.search_cells.Goals.{then-same_bytes+in-Miss
 
 pub loop-i-init : goal.loop-i-init
 unfolding cell_search matches match_from places_of
-loop-i-init c = (c.cell_count-count.ensures, refl)
+loop-i-init c = refl
 
 pub loop-i-preserved : goal.loop-i-preserved
 unfolding places_of
 loop-i-preserved c =
     let a = c.args in
     let cells = cells-listed a.source a.table.now a.store.now in
-    let more = rw c.loop-i.invariant.0 at c.loop-i-test.true in (
-      c.loop-i.invariant.0,
-      elim c.if-same_bytes.branch [
-        | then-same_bytes+in-Missing w ↦ c.loop-i.invariant.1 ∙ rw (w.in-Missing.is, w.found-is, match-yes a.field a.hash.now cells c.loop-i.i more (sym (rw c.cell_hash.ensures at c.same_bytes.ensures) ∙ w.if-same_bytes.true))
-        | else-same_bytes w ↦ c.loop-i.invariant.1 ∙ rw (w.found-is, match-no a.field a.hash.now cells c.loop-i.i more (sym (rw c.cell_hash.ensures at c.same_bytes.ensures) ∙ w.if-same_bytes.false))
-      ],
-    )
+    let more = rw c.cell_count-i-end.ensures at c.loop-i-test.true in
+    let here = sym (rw c.cell_hash.ensures at c.same_bytes.ensures) in
+    elim c.if-same_bytes.branch [
+      | then-same_bytes+in-Missing w ↦ c.loop-i.invariant ∙ rw (w.in-Missing.is, w.found-is, match-yes a.field a.hash.now cells c.loop-i.i more (here ∙ w.if-same_bytes.true))
+      | else-same_bytes w ↦ c.loop-i.invariant ∙ rw (w.found-is, match-no a.field a.hash.now cells c.loop-i.i more (here ∙ w.if-same_bytes.false))
+    ]
 
-pub returns-after-loop-i : goal.returns-after-loop-i
-returns-after-loop-i c =
+pub returns : goal.returns
+returns c =
     let a = c.args in
     let cells = cells-listed a.source a.table.now a.store.now in
-    sym (c.loop-i.invariant.1 ∙ rw (match-end a.field a.hash.now cells c.loop-i.i (rw c.loop-i.invariant.0 at c.loop-i-test.false)) (found-places c.loop-i.found))
+    sym (c.loop-i.invariant ∙ rw (match-end a.field a.hash.now cells c.loop-i.i (rw c.cell_count-i-end.ensures at c.loop-i-test.false)) (found-places c.loop-i.found))
 
 pub returns-in_default : goal.returns-in_default
 returns-in_default c =
     let a = c.args in
     let cells = cells-listed a.source a.table.now a.store.now in
-    let more = rw c.loop-i.invariant.0 at c.loop-i-test.true in
+    let more = rw c.cell_count-i-end.ensures at c.loop-i-test.true in
     sym
-    (c.loop-i.invariant.1
+    (c.loop-i.invariant
     ∙ rw (match-yes a.field a.hash.now cells c.loop-i.i more (sym (rw c.cell_hash.ensures at c.same_bytes.ensures) ∙ c.if-same_bytes.true))
     (second-match c.loop-i.found c.loop-i.i _ c.in_default.not-Missing))
