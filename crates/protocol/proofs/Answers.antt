@@ -1,11 +1,13 @@
 -- What a reader's answer says of its checks, for every format: it accepts exactly where every check passes, and refuses
 -- exactly with the first that fails.
 -- Assumes nothing.
-use Rattle.std.specs.Prelude.{Err, Ok}
-use mathlib.Core.Path.{◌≡◌, sym, ap, ◌∙◌}
+use Rattle.std.specs.Prelude.{Err, Ok, Result}
+use mathlib.Core.Path.{◌≡◌, refl, sym, ap, ◌∙◌}
 use mathlib.Core.List.{List}
 use mathlib.Core.Logic.{◌↔◌}
-use Rattle.protocol.specs.Rows.{Row, decide, AllPass, FirstFailed, Check}
+use Prim.Native.Nat.{ℕ}
+use native.Mathlib.Omega.{arith}
+use Rattle.protocol.specs.Rows.{Row, ◌then◌, decide, AllPass, FirstFailed, Check}
 use Rattle.protocol.specs.declared.error.ProtocolError.{ProtocolError}
 use Rattle.protocol.proofs.AllPass.{passed-all-pass, all-pass-passed, failed-first, first-failed}
 
@@ -28,3 +30,31 @@ module _ {A : Type 0} (answer : Check → A) (found : A → Check) (back : (k : 
   -- refused exactly with the first check that fails
   pub answer-refuses : (rs : List Row) (x : ProtocolError) → (answer (decide (Ok tt) rs) ≡ answer (Err x)) ↔ FirstFailed rs x
   answer-refuses rs x = (λ e. failed-first rs x (answer-found _ (Err x) e), λ f. ap answer (first-failed rs x f))
+
+-- the answer that gives a value where the checks passed
+module _ {A : Type 0} (x : A) where
+  -- what they found, by that answer
+  abbrev then_found : Result A ProtocolError → Check
+  then_found (Ok _) = Ok tt
+  then_found (Err e) = Err e
+
+  then_back : (k : Check) → then_found (k then Ok x) ≡ k
+  then_back (Ok _) = refl
+  then_back (Err e) = refl
+
+  -- it gives the value exactly where every check passes
+  pub then-accepts : (rs : List Row) → (decide (Ok tt) rs then Ok x ≡ Ok x) ↔ AllPass rs
+  then-accepts rs = answer-accepts (λ k. k then Ok x) then_found then_back rs
+
+  -- and refuses exactly with the first check that fails
+  pub then-refuses : (rs : List Row) (e : ProtocolError) → (decide (Ok tt) rs then Ok x ≡ Err e) ↔ FirstFailed rs e
+  then-refuses rs e = answer-refuses (λ k. k then Ok x) then_found then_back rs e
+
+  -- a value that it gives is that one, and the checks passed
+  pub then-given : (k : Check) (y : A) → k then Ok x ≡ Ok y → (k ≡ Ok tt) × (x ≡ y)
+  then-given (Ok _) y h = (refl, cc)
+  then-given (Err e) y h = absurd (let z : ◌≡◌ {A = ℕ} 0 1 = cc in omega arith)
+
+  -- its refusal is what they found
+  pub then-refused : (k : Check) (e : ProtocolError) → k then Ok x ≡ Err e → k ≡ Err e
+  then-refused k e h = sym (then_back k) ∙ ap then_found h

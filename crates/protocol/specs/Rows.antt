@@ -23,8 +23,8 @@ abbrev pub ◌▷◌ : Check → Row → Check
 Ok _ ▷ r = cond r.test (Ok tt) (Err r.error)
 Err e ▷ r = Err e
 
--- what later checks find counts where the first ones passed
-abbrev pub ◌then◌ : Check → Check → Check
+-- what later checks find, or an answer, counts where the first ones passed
+abbrev pub ◌then◌ : {A : Type 0} → Check → Result A ProtocolError → Result A ProtocolError
 first then later = result_and first later
 
 -- the first row that fails decides
