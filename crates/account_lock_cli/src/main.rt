@@ -3,44 +3,26 @@
 #![tactic(auto)]
 
 ghost use Rattle.std.specs.Prelude.{◌≡◌, ◌+◌, length};
+ghost use Rattle.std.specs.Io.{ReadsAtMost};
 ghost use Rattle.decide_scene.specs.Decided.{program_scene_max_length};
-ghost use Rattle.account_lock_cli.specs.Within.{Within};
 
 use decide_scene::{PROGRAM_SCENE_MAX_LEN, program_line};
+use std::io;
 use std::io::Read;
 
-// What reading gave: so many bytes, or a read failed.
-#[derive(Drop)]
-enum Input {
-    Read(usize),
-    Failed,
-}
-
-// One read; at the end of the input it gives no bytes.
-fn read_once<R: Read>(reader: &mut R, room: &mut [u8]) -> Input
-    ensures { Within (length room.old) result }
-{
-    match reader.read(room) {
-        Ok(n) => Input::Read(n),
-        Err(_) => Input::Failed,
-    }
-}
-
 // Reads to the end of the input, or as far as there is room.
-fn read_all<R: Read>(reader: &mut R, room: &mut [u8]) -> Input
-    ensures { Within (length room.old) result }
+fn read_all<R: Read>(reader: &mut R, room: &mut [u8]) -> io::Result<usize>
+    ensures { ReadsAtMost result room.new }
 {
     let mut done: usize = 0;
     while done < room.len() {
-        let Input::Read(n) = read_once(reader, &mut room[done..]) else {
-            return Input::Failed;
-        };
+        let n = reader.read(&mut room[done..])?;
         if n == 0 {
             break;
         }
         done += n;
     }
-    Input::Read(done)
+    Ok(done)
 }
 
 // A line that is cut short has no byte 10.
@@ -63,8 +45,8 @@ fn scene_buffer() -> [u8; PROGRAM_SCENE_MAX_LEN + 1]
 fn main(rt: HostRuntime) {
     let mut scene = scene_buffer();
     match read_all(&mut rt.reader(), &mut scene) {
-        Input::Read(n) => print_answer(&rt, &scene[..n]),
-        Input::Failed => {
+        Ok(n) => print_answer(&rt, &scene[..n]),
+        Err(_) => {
             let _ = rt.eprintln("account_lock_cli: standard input cannot be read");
         }
     }

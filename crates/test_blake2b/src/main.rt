@@ -30,10 +30,8 @@ pub(crate) fn print_digest(rt: &impl Print, digest: &[u8]) -> io::Result<()> {
 // Byte i is i % 251.
 fn pattern() -> [u8; 65536] {
     let mut b = [0u8; 65536];
-    let mut i: usize = 0;
-    while i < 65536 {
-        b[i] = (i % 251) as u8;
-        i += 1;
+    for (i, byte) in b.iter_mut().enumerate() {
+        *byte = (i % 251) as u8;
     }
     b
 }
@@ -56,16 +54,9 @@ fn print_whole(rt: &impl Print, data: &[u8]) -> io::Result<()> {
     print_digest(rt, &blake2b::ckb_hash(data))
 }
 
-// The least of the two.
-pub(crate) fn least(a: usize, b: usize) -> usize
-    ensures { result ≡ min a b }
-{
-    if a <= b { a } else { b }
-}
-
 fn print_cut(rt: &impl Print, data: &[u8], at: usize) -> io::Result<()> {
     print!(rt; "ckb {} cut {at} ", data.len())?;
-    print_digest(rt, &two_hash(data, least(at, data.len())))
+    print_digest(rt, &two_hash(data, at.min(data.len())))
 }
 
 fn print_cuts(rt: &impl Print, data: &[u8]) -> io::Result<()> {
@@ -97,7 +88,7 @@ fn print_input(rt: &impl Print, data: &[u8]) -> io::Result<()> {
 
 fn print_lengths(rt: &impl Print, data: &[u8]) -> io::Result<()> {
     for length in LENGTHS {
-        let n = least(length, data.len());
+        let n = length.min(data.len());
         print_input(rt, &data[0..n])?;
     }
     Ok(())

@@ -1,7 +1,7 @@
 // Inputs fed in parts: every split into two feeds and into three, and feeds of one length with an empty feed before each.
 ghost use Rattle.std.specs.Prelude.{◌<◌, ◌≤◌, length};
 
-use super::{least, print_digest};
+use super::print_digest;
 use blake2b::Blake2b;
 use std::io;
 
@@ -11,10 +11,6 @@ const TWO: usize = 400;
 const THREE_FROM: usize = 256;
 
 const THREE: usize = 272;
-
-fn one_if(same: bool) -> u64 {
-    if same { 1 } else { 0 }
-}
 
 // The hash of the data, fed as the bytes before `a`, those from `a` to `b`, and the rest.
 fn three_hash(data: &[u8], a: usize, b: usize) -> [u8; 32]
@@ -33,11 +29,9 @@ fn count_ends(data: &[u8], a: usize, whole: &[u8]) -> u64
     requires { a ≤ length «data».now }
 {
     let mut count: u64 = 0;
-    let mut b = a;
-    while b <= data.len() {
-        let same = octets::same_bytes(&three_hash(data, a, b), whole);
-        count = std::num::wrapping_add_u64(count, one_if(same));
-        b += 1;
+    for b in a..=data.len() {
+        let same = three_hash(data, a, b).as_slice() == whole;
+        count = count.wrapping_add(u64::from(same));
     }
     count
 }
@@ -45,10 +39,8 @@ fn count_ends(data: &[u8], a: usize, whole: &[u8]) -> u64
 // How many splits into three feeds give the hash of the whole.
 fn count_three(data: &[u8], whole: &[u8]) -> u64 {
     let mut count: u64 = 0;
-    let mut a: usize = 0;
-    while a <= data.len() {
-        count = std::num::wrapping_add_u64(count, count_ends(data, a, whole));
-        a += 1;
+    for a in 0..=data.len() {
+        count = count.wrapping_add(count_ends(data, a, whole));
     }
     count
 }
@@ -67,11 +59,9 @@ pub(crate) fn two_hash(data: &[u8], at: usize) -> [u8; 32]
 // How many splits into two feeds give the hash of the whole.
 fn count_two(data: &[u8], whole: &[u8]) -> u64 {
     let mut count: u64 = 0;
-    let mut at: usize = 0;
-    while at <= data.len() {
-        let same = octets::same_bytes(&two_hash(data, at), whole);
-        count = std::num::wrapping_add_u64(count, one_if(same));
-        at += 1;
+    for at in 0..=data.len() {
+        let same = two_hash(data, at).as_slice() == whole;
+        count = count.wrapping_add(u64::from(same));
     }
     count
 }
@@ -110,7 +100,7 @@ fn print_splits_of(rt: &impl Print, data: &[u8]) -> io::Result<()> {
 // The inputs of up to 400 bytes, split into two; those of 256 to 272 into three, too.
 pub(crate) fn print_splits(rt: &impl Print, data: &[u8]) -> io::Result<()> {
     for n in 0..=TWO {
-        let end = least(n, data.len());
+        let end = n.min(data.len());
         print_splits_of(rt, &data[0..end])?;
     }
     Ok(())
@@ -121,11 +111,8 @@ pub(crate) fn steps_hash(data: &[u8], step: usize) -> [u8; 32]
     requires { 0 < step }
 {
     let mut state = Blake2b::new();
-    let mut at: usize = 0;
-    while at < data.len() {
-        let end = at + least(step, data.len() - at);
-        state = state.update(&data[0..0]).update(&data[at..end]);
-        at = end;
+    for feed in data.chunks(step) {
+        state = state.update(b"").update(feed);
     }
-    state.update(&data[at..]).finish().digest()
+    state.update(b"").finish().digest()
 }

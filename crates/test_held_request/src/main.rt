@@ -3,23 +3,12 @@
 
 use held_request::{is_for, request_authorization_digest_of, request_refusal_of};
 use octets::{part, same_bytes};
-use protocol::error_number;
+use protocol::check_number;
 use std::io;
 use verifier_request::encode_verifier_request;
 
 fn print_answer(rt: &impl Print, answer: bool) -> io::Result<()> {
-    if answer {
-        println!(rt; "yes")
-    } else {
-        println!(rt; "no")
-    }
-}
-
-fn write_number(answer: Result<usize, ProtocolError>) -> u8 {
-    match answer {
-        Ok(_) => 0,
-        Err(error) => error_number(error),
-    }
+    println!(rt; "{}", if answer { "yes" } else { "no" })
 }
 
 // What the functions say of a request, and of this digest.
@@ -39,7 +28,7 @@ fn print_written(rt: &impl Print) -> io::Result<()> {
     let key = [0x22u8; 32];
     let mut request = [0u8; 100];
     let written = encode_verifier_request(0x0101, 7, 1, 3, digest, key, b"a", b"bcd", &mut request);
-    println!(rt; "written {}", write_number(written))?;
+    println!(rt; "written {}", check_number(written))?;
     println!(rt; "its digest:")?;
     print_request(rt, &request, &digest)?;
     println!(rt; "its key as the digest:")?;

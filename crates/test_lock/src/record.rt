@@ -3,7 +3,7 @@ ghost use Rattle.std.specs.Prelude.{◌≤◌, length};
 
 use account_lock::{LockAnswer, lock};
 use octets::{part, rest, same_bytes};
-use protocol::{check_number, ProtocolError};
+use protocol::{ProtocolError, check_number};
 use scene_reader::read_scene;
 use std::io;
 use test_support::{field, fields_after, value};
@@ -19,7 +19,7 @@ pub(crate) fn behind_record(text: &[u8], len: usize) -> &[u8]
 
 fn same_digest(digits: &[u8], reached: bool, digest: &[u8]) -> bool {
     if !reached {
-        return digits.len() == 0;
+        return digits.is_empty();
     }
     let mut expected = [0u8; 32];
     decode(digits, &mut expected, 0);
@@ -29,11 +29,8 @@ fn same_digest(digits: &[u8], reached: bool, digest: &[u8]) -> bool {
 // Whether the field is the fee of an accepted scene, or empty.
 fn same_fee(text: &[u8], found: Result<(), ProtocolError>, fee: u64) -> bool {
     match found {
-        Err(_) => (text.len() == 0) & (fee == 0),
-        Ok(()) => match read_decimal(text) {
-            Some(v) => v == fee,
-            None => false,
-        },
+        Err(_) => text.is_empty() && fee == 0,
+        Ok(()) => read_decimal(text) == Some(fee),
     }
 }
 

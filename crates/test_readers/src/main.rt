@@ -8,29 +8,8 @@ use account_state_writer::encode_state;
 use account_witness::validate_witness;
 use account_witness_writer::encode_witness;
 use octets::{part, store_number};
-use protocol::error_number;
+use protocol::check_number;
 use std::io;
-
-fn state_number(state: &[u8]) -> u8 {
-    match validate_state(state) {
-        Ok((_, _)) => 0,
-        Err(error) => error_number(error),
-    }
-}
-
-fn witness_number(witness: &[u8]) -> u8 {
-    match validate_witness(witness) {
-        Ok(_) => 0,
-        Err(error) => error_number(error),
-    }
-}
-
-fn write_number(answer: Result<usize, ProtocolError>) -> u8 {
-    match answer {
-        Ok(_) => 0,
-        Err(error) => error_number(error),
-    }
-}
 
 // Two entries of slots 5 and 6, with one byte of aux each, and then the second one's slot made 5.
 fn print_state_slots(rt: &impl Print) -> io::Result<()> {
@@ -40,10 +19,16 @@ fn print_state_slots(rt: &impl Print) -> io::Result<()> {
     bytes[68] = 1;
     let mut state = [0u8; 194];
     let written = encode_state(0, 7, 1, 1, 0, 0, &fields, &bytes, &mut state);
-    println!(rt; "state, slots 5, 6: written {}", write_number(written))?;
-    println!(rt; "state, slots 5, 6: {}", state_number(&state))?;
+    println!(rt; "state, slots 5, 6: written {}", check_number(written))?;
+    println!(rt;
+        "state, slots 5, 6: {}",
+        check_number(validate_state(&state))
+    )?;
     state[115] = 5;
-    println!(rt; "state, slots 5, 5: {}", state_number(&state))
+    println!(rt;
+        "state, slots 5, 5: {}",
+        check_number(validate_state(&state))
+    )
 }
 
 // Two proofs of one byte, of slots 5 and 6, and then the second one's slot made 5.
@@ -55,11 +40,17 @@ fn print_witness_slots(rt: &impl Print) -> io::Result<()> {
     let written = encode_witness(1, 7, &slots, &lengths, &bytes, &mut witness);
     println!(rt;
         "witness lock, slots 5, 6: written {}",
-        write_number(written)
+        check_number(written)
     )?;
-    println!(rt; "witness lock, slots 5, 6: {}", witness_number(&witness))?;
+    println!(rt;
+        "witness lock, slots 5, 6: {}",
+        check_number(validate_witness(&witness))
+    )?;
     witness[25] = 5;
-    println!(rt; "witness lock, slots 5, 5: {}", witness_number(&witness))
+    println!(rt;
+        "witness lock, slots 5, 5: {}",
+        check_number(validate_witness(&witness))
+    )
 }
 
 // A state of one entry with so many zeros of aux, as the writer would lay it out: the smallest one, its lengths changed.
@@ -80,9 +71,9 @@ fn print_aux(rt: &impl Print, aux_len: u16) -> io::Result<()> {
     let mut state = [0u8; 5112];
     let fields = [1u16, 0x0101, 3, 1, aux_len];
     let written = encode_state(0, 7, 1, 1, 0, 0, &fields, lent, &mut state);
-    println!(rt; "state, aux {aux_len}: written {}", write_number(written))?;
+    println!(rt; "state, aux {aux_len}: written {}", check_number(written))?;
     lay_out(aux_len, &mut state);
-    let number = state_number(part(&state, 0, 112 + aux_len as usize));
+    let number = check_number(validate_state(part(&state, 0, 112 + aux_len as usize)));
     println!(rt; "state, aux {aux_len}: {number}")
 }
 
@@ -93,8 +84,8 @@ fn print_session(rt: &impl Print, name: &str, flags: u8, capabilities: u16) -> i
     bytes[1] = 1;
     let mut state = [0u8; 113];
     let written = encode_state(flags, 7, 1, 1, 0, 0, &fields, &bytes, &mut state);
-    println!(rt; "{name}: written {}", write_number(written))?;
-    println!(rt; "{name}: {}", state_number(&state))
+    println!(rt; "{name}: written {}", check_number(written))?;
+    println!(rt; "{name}: {}", check_number(validate_state(&state)))
 }
 
 fn main(rt: HostRuntime) -> io::Result<()> {

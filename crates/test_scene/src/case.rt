@@ -2,7 +2,7 @@
 ghost use Rattle.std.specs.Prelude.{◌≤◌, length, IfOk};
 
 use octets::store_bytes;
-use protocol::{error_number, ProtocolError};
+use protocol::{ProtocolError, error_number};
 use scene_reader::read_scene;
 use std::io;
 use test_support::{Counts, counted, field, fields_after, value, wide};
@@ -16,12 +16,6 @@ pub(crate) struct Case {
     pub table: usize,
     pub at: usize,
     pub counts: Counts,
-}
-
-fn at_most(n: usize, most: usize) -> usize
-    ensures { result ≤ most }
-{
-    if n <= most { n } else { most }
 }
 
 // A case of these fields; its name is written.
@@ -60,11 +54,9 @@ fn append_times(scene: &mut [u8], start: usize, count: usize, text: &[u8], endin
     ensures { result ≤ length scene.old }
 {
     let mut at = start;
-    let mut i: usize = 0;
-    while i < count {
+    for _ in 0..count {
         at = append(scene, at, text);
         at = append(scene, at, ending);
-        i += 1;
     }
     at
 }
@@ -75,7 +67,7 @@ pub(crate) fn add(case: Case, fields: &[u8], ending: &[u8], scene: &mut [u8]) ->
     ensures { result.at ≤ length scene.old }
 {
     let counts = case.counts;
-    let count = at_most(value(field(fields)) as usize, scene.len());
+    let count = (value(field(fields)) as usize).min(scene.len());
     let end = append_times(scene, case.at, count, fields_after(fields), ending);
     Case {
         expected: case.expected,
@@ -88,37 +80,14 @@ pub(crate) fn add(case: Case, fields: &[u8], ending: &[u8], scene: &mut [u8]) ->
 
 // Whether all entries from index `from` on are zero.
 fn zero_from(words: &[u32], from: usize) -> bool {
-    let mut i = from;
-    while i < words.len() {
-        if words[i] != 0 {
-            return false;
-        }
-        i += 1;
-    }
-    true
-}
-
-fn fill_bytes(bytes: &mut [u8]) {
-    let mut i: usize = 0;
-    while i < bytes.len() {
-        bytes[i] = 255;
-        i += 1;
-    }
-}
-
-fn fill_words(words: &mut [u32]) {
-    let mut i: usize = 0;
-    while i < words.len() {
-        words[i] = 4294967295;
-        i += 1;
-    }
+    words.iter().skip(from).all(|&word| word == 0)
 }
 
 // The number of a scene, read into a store and a table without a zero. 99 where a refusal left something in them, 98 where an
 // accepted scene left something behind the most that it can fill: its own length, and 1,181 entries.
 fn number(scene: &[u8], store: &mut [u8], table: &mut [u32]) -> u64 {
-    fill_bytes(store);
-    fill_words(table);
+    store.fill(255);
+    table.fill(u32::MAX);
     match read_scene(scene, store, table) {
         Ok(()) => {
             if all_between(tail(store, scene.len()), 0, 0) & zero_from(table, 1181) {
@@ -148,8 +117,8 @@ pub(crate) fn run(
     requires { case.at ≤ length scene.now }
     ensures { IfOk result (λ after. after.at ≤ length scene.now) }
 {
-    let store_len = at_most(case.store, store.len());
-    let table_len = at_most(case.table, table.len());
+    let store_len = case.store.min(store.len());
+    let table_len = case.table.min(table.len());
     let found = number(
         head(scene, case.at),
         &mut store[..store_len],
