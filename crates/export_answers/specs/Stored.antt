@@ -30,13 +30,17 @@ abbrev pub StoresBytes : ℕ → List ℕ → List ℕ → ℕ → List ℕ → 
 StoresBytes number bytes out r after =
     (r ≡ stored_number number bytes (length out)) × (after ≡ stored_after number bytes out)
 
--- of one that stores a hash, of which a refusal has none
-unfoldable pub hash_bytes : Result (List ℕ) ProtocolError → List ℕ
-hash_bytes (Ok hash) = hash
-hash_bytes (Err e) = []
+-- of one that stores the bytes of an answer, of which a refusal has none
+unfoldable pub answer_bytes : {A : Type 0} → (A → List ℕ) → Result A ProtocolError → List ℕ
+answer_bytes bytes (Ok a) = bytes a
+answer_bytes bytes (Err e) = []
 
+abbrev pub StoresAnswer : {A : Type 0} → (A → List ℕ) → Result A ProtocolError → List ℕ → ℕ → List ℕ → Type 0
+StoresAnswer bytes answer out r after = StoresBytes (check_number answer) (answer_bytes bytes answer) out r after
+
+-- a hash is its own bytes
 abbrev pub StoresHash : Result (List ℕ) ProtocolError → List ℕ → ℕ → List ℕ → Type 0
-StoresHash answer out r after = StoresBytes (check_number answer) (hash_bytes answer) out r after
+StoresHash = StoresAnswer (λ hash. hash)
 
 -- of one that stores their length too, in `len`
 abbrev pub StoresPart : ℕ → List ℕ → List ℕ → ℕ → ℕ → List ℕ → ℕ → Type 0

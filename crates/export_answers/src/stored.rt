@@ -24,7 +24,7 @@ fn store_front(bytes: &[u8], out: &mut [u8]) -> u32
 }
 
 // A refusal's number; else the hash is stored, or 5.
-#[tactic(auto, unfolding(crate::specs::Stored::hash_bytes))]
+#[tactic(auto, unfolding(crate::specs::Stored::answer_bytes))]
 pub fn store_hash(answer: Result<[u8; 32], ProtocolError>, out: &mut [u8]) -> u32
     ensures { StoresHash answer out.old result out.new }
 {

@@ -2,7 +2,7 @@
 -- writer's number, the buffer, and in `len` the length that it wrote.
 use Rattle.std.specs.Prelude.{ℕ, List, [], ◌∷◌, length, Err, Ok, Result}
 use Rattle.protocol.specs.declared.error.ProtocolError.{ProtocolError}
-use Rattle.protocol.specs.Rows.{Check}
+use Rattle.protocol.specs.Rows.{Check, ◌then◌}
 use Rattle.protocol.specs.Args.{args_bytes}
 use Rattle.protocol.specs.Write.{write_fault, write_answer, after_write}
 use Rattle.export_answers.specs.Lent.{size_row, sizes_fault}
@@ -41,16 +41,12 @@ WritesPublicKeyProof p out len r after len_after =
     Writes (public_key_proof_written p out) (public_key_proof_stored p out) len r after len_after
 
 -- the request: digest and key are tested before the writer's own refusals
-unfoldable pub answer_after : Check → Result ℕ ProtocolError → Result ℕ ProtocolError
-answer_after (Ok _) answer = answer
-answer_after (Err e) answer = Err e
-
 unfoldable pub buffer_after : Check → List ℕ → List ℕ → List ℕ
 buffer_after (Ok _) stored out = stored
 buffer_after (Err e) stored out = out
 
 unfoldable pub lent_written : RequestReading → List ℕ → Result ℕ ProtocolError
-lent_written r out = answer_after (sizes_fault r.digest r.key) (request_written r out)
+lent_written r out = sizes_fault r.digest r.key then request_written r out
 
 unfoldable pub lent_stored : RequestReading → List ℕ → List ℕ
 lent_stored r out = buffer_after (sizes_fault r.digest r.key) (request_stored r out) out

@@ -2,7 +2,7 @@
 ghost use Rattle.std.specs.Prelude.{◌≡◌, cond};
 ghost use Rattle.protocol.specs.Args.{read_args};
 ghost use Rattle.protocol.specs.Policy.{is_supported_algorithm, capability_for};
-ghost use Rattle.exports.specs.Readers.{StoresArgs, StoresCapability};
+ghost use Rattle.exports.specs.Readers.{StoresWords, args_words, capability_words};
 ghost use Rattle.exports.specs.Writers.{args_writer_fault, args_written, args_stored, WritesArgs};
 
 use export_answers::{store_words, written};
@@ -10,9 +10,10 @@ use octets::{array_32, store_bytes};
 use protocol::{ACCOUNT_LOCK_ARGS_LEN, AccountLockArgs, ProtocolError, account_lock_args, capability_for_operation, error_number, is_supported_algorithm, require};
 
 // Stores the version and the place of the account id.
+#[tactic(auto, unfolding(export_answers::specs::Stored::answer_bytes, crate::specs::Readers::args_words))]
 #[unsafe(no_mangle)]
 pub extern "C" fn fowlcredenza_parse_args(args: &[u8], out: &mut [u8]) -> u32
-    ensures { StoresArgs (read_args args.now) out.old result out.new }
+    ensures { StoresWords args_words (read_args args.now) out.old result out.new }
 {
     match AccountLockArgs::parse(args) {
         Err(error) => error_number(error) as u32,
@@ -36,9 +37,10 @@ pub extern "C" fn fowlcredenza_is_supported_algorithm(algorithm: u16) -> u32
 }
 
 // Stores the capability bit that an operation needs.
+#[tactic(auto, unfolding(export_answers::specs::Stored::answer_bytes, crate::specs::Readers::capability_words))]
 #[unsafe(no_mangle)]
 pub extern "C" fn fowlcredenza_capability_for_operation(operation: u8, out: &mut [u8]) -> u32
-    ensures { StoresCapability (capability_for operation) out.old result out.new }
+    ensures { StoresWords capability_words (capability_for operation) out.old result out.new }
 {
     match capability_for_operation(operation) {
         Err(error) => error_number(error) as u32,

@@ -2,7 +2,7 @@
 ghost use Rattle.std.specs.Prelude.{◌≡◌};
 ghost use Rattle.verifier_request.specs.Reader.{read_request};
 ghost use Rattle.verifier_request.specs.Reading.{request_with};
-ghost use Rattle.exports.specs.Readers.{StoresRequest};
+ghost use Rattle.exports.specs.Readers.{StoresWords, request_words};
 ghost use Rattle.exports.specs.Writers.{lent_written, lent_stored, WritesRequest};
 
 use export_answers::{check_sizes, store_words, written};
@@ -11,9 +11,10 @@ use protocol::{error_number, ProtocolError};
 use verifier_request::{encode_verifier_request, parse_verifier_request};
 
 // Stores algorithm, slot, operation, profile, the places of digest and key, and place and length of the aux and of the proof.
+#[tactic(auto, unfolding(export_answers::specs::Stored::answer_bytes, crate::specs::Readers::request_words))]
 #[unsafe(no_mangle)]
 pub extern "C" fn fowlcredenza_parse_verifier_request(request: &[u8], out: &mut [u8]) -> u32
-    ensures { StoresRequest (read_request request.now) out.old result out.new }
+    ensures { StoresWords request_words (read_request request.now) out.old result out.new }
 {
     match parse_verifier_request(request) {
         Err(error) => error_number(error) as u32,

@@ -1,6 +1,6 @@
 // The account state.
 ghost use Rattle.account_state.specs.State.{read_state_header, read_state, entry_step};
-ghost use Rattle.exports.specs.Readers.{StoresStateHeader, StoresState, StoresEntry};
+ghost use Rattle.exports.specs.Readers.{StoresWords, header_words, state_words, step_words};
 ghost use Rattle.exports.specs.Writers.{WritesState};
 
 use account_state::{EntryCursor, StateHeader, next_entry, validate_state};
@@ -9,9 +9,10 @@ use export_answers::{store_words, written};
 use protocol::error_number;
 
 // Stores flags, sequence, spend, rotate and recovery thresholds, count and recovery_since.
+#[tactic(auto, unfolding(export_answers::specs::Stored::answer_bytes, crate::specs::Readers::header_words))]
 #[unsafe(no_mangle)]
 pub extern "C" fn fowlcredenza_parse_state_header(state: &[u8], out: &mut [u8]) -> u32
-    ensures { StoresStateHeader (read_state_header state.now) out.old result out.new }
+    ensures { StoresWords header_words (read_state_header state.now) out.old result out.new }
 {
     match StateHeader::parse(state) {
         Err(error) => error_number(error) as u32,
@@ -31,9 +32,10 @@ pub extern "C" fn fowlcredenza_parse_state_header(state: &[u8], out: &mut [u8]) 
 }
 
 // Stores the header's seven numbers, and the weights of the holders of spend, rotate and recovery.
+#[tactic(auto, unfolding(export_answers::specs::Stored::answer_bytes, crate::specs::Readers::state_words, crate::specs::Readers::header_words))]
 #[unsafe(no_mangle)]
 pub extern "C" fn fowlcredenza_validate_state(state: &[u8], out: &mut [u8]) -> u32
-    ensures { StoresState (read_state state.now) out.old result out.new }
+    ensures { StoresWords state_words (read_state state.now) out.old result out.new }
 {
     match validate_state(state) {
         Err(error) => error_number(error) as u32,
@@ -57,6 +59,7 @@ pub extern "C" fn fowlcredenza_validate_state(state: &[u8], out: &mut [u8]) -> u
 
 // Stores slot, algorithm, capabilities, weight, hash type, ABI, the place of the code hash, place and length of the key and of
 // the aux, and offset and least slot of the next entry.
+#[tactic(auto, unfolding(export_answers::specs::Stored::answer_bytes, crate::specs::Readers::step_words))]
 #[unsafe(no_mangle)]
 pub extern "C" fn fowlcredenza_next_entry(
     state: &[u8],
@@ -64,7 +67,7 @@ pub extern "C" fn fowlcredenza_next_entry(
     least: u32,
     out: &mut [u8],
 ) -> u32
-    ensures { StoresEntry (entry_step state.now (record { offset = offset; least = least })) out.old result out.new }
+    ensures { StoresWords step_words (entry_step state.now (record { offset = offset; least = least })) out.old result out.new }
 {
     match next_entry(state, EntryCursor { offset, least }) {
         Err(error) => error_number(error) as u32,

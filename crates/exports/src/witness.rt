@@ -4,7 +4,7 @@ ghost use Rattle.account_witness.specs.Walk.{proof_step};
 ghost use Rattle.account_witness.specs.Witness.{read_witness};
 ghost use Rattle.export_answers.specs.Words.{word_bytes};
 ghost use Rattle.export_answers.specs.Stored.{StoresBytes};
-ghost use Rattle.exports.specs.Readers.{witness_fields, StoresWitnessHeader, StoresProof, StoresWitness};
+ghost use Rattle.exports.specs.Readers.{StoresWords, proof_step_words, witness_words};
 ghost use Rattle.exports.specs.Writers.{WritesWitness};
 
 use account_witness::{AccountWitnessHeader, ProofCursor, next_proof, parse_witness_header, validate_witness};
@@ -14,7 +14,7 @@ use protocol::error_number;
 
 // The words of a header.
 fn store_witness_header(header: AccountWitnessHeader, out: &mut [u8]) -> u32
-    ensures { StoresBytes 0 (word_bytes (witness_fields header)) out.old result out.new }
+    ensures { StoresBytes 0 (word_bytes (witness_words header)) out.old result out.new }
 {
     let words = [
         header.operation as u64,
@@ -25,9 +25,10 @@ fn store_witness_header(header: AccountWitnessHeader, out: &mut [u8]) -> u32
 }
 
 // Stores operation, proof count and sequence.
+#[tactic(auto, unfolding(export_answers::specs::Stored::answer_bytes, crate::specs::Readers::witness_words))]
 #[unsafe(no_mangle)]
 pub extern "C" fn fowlcredenza_parse_witness_header(witness: &[u8], out: &mut [u8]) -> u32
-    ensures { StoresWitnessHeader (read_witness_header witness.now) out.old result out.new }
+    ensures { StoresWords witness_words (read_witness_header witness.now) out.old result out.new }
 {
     match parse_witness_header(witness) {
         Err(error) => error_number(error) as u32,
@@ -36,6 +37,7 @@ pub extern "C" fn fowlcredenza_parse_witness_header(witness: &[u8], out: &mut [u
 }
 
 // Stores slot, place and length of the proof's bytes, and offset and least slot of the next proof.
+#[tactic(auto, unfolding(export_answers::specs::Stored::answer_bytes, crate::specs::Readers::proof_step_words))]
 #[unsafe(no_mangle)]
 pub extern "C" fn fowlcredenza_next_proof(
     witness: &[u8],
@@ -43,7 +45,7 @@ pub extern "C" fn fowlcredenza_next_proof(
     least: u32,
     out: &mut [u8],
 ) -> u32
-    ensures { StoresProof (proof_step witness.now (record { offset = offset; least = least })) out.old result out.new }
+    ensures { StoresWords proof_step_words (proof_step witness.now (record { offset = offset; least = least })) out.old result out.new }
 {
     match next_proof(witness, ProofCursor { offset, least }) {
         Err(error) => error_number(error) as u32,
@@ -61,9 +63,10 @@ pub extern "C" fn fowlcredenza_next_proof(
 }
 
 // Stores operation, proof count and sequence of a witness lock whose every proof passes.
+#[tactic(auto, unfolding(export_answers::specs::Stored::answer_bytes, crate::specs::Readers::witness_words))]
 #[unsafe(no_mangle)]
 pub extern "C" fn fowlcredenza_validate_witness(witness: &[u8], out: &mut [u8]) -> u32
-    ensures { StoresWitness (read_witness witness.now) out.old result out.new }
+    ensures { StoresWords witness_words (read_witness witness.now) out.old result out.new }
 {
     match validate_witness(witness) {
         Err(error) => error_number(error) as u32,

@@ -1,17 +1,7 @@
--- `exports::proof::fowlcredenza_parse_public_key_proof` meets its contract, by cases of the answer. Assumes nothing.
+-- `exports::proof::fowlcredenza_parse_public_key_proof` meets its contract: a refusal stores nothing. Assumes nothing.
 use mathlib.Core.Path.{sym, ◌∙◌}
-use Rattle.export_answers.proofs.Fits.{bytes-refused}
-use Rattle.exports.specs.Readers.{proof_words}
+use Rattle.export_answers.proofs.Fits.{bytes_refused}
 use Rattle.exports.proofs.proof.fowlcredenza_parse_public_key_proof.Goals as goal
 
-pub returns-in-Refused : goal.returns-in-Refused
-unfolding proof_words
-returns-in-Refused c =
-    let e = sym c.parse_public_key_proof.ensures ∙ c.in-Refused.is in
-    rw (e, c.error_number.ensures) (bytes-refused c.in-Refused.error _ _)
-
-pub returns-in-Proof : goal.returns-in-Proof
-unfolding proof_words
-returns-in-Proof c =
-    let e = sym c.parse_public_key_proof.ensures ∙ c.in-Proof.is in
-    rw e c.store_words.ensures
+pub returns-in-Err : goal.returns-in-Err
+returns-in-Err c = rw (sym c.parse_public_key_proof.ensures ∙ c.in-Err.is, c.error_number.ensures) (bytes_refused c.in-Err.error _ _)

@@ -1,17 +1,7 @@
--- `exports::request::fowlcredenza_parse_verifier_request` meets its contract, by cases of the answer. Assumes nothing.
+-- `exports::request::fowlcredenza_parse_verifier_request` meets its contract: a refusal stores nothing. Assumes nothing.
 use mathlib.Core.Path.{sym, ◌∙◌}
-use Rattle.export_answers.proofs.Fits.{bytes-refused}
-use Rattle.exports.specs.Readers.{request_words}
+use Rattle.export_answers.proofs.Fits.{bytes_refused}
 use Rattle.exports.proofs.request.fowlcredenza_parse_verifier_request.Goals as goal
 
-pub returns-in-Refused : goal.returns-in-Refused
-unfolding request_words
-returns-in-Refused c =
-    let e = sym c.parse_verifier_request.ensures ∙ c.in-Refused.is in
-    rw (e, c.error_number.ensures) (bytes-refused c.in-Refused.error _ _)
-
-pub returns-in-Request : goal.returns-in-Request
-unfolding request_words
-returns-in-Request c =
-    let e = sym c.parse_verifier_request.ensures ∙ c.in-Request.is in
-    rw e c.store_words.ensures
+pub returns-in-Err : goal.returns-in-Err
+returns-in-Err c = rw (sym c.parse_verifier_request.ensures ∙ c.in-Err.is, c.error_number.ensures) (bytes_refused c.in-Err.error _ _)
