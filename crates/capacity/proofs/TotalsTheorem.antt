@@ -9,7 +9,7 @@ use Prim.Native.Nat.{ℕ, ◌+◌, ◌-◌, ◌^◌, ◌≤◌, ◌<◌}
 use native.Mathlib.Omega.{arith}
 use borrow.Author.Tests.{le-leb, leb-true, leb-false}
 use lib.Dec.{leb}
-use Rattle.protocol.specs.Rows.{AllPass, decide, ◌▷◌, check_number}
+use Rattle.protocol.specs.Rows.{AllPass, decide, check_number}
 use Rattle.scene_table.specs.Scene.{Scene}
 use Rattle.capacity.specs.Capacity.{input_total, output_total, total_rows, capacity_rows, TotalsPass, TotalAbove, OutputsExceed}
 
@@ -36,7 +36,7 @@ module _ (n m : ℕ) where
     pass : n ≤ 2 ^ 64 - 1 → m ≤ 2 ^ 64 - 1 → m ≤ n → Outcome 0
 
   outcome : Outcome (check_number (decide (Ok tt) (total_rows n m)))
-  unfolding total_rows decide ◌▷◌
+  unfolding total_rows decide
   outcome = go (leb n (2 ^ 64 - 1)) refl (leb m (2 ^ 64 - 1)) refl (leb m n) refl
     where
       go : (a : Bool) → leb n (2 ^ 64 - 1) ≡ a → (b : Bool) → leb m (2 ^ 64 - 1) ≡ b → (c : Bool) → leb m n ≡ c

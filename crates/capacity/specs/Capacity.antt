@@ -1,12 +1,12 @@
 -- 02, change 9: the totals of all inputs and of all outputs, the lock's rows for them, and the fee.
-use Rattle.std.specs.Prelude.{ℕ, ◌-◌, ◌^◌, ◌≤◌, ◌<◌, List, [], ◌∷◌, map, ◌⊎◌, leb, Err, Ok}
+use Rattle.std.specs.Prelude.{ℕ, ◌-◌, ◌^◌, ◌≤◌, ◌<◌, List, [], ◌∷◌, map, ◌⊎◌, leb, Err, Ok, Result}
 use Rattle.octets.specs.Lists.{sum}
-use Rattle.protocol.specs.Rows.{Row, row, decide, Check}
+use Rattle.protocol.specs.Rows.{Row, row, decide, ◌then◌, Check}
+use Rattle.protocol.specs.declared.error.ProtocolError.{ProtocolError}
 use Rattle.protocol.specs.declared.error.ProtocolError.TheVariants.{LengthOverflow, OutputsExceedInputs}
 use Rattle.scene_table.specs.Scene.{Input, Output, Scene}
 use Rattle.capacity.specs.declared.total.Side.{Side}
 use Rattle.capacity.specs.declared.total.Side.TheVariants.{Inputs, Outputs}
-use Rattle.capacity.specs.declared.fee.FeeFound.{FeeFound}
 
 -- "Input and output lines end with a new field CAPACITY": those of all inputs, of other locks too, and those of all outputs
 unfoldable pub capacities : Side → Scene → List ℕ
@@ -54,12 +54,9 @@ abbrev pub fee_where : Check → ℕ → ℕ
 fee_where (Ok _) fee = fee
 fee_where (Err e) fee = 0
 
--- "inputs' total less outputs' total"
-unfoldable pub fee_for : ℕ → ℕ → FeeFound
-fee_for inputs outputs = record {
-  found = decide (Ok tt) (total_rows inputs outputs);
-  fee = fee_where (decide (Ok tt) (total_rows inputs outputs)) (inputs - outputs);
-}
+-- "inputs' total less outputs' total", or the refusal
+unfoldable pub fee_for : ℕ → ℕ → Result ℕ ProtocolError
+fee_for inputs outputs = decide (Ok tt) (total_rows inputs outputs) then Ok (inputs - outputs)
 
-unfoldable pub fee_of : Scene → FeeFound
+unfoldable pub fee_of : Scene → Result ℕ ProtocolError
 fee_of s = fee_for (input_total s) (output_total s)

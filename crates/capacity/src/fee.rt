@@ -1,66 +1,18 @@
 // Whether the inputs' capacity covers the outputs', and the fee.
 ghost use Rattle.std.specs.Prelude.{◌≡◌};
 ghost use Rattle.scene_table.specs.Lent.{scene_in};
-ghost use Rattle.capacity.specs.Capacity.{fee_where, fee_of};
-ghost use Rattle.capacity.specs.Totals.{fee_refused, TotalsCompared};
+ghost use Rattle.capacity.specs.Capacity.{fee_of};
 
 use crate::total::{Side, total_of};
-use protocol::ProtocolError;
+use protocol::{ProtocolError, require};
 
-// What the checks of the totals found; and the fee, 0 where they refuse.
-#[derive(Drop)]
-pub struct FeeFound {
-    pub found: Result<(), ProtocolError>,
-    pub fee: u64,
-}
-
-// The fee where all checks passed, else 0.
-pub fn fee_where(found: Result<(), ProtocolError>, fee: u64) -> u64
-    ensures { result ≡ fee_where found fee }
-{
-    match found {
-        Err(_) => 0,
-        Ok(()) => fee,
-    }
-}
-
-fn refused(error: ProtocolError) -> FeeFound
-    ensures { result ≡ fee_refused error }
-{
-    FeeFound {
-        found: Err(error),
-        fee: 0,
-    }
-}
-
-// The inputs' total less the outputs', or what refuses them.
-fn compare_totals(inputs: Option<u64>, outputs: Option<u64>) -> FeeFound
-    ensures { TotalsCompared inputs outputs result }
-{
-    match inputs {
-        None => refused(ProtocolError::LengthOverflow),
-        Some(whole) => match outputs {
-            None => refused(ProtocolError::LengthOverflow),
-            Some(paid) => {
-                if whole < paid {
-                    refused(ProtocolError::OutputsExceedInputs)
-                } else {
-                    FeeFound {
-                        found: Ok(()),
-                        fee: whole - paid,
-                    }
-                }
-            }
-        },
-    }
-}
-
-// The totals of all inputs and of all outputs: 39 where one is above what a u64 holds, 48 where the outputs exceed the inputs.
-pub fn check_totals(table: &[u32], store: &[u8]) -> FeeFound
+// The inputs' total less the outputs': 39 where a total is above what a u64 holds, 48 where the outputs exceed the inputs.
+#[tactic(auto, unfolding(crate::specs::Capacity::fee_of, crate::specs::Capacity::fee_for, crate::specs::Capacity::total_rows, crate::specs::Totals::total_of, protocol::specs::Rows::decide))]
+pub fn check_totals(table: &[u32], store: &[u8]) -> Result<u64, ProtocolError>
     ensures { result ≡ fee_of (scene_in table.now store.now) }
 {
-    compare_totals(
-        total_of(table, store, Side::Inputs),
-        total_of(table, store, Side::Outputs),
-    )
+    let inputs = total_of(table, store, Side::Inputs).ok_or(ProtocolError::LengthOverflow)?;
+    let outputs = total_of(table, store, Side::Outputs).ok_or(ProtocolError::LengthOverflow)?;
+    require(outputs <= inputs, ProtocolError::OutputsExceedInputs)?;
+    Ok(inputs - outputs)
 }

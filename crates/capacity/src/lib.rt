@@ -4,4 +4,4 @@
 mod total; // total.rt
 mod fee; // fee.rt
 
-pub use self::fee::{FeeFound, check_totals, fee_where};
+pub use self::fee::check_totals;

@@ -1,8 +1,0 @@
--- `capacity::total::side_count` meets its contract. Assumes nothing.
-use Rattle.capacity.proofs.total.side_count.Goals as goal
-
-pub returns-in-Inputs : goal.returns-in-Inputs
-returns-in-Inputs c = rw c.in-Inputs.is c.input_count.ensures
-
-pub returns-in-Outputs : goal.returns-in-Outputs
-returns-in-Outputs c = rw c.in-Outputs.is c.output_count.ensures
