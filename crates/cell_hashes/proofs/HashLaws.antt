@@ -1,42 +1,31 @@
 -- The rows of a list's cells, one by one.
 -- Assumes nothing.
-use Rattle.std.specs.Prelude.{Err, Ok}
+use Rattle.std.specs.Prelude.{Ok}
 use mathlib.Core.Path.{◌≡◌}
 use mathlib.Core.List.{List}
 use Prim.Native.Nat.{ℕ, ◌+◌, ◌≤◌, ◌<◌}
 use lib.ListN.{drop}
-use Rattle.protocol.specs.Rows.{decide, ◌then◌, Check}
-use Rattle.protocol.specs.declared.error.ProtocolError.{ProtocolError}
-use Rattle.protocol.proofs.AllPass.{decide-both, then-assoc}
-use Rattle.scene_table.specs.Scene.{Cell, Scene}
-use Rattle.scene_table.proofs.Records.{Listed}
-use Rattle.cell_search.specs.declared.cells.Source.TheVariants as source
+use Rattle.protocol.specs.Rows.{decide, ◌then◌}
+use Rattle.protocol.proofs.AllPass.{decide-both}
+use Rattle.scene_table.specs.Lent.{scene_in}
+use Rattle.scene_table.specs.Places.{cell_in}
+use Rattle.cell_search.specs.declared.cells.Source.{Source}
 use Rattle.cell_search.specs.Search.{cells_of}
-use Rattle.cell_hashes.specs.Hashes.{cell_hash_rows, cells_hash_rows, hash_rows}
+use Rattle.cell_search.specs.Cells.{cell_count, source_places}
+use Rattle.cell_search.proofs.CellLaws.{cells-listed}
+use Rattle.cell_hashes.specs.Hashes.{cell_hash_rows, cells_hash_rows}
 
--- what the rows find from cell k on
-unfoldable pub found_from : List Cell → ℕ → Check
-found_from cells k = decide (Ok tt) (cells_hash_rows (drop k cells))
+module _ (from : Source) (table store : List ℕ) (k : ℕ) where
+  -- what the rows find from cell k on: what this cell's find, and then what is found of the cells behind it,
+  pub found_turn : k < cell_count from table → decide (Ok tt) (cells_hash_rows (drop k (cells_of from (scene_in table store))))
+      ≡ decide (Ok tt) (cell_hash_rows (cell_in store (source_places from table k)))
+      then decide (Ok tt) (cells_hash_rows (drop (k + 1) (cells_of from (scene_in table store))))
+  unfolding cells_hash_rows
+  found_turn h = rw ((cells-listed from table store).turn k h, decide-both)
 
-module _ {cells : List Cell} {n : ℕ} {g : ℕ → Cell} (l : Listed cells n g) (k : ℕ) where
-  -- the first that differs decides,
-  pub found-stops : (e : ProtocolError) → k < n → decide (Ok tt) (cell_hash_rows (g k)) ≡ Err e → found_from cells k ≡ Err e
-  unfolding found_from cells_hash_rows ◌then◌
-  found-stops e h f = rw (l.turn k h, decide-both (cell_hash_rows (g k)), f)
+  -- and behind the last nothing
+  pub found_end : cell_count from table ≤ k → decide (Ok tt) (cells_hash_rows (drop k (cells_of from (scene_in table store)))) ≡ Ok tt
+  unfolding cells_hash_rows decide
+  found_end h = rw ((cells-listed from table store).none k h)
 
-  -- else the cells behind it do,
-  pub found-goes : k < n → decide (Ok tt) (cell_hash_rows (g k)) ≡ Ok tt → found_from cells k ≡ found_from cells (k + 1)
-  unfolding found_from cells_hash_rows ◌then◌
-  found-goes h f = rw (l.turn k h, decide-both (cell_hash_rows (g k)), f)
-
-  -- and behind the last nothing is found
-  pub found-end : n ≤ k → found_from cells k ≡ Ok tt
-  unfolding found_from cells_hash_rows decide
-  found-end h = rw (l.none k h)
-
--- the three lists, one after another
-pub hashes-found : (s : Scene) {a b c : Check} → a ≡ decide (Ok tt) (cells_hash_rows (cells_of source.Input s))
-    → b ≡ decide (Ok tt) (cells_hash_rows (cells_of source.Output s)) → c ≡ decide (Ok tt) (cells_hash_rows (cells_of source.CellDep s))
-    → (a then b) then c ≡ decide (Ok tt) (hash_rows s)
-unfolding hash_rows
-hashes-found s p q r = rw (p, q, r) (simp (decide-both, then-assoc))
+pub ruleset cells_found = (found_turn, found_end)

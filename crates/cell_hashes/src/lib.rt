@@ -15,17 +15,15 @@ use protocol::{ProtocolError, require};
 use scene_table::CellPlaces;
 
 // Whether there are no bytes, or the hash is CKB's hash of them.
+#[tactic(auto, unfolding(crate::specs::Hashes::hash_agrees))]
 fn hash_agrees(hash: &[u8], bytes: &[u8]) -> bool
     ensures { result ≡ hash_agrees hash.now bytes.now }
 {
-    if bytes.len() == 0 {
-        return true;
-    }
-    let worked_out = ckb_hash(bytes);
-    same_bytes(hash, &worked_out)
+    bytes.is_empty() || same_bytes(hash, &ckb_hash(bytes))
 }
 
 // The hashes of the cell at its places: type before data.
+#[tactic(auto, unfolding(protocol::specs::Rows::decide, scene_table::specs::Lent::cell_from, crate::specs::Hashes::cell_hash_rows))]
 fn check_cell(store: &[u8], cell: CellPlaces) -> Result<(), ProtocolError>
     ensures { result ≡ decide (Ok tt) (cell_hash_rows (cell_in store.now cell)) }
 {
@@ -33,26 +31,24 @@ fn check_cell(store: &[u8], cell: CellPlaces) -> Result<(), ProtocolError>
         part_at(store, cell.type_hash),
         part_at(store, cell.type_script),
     );
-    let data_agrees = hash_agrees(part_at(store, cell.data_hash), part_at(store, cell.content));
     require(type_agrees, ProtocolError::HashMismatch)?;
+    let data_agrees = hash_agrees(part_at(store, cell.data_hash), part_at(store, cell.content));
     require(data_agrees, ProtocolError::HashMismatch)
 }
 
 // The hashes of the cells of a list, up to the first that differs.
+#[tactic(auto, using(crate::proofs::HashLaws::cells_found), unfolding(protocol::specs::Rows::decide))]
 fn check_cells(table: &[u32], store: &[u8], source: Source) -> Result<(), ProtocolError>
     ensures { result ≡ decide (Ok tt) (cells_hash_rows (cells_of source (scene_in table.now store.now))) }
 {
-    let count = cell_count(table, source);
-    let mut i: u32 = 0;
-    while i < count {
-        let found = check_cell(store, cell_places(table, source, i));
-        found?;
-        i += 1
+    for i in 0..cell_count(table, source) {
+        check_cell(store, cell_places(table, source, i))?;
     }
     Ok(())
 }
 
 // The hashes of all cells: 40 where one differs from what the cell holds.
+#[tactic(auto, using(protocol::proofs::AllPass::deciding), unfolding(crate::specs::Hashes::hash_rows))]
 pub fn check_hashes(table: &[u32], store: &[u8]) -> Result<(), ProtocolError>
     ensures { result ≡ decide (Ok tt) (hash_rows (scene_in table.now store.now)) }
 {

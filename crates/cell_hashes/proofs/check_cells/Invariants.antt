@@ -1,18 +1,14 @@
 -- `cell_hashes::check_cells` meets its contract: what is left to test gives what the whole list gives. Assumes nothing.
 use Rattle.std.specs.Prelude.{Ok}
 use mathlib.Core.Path.{◌≡◌}
-use Prim.Native.Nat.{◌-◌}
+use lib.ListN.{drop}
 use Rattle.protocol.specs.Rows.{decide}
 use Rattle.scene_table.specs.Lent.{scene_in}
 use Rattle.cell_search.specs.Search.{cells_of}
-use Rattle.cell_search.specs.Cells.{cell_count}
 use Rattle.cell_hashes.specs.Hashes.{cells_hash_rows}
-use Rattle.cell_hashes.proofs.HashLaws.{found_from}
 use Rattle.cell_hashes.proofs.check_cells.Given as goal
 
 abbrev pub invariant-loop-i : goal.invariant-loop-i
-invariant-loop-i l = (l.count ≡ cell_count l.source l.table)
-    × (decide (Ok tt) (cells_hash_rows (cells_of l.source (scene_in l.table l.store))) ≡ found_from (cells_of l.source (scene_in l.table l.store)) l.i)
-
-abbrev pub decreases-loop-i : goal.decreases-loop-i
-decreases-loop-i l = l.count - l.i
+invariant-loop-i l =
+    let cells = cells_of l.source (scene_in l.table l.store) in
+    decide (Ok tt) (cells_hash_rows cells) ≡ decide (Ok tt) (cells_hash_rows (drop l.i cells))
