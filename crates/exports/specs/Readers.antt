@@ -12,12 +12,13 @@ use Rattle.account_witness.specs.declared.walk.Proof.{Proof}
 use Rattle.account_witness.specs.declared.walk.ProofCursor.{ProofCursor}
 use Rattle.verifier_request.specs.declared.reader.RequestFields.{RequestFields}
 use Rattle.public_key_proof.specs.declared.reader.PublicKeyProof.{PublicKeyProof}
+use Rattle.protocol.specs.Rows.{check_number}
 use Rattle.export_answers.specs.Words.{word_bytes}
-use Rattle.export_answers.specs.Stored.{StoresAnswer}
+use Rattle.export_answers.specs.Stored.{StoresBytes, answer_bytes}
 
 -- the promise of a reader, by the words of what it reads
 abbrev pub StoresWords : {A : Type 0} → (A → List ℕ) → Result A ProtocolError → List ℕ → ℕ → List ℕ → Type 0
-StoresWords words = StoresAnswer (λ a. word_bytes (words a))
+StoresWords words answer out r after = StoresBytes (check_number answer) (answer_bytes (λ a. word_bytes (words a)) answer) out r after
 
 unfoldable pub args_words : AccountLockArgs → List ℕ
 args_words a = a.version ∷ a.account_id ∷ []

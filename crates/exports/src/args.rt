@@ -7,7 +7,10 @@ ghost use Rattle.exports.specs.Writers.{args_writer_fault, args_written, args_st
 
 use export_answers::{store_words, written};
 use octets::{array_32, store_bytes};
-use protocol::{ACCOUNT_LOCK_ARGS_LEN, AccountLockArgs, ProtocolError, account_lock_args, capability_for_operation, error_number, is_supported_algorithm, require};
+use protocol::{
+    ACCOUNT_LOCK_ARGS_LEN, AccountLockArgs, ProtocolError, account_lock_args,
+    capability_for_operation, error_number, is_supported_algorithm, require,
+};
 
 // Stores the version and the place of the account id.
 #[tactic(auto, unfolding(export_answers::specs::Stored::answer_bytes, crate::specs::Readers::args_words))]
@@ -29,11 +32,7 @@ pub extern "C" fn fowlcredenza_parse_args(args: &[u8], out: &mut [u8]) -> u32
 pub extern "C" fn fowlcredenza_is_supported_algorithm(algorithm: u16) -> u32
     ensures { result ≡ cond (is_supported_algorithm algorithm) 1 0 }
 {
-    if is_supported_algorithm(algorithm) {
-        1
-    } else {
-        0
-    }
+    u32::from(is_supported_algorithm(algorithm))
 }
 
 // Stores the capability bit that an operation needs.
@@ -51,6 +50,7 @@ pub extern "C" fn fowlcredenza_capability_for_operation(operation: u8, out: &mut
     }
 }
 
+#[tactic(auto, unfolding(protocol::specs::Rows::decide, protocol::specs::Write::write_fault, crate::specs::Writers::args_writer_fault))]
 fn check_account(account: &[u8], room: usize) -> Result<(), ProtocolError>
     ensures { result ≡ args_writer_fault account.now room }
 {
@@ -59,14 +59,15 @@ fn check_account(account: &[u8], room: usize) -> Result<(), ProtocolError>
 }
 
 // The args of an account. An account of another length than 32 is 7.
+#[tactic(auto, unfolding(crate::specs::Writers::args_written, crate::specs::Writers::args_stored, protocol::specs::Write::write_answer, protocol::specs::Write::after_write))]
 fn write_args(account: &[u8], out: &mut [u8]) -> Result<usize, ProtocolError>
     ensures value { result ≡ args_written account.now out.old }
     ensures out_after { out.new ≡ args_stored account.now out.old }
 {
     check_account(account, out.len())?;
     let args = account_lock_args(array_32(account));
-            store_bytes(out, 0, &args);
-            Ok(ACCOUNT_LOCK_ARGS_LEN)
+    store_bytes(out, 0, &args);
+    Ok(ACCOUNT_LOCK_ARGS_LEN)
 }
 
 // Writes the args of an account: 0x01 and the account.

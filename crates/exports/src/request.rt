@@ -37,6 +37,7 @@ pub extern "C" fn fowlcredenza_parse_verifier_request(request: &[u8], out: &mut 
 }
 
 // The request of a digest and a key that are lent as slices.
+#[tactic(auto, unfolding(crate::specs::Writers::lent_written, crate::specs::Writers::lent_stored, crate::specs::Writers::buffer_after))]
 fn write_request(
     algorithm: u16,
     slot: u16,
