@@ -10,21 +10,21 @@ use mathlib.Core.List.{List}
 use Prim.Native.Nat.{ℕ, zero, suc, ◌+◌, ◌≤◌}
 use native.Mathlib.Omega.{arith}
 use lib.ListN.{length, drop, length-take}
-use Rattle.protocol.specs.Rows.{decide, AllPass, Check}
+use Rattle.protocol.specs.Rows.{◌then◌, decide, AllPass, Check}
 use Rattle.protocol.proofs.AllPass.{passed-all-pass, all-pass-split}
 use Rattle.account_state.specs.Fields.{aux_length_of, aux_max_length, entry_count_of, entry_length_of, entry_slot_of, key_length_of, key_offset, entry_bytes_of}
 use Rattle.account_state.specs.Reading.{entry_of, entries_of, state_entries, state_reading, AuxWithin}
-use Rattle.account_state.specs.State.{state_rows, state_fault, state_header_of, summary_of, state_answer, read_state, StateWithin, CheckWithin, entry_rows, entries_rows, entry_at, entry_cursor_behind, entry_step_answer, entry_step, StepWithin}
+use Rattle.account_state.specs.State.{state_rows, state_fault, state_header_of, summary_of, read_state, StateWithin, CheckWithin, entry_rows, entries_rows, entry_at, entry_cursor_behind, entry_step, StepWithin}
 use Rattle.account_state.specs.declared.entry.EntryCursor.{EntryCursor}
 use Rattle.account_state.proofs.Passed.{entry-passed, state-passed}
 
 -- a step
 pub step-within : (s : List ℕ) (c : EntryCursor) → StepWithin (entry_step s c)
-unfolding entry_step entry_step_answer entry_at
+unfolding entry_step entry_at
 step-within s c = go (decide (Ok tt) (entry_rows (drop c.offset s) c.least)) refl
   where
     go : (k : Check) → decide (Ok tt) (entry_rows (drop c.offset s) c.least) ≡ k
-        → StepWithin (entry_step_answer k (entry_at s c.offset) (entry_cursor_behind s c.offset))
+        → StepWithin (k then Ok (entry_at s c.offset, entry_cursor_behind s c.offset))
     go (Ok _) h = (entry-passed (drop c.offset s) c.least (passed-all-pass _ h)).limit
     go (Err x) h = tt
 
@@ -55,10 +55,10 @@ state-within s h = entries-within (entry_count_of s) (entry_bytes_of s) 0 (state
 
 -- so an answer that is the reader's keeps the limit
 pub state-promised : (s : List ℕ) {r : Result (StateHeader × StateSummary) ProtocolError} → r ≡ read_state s → (r ≡ read_state s) × StateWithin s r
-unfolding read_state state_answer state_fault
+unfolding read_state state_fault
 state-promised s e = (e, rw e (go (decide (Ok tt) (state_rows s)) refl))
   where
-    go : (k : Check) → decide (Ok tt) (state_rows s) ≡ k → StateWithin s (state_answer k (state_header_of s) (summary_of (state_entries s)))
+    go : (k : Check) → decide (Ok tt) (state_rows s) ≡ k → StateWithin s (k then Ok (state_header_of s, summary_of (state_entries s)))
     go (Ok _) h = state-within s (passed-all-pass (state_rows s) h)
     go (Err x) h = tt
 

@@ -10,14 +10,16 @@ use native.Mathlib.Nat.{add-zero, zero-add}
 use native.Mathlib.Omega.{arith}
 use borrow.Author.Tests.{leb-true, leb-false}
 use lib.Dec.{leb}
-use Rattle.protocol.specs.Rows.{Row, AllPass, decide, ◌▷◌, check_number, Check}
+use Rattle.protocol.specs.Rows.{Row, AllPass, ◌then◌, decide, check_number, Check}
 use Rattle.protocol.specs.declared.error.ProtocolError.TheVariants.{AuxTooLong}
 use Rattle.protocol.proofs.AllPass.{all-pass-append, all-pass-split}
 use Rattle.protocol.proofs.Each.{Each, each-cond}
 use Rattle.protocol.proofs.GivenNumber.{Other, others-not, given-either, given-between}
 use Rattle.account_state.specs.Fields.{recovery_enabled, entry_count_of, entry_bytes_of, aux_length_of, aux_max_length}
 use Rattle.account_state.specs.Reading.{state_entries}
-use Rattle.account_state.specs.State.{state_header_rows, entry_layout_rows, entry_field_rows, original_entry_rows, aux_limit_row, entry_rows, entries_rows, recovery_threshold_rows, threshold_rows, state_end_rows, state_tail_rows, state_rows, state_fault, state_header_of, summary_of, state_answer, read_state, state_number, entry_cursor_at}
+use Rattle.account_state.specs.State.{state_header_rows, entry_layout_rows, entry_field_rows, original_entry_rows, aux_limit_row, entry_rows, entries_rows, recovery_threshold_rows, threshold_rows, state_end_rows, state_tail_rows, state_rows, state_fault, state_header_of, summary_of, read_state, entry_cursor_at}
+use Rattle.account_state.specs.declared.header.StateHeader.{StateHeader}
+use Rattle.account_state.specs.declared.walk.StateSummary.{StateSummary}
 use Rattle.account_state.specs.AuxRefused.{AuxRefused}
 use Rattle.account_state.proofs.Steps.{from, rows-unrolled}
 
@@ -46,10 +48,10 @@ tail-other s n e = search (arith, recovery-other) depth 12
 
 -- the row of the limit alone
 limit-44 : (aux : ℕ) → (check_number (decide (Ok tt) (aux_limit_row aux ∷ [])) ≡ 44) ↔ (aux_max_length < aux)
-unfolding decide ◌▷◌
+unfolding decide
 limit-44 aux = go (leb aux aux_max_length) refl
   where
-    go : (b : Bool) → leb aux aux_max_length ≡ b → (check_number (cond b (Ok tt) (Err AuxTooLong)) ≡ 44) ↔ (aux_max_length < aux)
+    go : (b : Bool) → leb aux aux_max_length ≡ b → (check_number {A = Unit} (cond b (Ok tt) (Err AuxTooLong)) ≡ 44) ↔ (aux_max_length < aux)
     go true h = (λ q. absurd (omega arith), λ l. absurd (omega (arith, leb-true aux aux_max_length h)))
     go false h = (λ q. leb-false aux aux_max_length h, λ l. refl)
 
@@ -139,10 +141,10 @@ module _ (s : List ℕ) where
       )
 
   -- The theorem: the reader gives 44 exactly there.
-  pub state-forty-four : (state_number (read_state s) ≡ 44) ↔ AuxRefused s
-  unfolding read_state state_fault state_answer
+  pub state-forty-four : (check_number (read_state s) ≡ 44) ↔ AuxRefused s
+  unfolding read_state state_fault
   state-forty-four = go (decide (Ok tt) (state_rows s)) rows-forty-four
     where
-      go : (k : Check) → (check_number k ≡ 44) ↔ AuxRefused s → (state_number (state_answer k (state_header_of s) (summary_of (state_entries s))) ≡ 44) ↔ AuxRefused s
+      go : (k : Check) → (check_number k ≡ 44) ↔ AuxRefused s → (check_number {A = StateHeader × StateSummary} (k then Ok (state_header_of s, summary_of (state_entries s))) ≡ 44) ↔ AuxRefused s
       go (Ok _) h = h
       go (Err e) h = h

@@ -5,14 +5,14 @@ use Rattle.std.specs.Prelude.{Err, Ok}
 use mathlib.Core.Path.{◌≡◌, refl, sym, ap, ◌∙◌}
 use mathlib.Core.List.{List}
 use Prim.Native.Nat.{ℕ}
-use native.Mathlib.Omega.{arith}
 use Rattle.octets.specs.Le.{Bytes}
-use Rattle.protocol.specs.Rows.{AllPass, Check}
+use Rattle.protocol.specs.Rows.{AllPass}
 use Rattle.protocol.specs.Reading.{OneReading}
 use Rattle.protocol.proofs.AllPass.{passed-all-pass}
+use Rattle.protocol.proofs.Answers.{then-given}
 use Rattle.account_state.specs.Fields.{entry_count_of, entry_bytes_of}
-use Rattle.account_state.specs.Reading.{state_bytes, state_reading, StateTyped}
-use Rattle.account_state.specs.State.{state_rows, state_fault, state_header_of, state_answer, read_state, state_header_answer, read_state_header, StateHeaderGives, StateGives}
+use Rattle.account_state.specs.Reading.{state_bytes, state_entries, state_reading, StateTyped}
+use Rattle.account_state.specs.State.{state_rows, state_fault, state_header_of, summary_of, read_state, read_state_header, StateHeaderGives, StateGives}
 use Rattle.account_state.specs.declared.header.StateHeader.{StateHeader}
 use Rattle.account_state.specs.declared.walk.StateSummary.{StateSummary}
 use Rattle.account_state.proofs.Accepted.{valid-fault}
@@ -39,27 +39,15 @@ header_of s =
       count = sym (length-entries (entry_count_of s) (entry_bytes_of s));
     }
 
--- an answer that gives a header gives the one it was made from
-header-same : (k : Check) (g h : StateHeader) → state_header_answer k g ≡ Ok h → g ≡ h
-unfolding state_header_answer
-header-same (Ok _) g h e = cc
-header-same (Err x) g h e = absurd (let z : ◌≡◌ {A = ℕ} 0 1 = cc in omega arith)
-
--- and so does an answer that gives a valid state
-valid_same : (k : Check) (g h : StateHeader) (t u : StateSummary) → state_answer k g t ≡ Ok (h, u) → (g ≡ h) × (t ≡ u)
-unfolding state_answer
-valid_same (Ok _) g h t u e = (cc, cc)
-valid_same (Err x) g h t u e = absurd (let z : ◌≡◌ {A = ℕ} 0 1 = cc in omega arith)
-
 -- the header that the header's reader hands out has the reading's fields
 pub state-header-gives : (s : List ℕ) (h : StateHeader) → read_state_header s ≡ Ok h → StateHeaderGives s h
 unfolding read_state_header
-state-header-gives s h e = rw (sym (header-same _ (state_header_of s) h e)) (header_of s)
+state-header-gives s h e = rw (sym (then-given _ _ h e).1) (header_of s)
 
 -- a state that the reader accepts passes every check, and what the readers hand out is its one reading
 pub state-given : (s : List ℕ) (h : StateHeader) (t : StateSummary) → read_state s ≡ Ok (h, t) → AllPass (state_rows s) × StateGives s h t
 unfolding read_state state_fault state_reading state_header_of
 state-given s h t e =
-    let z = valid_same _ (state_header_of s) h _ t e in
+    let z : (state_header_of s, summary_of (state_entries s)) ≡ (h, t) = (then-given _ _ (h, t) e).1 in
     let p = passed-all-pass (state_rows s) (valid-fault s h t e) in
-    (p, rw (sym z.0) (record { header = header_of s; weights = z.1; entries = steps s p; ended = steps-end s p }))
+    (p, rw (ap (λ (x : StateHeader × StateSummary). x.0) (sym z)) (record { header = header_of s; weights = ap (λ (x : StateHeader × StateSummary). x.1) z; entries = steps s p; ended = steps-end s p }))

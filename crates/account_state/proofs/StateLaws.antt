@@ -8,14 +8,16 @@ use native.Mathlib.Omega.{arith}
 use lib.ListN.{length, take, drop}
 use lib.Seq.{take-take}
 use Rattle.octets.specs.Le.{from_le, number_at}
-use Rattle.protocol.specs.Rows.{decide, Check}
+use Rattle.protocol.specs.Rows.{decide}
 use Rattle.protocol.specs.declared.error.ProtocolError.{ProtocolError}
-use Rattle.protocol.proofs.AllPass.{passed-all-pass, decide-append, decide-failed}
+use Rattle.protocol.proofs.AllPass.{passed-all-pass, decide-both, decide-failed}
+use Rattle.protocol.proofs.Answers.{then-given, then-refused}
+use Rattle.account_state.proofs.AuxLimit.{state-within}
 use Rattle.account_state.proofs.Passed.{header-passed}
 use Rattle.account_state.specs.Fields.{entry_count_of, entry_bytes_of}
-use Rattle.account_state.specs.Reading.{entries_of}
-use Rattle.account_state.specs.State.{state_header_rows, entries_rows, state_tail_rows, state_rows, state_fault, summary_of}
-use Rattle.account_state.specs.EntriesWalk.{entries_walk_answer, entries_walk_of, walk_entries, end_fault}
+use Rattle.account_state.specs.Reading.{entries_of, state_reading, AuxWithin}
+use Rattle.account_state.specs.State.{state_header_rows, entries_rows, state_end_rows, state_tail_rows, state_rows, state_fault, summary_of}
+use Rattle.account_state.specs.EntriesWalk.{entries_walk_of, walk_entries}
 use Rattle.account_state.specs.declared.walk.EntriesWalk.{EntriesWalk}
 
 -- a number at the front of the bytes
@@ -35,28 +37,31 @@ head-room s h = let z = header-passed s (passed-all-pass _ h) in (z.present, z.c
 
 pub fault-head : (s : List ℕ) (e : ProtocolError) → decide (Ok tt) (state_header_rows s) ≡ Err e → state_fault s ≡ Err e
 unfolding state_fault state_rows
-fault-head s e h = decide-append (Ok tt) (state_header_rows s) _ ∙ rw h (decide-failed _ e)
+fault-head s e h = rw (decide-both, h)
 
-walked-passed : (k : Check) (v w : EntriesWalk) → entries_walk_answer k v ≡ Ok w → (k ≡ Ok tt) × (v ≡ w)
-unfolding entries_walk_answer
-walked-passed (Ok _) v w h = (refl, cc)
-walked-passed (Err e) v w h = absurd (let z : ◌≡◌ {A = ℕ} 0 1 = cc in omega arith)
+pub fault-entries : (s : List ℕ) (e : ProtocolError) → walk_entries (entry_count_of s) (entry_bytes_of s) ≡ Err e
+    → decide (Ok tt) (state_header_rows s) ≡ Ok tt → state_fault s ≡ Err e
+unfolding state_fault state_rows walk_entries
+fault-entries s e w h =
+    let k = then-refused _ _ e w in
+    rw (decide-both, decide-both, h, k)
 
-walked-failed : (k : Check) (v : EntriesWalk) (e : ProtocolError) → entries_walk_answer k v ≡ Err e → k ≡ Err e
-unfolding entries_walk_answer
-walked-failed (Ok _) v e h = absurd (let z : ◌≡◌ {A = ℕ} 0 1 = cc in omega arith)
-walked-failed (Err x) v e h = cc
+pub fault-end : (s : List ℕ) (w : EntriesWalk) → walk_entries (entry_count_of s) (entry_bytes_of s) ≡ Ok w
+    → decide (Ok tt) (state_header_rows s) ≡ Ok tt
+    → (state_fault s ≡ decide (Ok tt) (state_end_rows s w.tail w.summary)) × (summary_of (entries_of (entry_count_of s) (entry_bytes_of s)) ≡ w.summary)
+unfolding state_fault state_rows state_tail_rows walk_entries entries_walk_of summary_of
+fault-end s w k h =
+    let z = then-given _ _ w k in
+    (rw (decide-both, decide-both, h, z.0, ← z.1), ap (λ (v : EntriesWalk). v.summary) z.1)
 
-module _ (s : List ℕ) (h : decide (Ok tt) (state_header_rows s) ≡ Ok tt) where
-  pub fault-entries : (e : ProtocolError) → walk_entries (entry_count_of s) (entry_bytes_of s) ≡ Err e → state_fault s ≡ Err e
-  unfolding state_fault state_rows walk_entries
-  fault-entries e w =
-      let k = walked-failed _ _ e w in
-      decide-append (Ok tt) (state_header_rows s) _ ∙ rw h (decide-append (Ok tt) (entries_rows (entry_count_of s) (entry_bytes_of s) 0) _ ∙ rw k (decide-failed _ e))
+-- a state without a fault keeps the limit of aux
+pub fault-within : (s : List ℕ) → state_fault s ≡ Ok tt → AuxWithin (state_reading s).entries
+unfolding state_fault
+fault-within s h = state-within s (passed-all-pass (state_rows s) h)
 
-  pub fault-end : (w : EntriesWalk) → walk_entries (entry_count_of s) (entry_bytes_of s) ≡ Ok w
-      → (state_fault s ≡ end_fault s w) × (summary_of (entries_of (entry_count_of s) (entry_bytes_of s)) ≡ w.summary)
-  unfolding state_fault state_rows state_tail_rows walk_entries entries_walk_of end_fault summary_of
-  fault-end w k =
-      let z = walked-passed _ _ w k in
-      (decide-append (Ok tt) (state_header_rows s) _ ∙ rw h (decide-append (Ok tt) (entries_rows (entry_count_of s) (entry_bytes_of s) 0) _ ∙ rw (z.0, ← z.1)), ap (λ (v : EntriesWalk). v.summary) z.1)
+-- for the check's own search
+pub ruleset fronts = (front-number)
+
+pub ruleset heads = (head-room)
+
+pub ruleset faults = (head-room, fault-head, fault-entries, fault-end, fault-within)

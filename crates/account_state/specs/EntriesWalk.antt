@@ -1,26 +1,18 @@
 -- Private: no public contract cites this file.
 -- What the walk over the entries gives: their weights and the count of bytes behind them, or the first refusal.
-use Rattle.std.specs.Prelude.{ℕ, ◌+◌, ◌*◌, ◌≤◌, List, length, Err, Ok, Result}
+use Rattle.std.specs.Prelude.{ℕ, ◌+◌, ◌*◌, ◌≤◌, List, length, Ok, Result}
 use Rattle.protocol.specs.declared.error.ProtocolError.{ProtocolError}
-use Rattle.protocol.specs.Rows.{decide, Check}
+use Rattle.protocol.specs.Rows.{◌then◌, decide}
 use Rattle.account_state.specs.Reading.{entries_of, capable_share}
-use Rattle.account_state.specs.State.{entries_rows, behind_entries, state_end_rows, summary_of}
+use Rattle.account_state.specs.State.{entries_rows, behind_entries, summary_of}
 use Rattle.account_state.specs.declared.walk.StateSummary.{StateSummary}
 use Rattle.account_state.specs.declared.walk.EntriesWalk.{EntriesWalk}
-
-unfoldable pub entries_walk_answer : Check → EntriesWalk → Result EntriesWalk ProtocolError
-entries_walk_answer (Ok _) w = Ok w
-entries_walk_answer (Err e) w = Err e
 
 unfoldable pub entries_walk_of : ℕ → List ℕ → EntriesWalk
 entries_walk_of n e = record { tail = length (behind_entries n e); summary = summary_of (entries_of n e) }
 
 unfoldable pub walk_entries : ℕ → List ℕ → Result EntriesWalk ProtocolError
-walk_entries n e = entries_walk_answer (decide (Ok tt) (entries_rows n e 0)) (entries_walk_of n e)
-
--- what the checks after the last entry find
-unfoldable pub end_fault : List ℕ → EntriesWalk → Check
-end_fault s w = decide (Ok tt) (state_end_rows s w.tail w.summary)
+walk_entries n e = decide (Ok tt) (entries_rows n e 0) then Ok (entries_walk_of n e)
 
 -- the weights with one entry's added
 unfoldable pub with_entry : StateSummary → ℕ → ℕ → StateSummary

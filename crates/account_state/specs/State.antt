@@ -1,9 +1,8 @@
 -- The checks of an account state, in document 01's order, and what its readers give.
 use Rattle.std.specs.Prelude.{◌≡◌, ℕ, zero, suc, ◌+◌, ◌≤◌, ◌<◌, cond, List, [], ◌∷◌, ◌++◌, length, take, drop, get_or, leb, eqb, Err, Ok, Result}
 use Rattle.protocol.specs.declared.error.ProtocolError.{ProtocolError}
-use Rattle.protocol.specs.Errors.{error_number}
 use Rattle.protocol.specs.Policy.{is_supported_algorithm}
-use Rattle.protocol.specs.Rows.{Row, row, decide, Check}
+use Rattle.protocol.specs.Rows.{Row, row, ◌then◌, decide, Check}
 use Rattle.protocol.specs.declared.error.ProtocolError.TheVariants.{InvalidState, InvalidVerifierRef, UnsupportedVersion, UnsupportedAlgorithm, UnsatisfiableThreshold, AuxTooLong}
 use Rattle.account_state.specs.Fields.{state_magic_of, state_version_of, flags_of, state_flags_known_mask, recovery_enabled, state_header_length_of, sequence_of, spend_threshold_of, rotate_threshold_of, recovery_threshold_of, entry_count_of, state_reserved_of, recovery_since_of, entry_length_of, entry_slot_of, algorithm_of, capabilities_of, cap_known_mask, weight_of, hash_type_of, abi_of, code_hash_offset, key_offset, key_length_of, aux_length_of, aux_max_length, entry_bytes_of}
 use Rattle.account_state.specs.Reading.{EntryReading, state_magic, entries_of, state_entries, state_reading, capable_weight, AuxWithin}
@@ -136,12 +135,8 @@ state_header_of s =
       recovery_since = recovery_since_of s;
     }
 
-unfoldable pub state_header_answer : Check → StateHeader → Result StateHeader ProtocolError
-state_header_answer (Ok _) h = Ok h
-state_header_answer (Err e) h = Err e
-
 unfoldable pub read_state_header : List ℕ → Result StateHeader ProtocolError
-read_state_header s = state_header_answer (decide (Ok tt) (state_header_rows s)) (state_header_of s)
+read_state_header s = decide (Ok tt) (state_header_rows s) then Ok (state_header_of s)
 
 -- the header that the reader gives has the reading's fields and the count of its entries
 pub record StateHeaderGives (s : List ℕ) (h : StateHeader) : Type 0 where
@@ -177,13 +172,9 @@ first_entry = record { offset = 32; least = 0 }
 unfoldable pub entry_cursor_behind : List ℕ → ℕ → EntryCursor
 entry_cursor_behind s at = record { offset = at + entry_length_of (drop at s); least = entry_slot_of (drop at s) + 1 }
 
-unfoldable pub entry_step_answer : Check → AuthenticatorEntry → EntryCursor → Result (AuthenticatorEntry × EntryCursor) ProtocolError
-entry_step_answer (Ok _) e c = Ok (e, c)
-entry_step_answer (Err x) e c = Err x
-
 unfoldable pub entry_step : List ℕ → EntryCursor → Result (AuthenticatorEntry × EntryCursor) ProtocolError
 entry_step s c =
-    entry_step_answer (decide (Ok tt) (entry_rows (drop c.offset s) c.least)) (entry_at s c.offset) (entry_cursor_behind s c.offset)
+    decide (Ok tt) (entry_rows (drop c.offset s) c.least) then Ok (entry_at s c.offset, entry_cursor_behind s c.offset)
 
 -- 02, change 6: what a step hands out keeps the limit
 abbrev pub StepWithin : Result (AuthenticatorEntry × EntryCursor) ProtocolError → Type 0
@@ -218,12 +209,8 @@ pub record EntryStepGives (s : List ℕ) (i : ℕ) : Type 0 where
   pub reading : (d : EntryReading) → get_or (state_reading s).entries i d ≡ entry_reading s (entry_at s (entry_cursor_at s i).offset)
 
 -- what the state's reader gives
-unfoldable pub state_answer : Check → StateHeader → StateSummary → Result (StateHeader × StateSummary) ProtocolError
-state_answer (Ok _) h t = Ok (h, t)
-state_answer (Err e) h t = Err e
-
 unfoldable pub read_state : List ℕ → Result (StateHeader × StateSummary) ProtocolError
-read_state s = state_answer (state_fault s) (state_header_of s) (summary_of (state_entries s))
+read_state s = state_fault s then Ok (state_header_of s, summary_of (state_entries s))
 
 -- 02, change 6: the reader takes its limit "and says so to all above it": the reading of an accepted state keeps it
 abbrev pub StateWithin : List ℕ → Result (StateHeader × StateSummary) ProtocolError → Type 0
@@ -242,16 +229,3 @@ pub record StateGives (s : List ℕ) (h : StateHeader) (t : StateSummary) : Type
   pub weights : summary_of (state_reading s).entries ≡ t
   pub entries : (i : ℕ) → i < h.authenticator_count → EntryStepGives s i
   pub ended : (entry_cursor_at s h.authenticator_count).offset ≡ length s
-
--- document 01's number of each answer, 0 where it is accepted
-abbrev pub state_header_number : Result StateHeader ProtocolError → ℕ
-state_header_number (Ok h) = 0
-state_header_number (Err e) = error_number e
-
-abbrev pub entry_step_number : Result (AuthenticatorEntry × EntryCursor) ProtocolError → ℕ
-entry_step_number (Ok (e, c)) = 0
-entry_step_number (Err x) = error_number x
-
-abbrev pub state_number : Result (StateHeader × StateSummary) ProtocolError → ℕ
-state_number (Ok (h, t)) = 0
-state_number (Err e) = error_number e

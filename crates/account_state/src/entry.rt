@@ -3,9 +3,15 @@ ghost use Rattle.std.specs.Prelude.{◌≡◌, ◌+◌, ◌≤◌, length, Ok};
 ghost use Rattle.protocol.specs.Rows.{decide};
 ghost use Rattle.account_state.specs.State.{entry_layout_rows, entry_field_rows, entry_fields_of, entry_rows, entry_at, first_entry, entry_cursor_behind, entry_step, StepWithin};
 
-use crate::fields::{CODE_HASH_OFFSET, KEY_OFFSET, abi_of, algorithm_of, aux_length_of, capabilities_of, entry_length_of, entry_slot_of, hash_type_of, key_length_of, weight_of};
+use crate::fields::{
+    CODE_HASH_OFFSET, KEY_OFFSET, abi_of, algorithm_of, aux_length_of, capabilities_of,
+    entry_length_of, entry_slot_of, hash_type_of, key_length_of, weight_of,
+};
 use octets::rest;
-use protocol::{ACCOUNT_STATE_HEADER_LEN, ACCOUNT_STATE_MAX_AUX_LEN, CAP_KNOWN_MASK, ProtocolError, VERIFIER_ABI_V1, is_supported_algorithm, require};
+use protocol::{
+    ACCOUNT_STATE_HEADER_LEN, ACCOUNT_STATE_MAX_AUX_LEN, CAP_KNOWN_MASK, ProtocolError,
+    VERIFIER_ABI_V1, is_supported_algorithm, require,
+};
 
 // Where the next entry begins, and the least slot that it may have: one above its predecessor's.
 #[derive(Drop)]
@@ -55,6 +61,7 @@ impl EntryCursor {
 }
 
 // The lengths and the slot of the entry at the front of the bytes, which have its 48.
+#[tactic(auto, unfolding(protocol::specs::Rows::decide, crate::specs::State::entry_layout_rows))]
 fn check_layout(entry: &[u8], least: u32) -> Result<(), ProtocolError>
     requires { 48 ≤ length entry.now }
     ensures { result ≡ decide (Ok tt) (entry_layout_rows entry.now least) }
@@ -69,24 +76,22 @@ fn check_layout(entry: &[u8], least: u32) -> Result<(), ProtocolError>
 
 // The checks of an entry's fields, where it is read or is to be written. The algorithm is looked up once the checks before it
 // passed, so that nothing has to be kept of it.
-pub fn check_entry_fields(check: Result<(), ProtocolError>, fields: EntryFields) -> Result<(), ProtocolError>
-    ensures { result ≡ decide check (entry_field_rows fields) }
+#[tactic(auto, unfolding(protocol::specs::Rows::decide, crate::specs::State::entry_field_rows))]
+pub fn check_entry_fields(fields: EntryFields) -> Result<(), ProtocolError>
+    ensures { result ≡ decide (Ok tt) (entry_field_rows fields) }
 {
     let invalid = ProtocolError::InvalidState;
     let verifier = ProtocolError::InvalidVerifierRef;
-    let first = check
-        .require(1 <= fields.weight, invalid)
-        .require(fields.capabilities <= CAP_KNOWN_MASK, invalid)
-        .require(fields.verifier_hash_type <= 1, verifier)
-        .require(fields.verifier_abi == VERIFIER_ABI_V1, verifier);
-    first?;
-    Ok(())
-            .require(
-                is_supported_algorithm(fields.algorithm_id),
-                ProtocolError::UnsupportedAlgorithm,
-            )
-            .require(fields.key_len == 32, invalid)
-            .require(1 <= fields.aux_len, invalid)
+    require(1 <= fields.weight, invalid)?;
+    require(fields.capabilities <= CAP_KNOWN_MASK, invalid)?;
+    require(fields.verifier_hash_type <= 1, verifier)?;
+    require(fields.verifier_abi == VERIFIER_ABI_V1, verifier)?;
+    require(
+        is_supported_algorithm(fields.algorithm_id),
+        ProtocolError::UnsupportedAlgorithm,
+    )?;
+    require(fields.key_len == 32, invalid)?;
+    require(1 <= fields.aux_len, invalid)
 }
 
 fn entry_fields_of(entry: &[u8]) -> EntryFields
@@ -103,19 +108,22 @@ fn entry_fields_of(entry: &[u8]) -> EntryFields
     }
 }
 
-// The first row stands alone, so that no read behind it looks for the end of the bytes.
+// The length comes first, so that no read behind it looks for the end of the bytes.
+#[tactic(auto, using(protocol::proofs::AllPass::deciding), unfolding(protocol::specs::Rows::decide, crate::specs::State::entry_rows, crate::specs::State::original_entry_rows, crate::specs::State::entry_layout_rows))]
 pub(crate) fn check_entry(entry: &[u8], least: u32) -> Result<(), ProtocolError>
     ensures { result ≡ decide (Ok tt) (entry_rows entry.now least) }
 {
-    if entry.len() < 48 {
-        return Err(ProtocolError::InvalidState);
-    }
-    check_entry_fields(check_layout(entry, least), entry_fields_of(entry))?;
-    require(aux_length_of(entry) as usize <= ACCOUNT_STATE_MAX_AUX_LEN,
-        ProtocolError::AuxTooLong)
+    require(48 <= entry.len(), ProtocolError::InvalidState)?;
+    check_layout(entry, least)?;
+    check_entry_fields(entry_fields_of(entry))?;
+    require(
+        aux_length_of(entry) as usize <= ACCOUNT_STATE_MAX_AUX_LEN,
+        ProtocolError::AuxTooLong,
+    )
 }
 
 // The fields of an entry at a place whose first 48 bytes the state has.
+#[tactic(auto, unfolding(crate::specs::State::entry_at))]
 fn entry_at(state: &[u8], at: usize) -> AuthenticatorEntry
     requires { at + 48 ≤ length state.now }
     ensures { result ≡ entry_at state.now at }
@@ -137,6 +145,7 @@ fn entry_at(state: &[u8], at: usize) -> AuthenticatorEntry
     }
 }
 
+#[tactic(auto, unfolding(crate::specs::State::entry_cursor_behind))]
 fn cursor_behind(state: &[u8], at: usize) -> EntryCursor
     requires { at + 48 ≤ length state.now }
     ensures { result ≡ entry_cursor_behind state.now at }
@@ -149,7 +158,11 @@ fn cursor_behind(state: &[u8], at: usize) -> EntryCursor
 }
 
 // The entry at the cursor, and the cursor behind it.
-pub fn next_entry(state: &[u8], cursor: EntryCursor) -> Result<(AuthenticatorEntry, EntryCursor), ProtocolError>
+#[tactic(auto, using(crate::proofs::EntriesWalkLaws::passing), unfolding(crate::specs::State::entry_step, crate::specs::State::entry_at))]
+pub fn next_entry(
+    state: &[u8],
+    cursor: EntryCursor,
+) -> Result<(AuthenticatorEntry, EntryCursor), ProtocolError>
     ensures value { result ≡ entry_step state.now cursor }
     ensures step_within { StepWithin result }
 {

@@ -8,7 +8,7 @@ use crate::entry::check_entry;
 use crate::fields::{capabilities_of, entry_length_of, entry_slot_of, weight_of};
 use protocol::{ACCOUNT_STATE_HEADER_LEN, CAP_RECOVERY, CAP_ROTATE, CAP_SPEND, ProtocolError};
 
-#[derive(Clone, Copy)]
+#[derive(Clone, Copy, Default)]
 pub struct StateSummary {
     pub spend_weight: u32,
     pub rotate_weight: u32,
@@ -32,41 +32,36 @@ pub fn capable_share(bit: u16, capabilities: u16, weight: u16) -> u32
     (capabilities / bit % 2) as u32 * weight as u32
 }
 
-fn with_entry(summary: StateSummary, capabilities: u16, weight: u16) -> StateSummary
-    requires { Light 1 summary }
-    ensures { result ≡ with_entry summary capabilities weight }
-{
-    StateSummary {
-        spend_weight: summary.spend_weight + capable_share(CAP_SPEND, capabilities, weight),
-        rotate_weight: summary.rotate_weight + capable_share(CAP_ROTATE, capabilities, weight),
-        recovery_weight: summary.recovery_weight
-            + capable_share(CAP_RECOVERY, capabilities, weight),
+impl StateSummary {
+    // With an entry's weight added to that of each capability that it has.
+    #[tactic(auto, unfolding(crate::specs::EntriesWalk::with_entry))]
+    fn with_entry(self, capabilities: u16, weight: u16) -> StateSummary
+        requires { Light 1 self }
+        ensures { result ≡ with_entry self capabilities weight }
+    {
+        let share = |bit| capable_share(bit, capabilities, weight);
+        StateSummary {
+            spend_weight: self.spend_weight + share(CAP_SPEND),
+            rotate_weight: self.rotate_weight + share(CAP_ROTATE),
+            recovery_weight: self.recovery_weight + share(CAP_RECOVERY),
+        }
     }
 }
 
+#[tactic(auto, using(crate::proofs::EntriesWalkLaws::passing))]
 pub(crate) fn walk_entries(state: &[u8], count: u8) -> Result<EntriesWalk, ProtocolError>
     requires { (32 ≤ length state.now) × (count ≤ 16) }
     ensures { result ≡ walk_entries count (entry_bytes_of state.now) }
 {
     let mut entry = &state[ACCOUNT_STATE_HEADER_LEN..];
-    let mut least: u32 = 0;
-    let mut summary = StateSummary {
-        spend_weight: 0,
-        rotate_weight: 0,
-        recovery_weight: 0,
-    };
-    let mut left = count;
-    while 0 < left {
-        match check_entry(entry, least) {
-            Err(error) => return Err(error),
-            Ok(()) => {
-                summary = with_entry(summary, capabilities_of(entry), weight_of(entry));
-                least = entry_slot_of(entry) as u32 + 1;
-                let len = entry_length_of(entry) as usize;
-                entry = &entry[len..];
-            }
-        }
-        left -= 1;
+    let mut least = 0;
+    let mut summary = StateSummary::default();
+    for _ in 0..count {
+        check_entry(entry, least)?;
+        summary = summary.with_entry(capabilities_of(entry), weight_of(entry));
+        least = entry_slot_of(entry) as u32 + 1;
+        let len = entry_length_of(entry) as usize;
+        entry = &entry[len..];
     }
     Ok(EntriesWalk {
         tail: entry.len(),

@@ -1,5 +1,0 @@
--- `account_state::fields::rotate_threshold_of` meets its contract. Assumes nothing.
-use Rattle.account_state.proofs.fields.rotate_threshold_of.Goals as goal
-
-pub returns : goal.returns
-returns c = c.u16_at.ensures
