@@ -1,6 +1,6 @@
 -- What a line's fields give together, at its first field. Assumes nothing.
 use Prim.Native.Nat.{ℕ, ◌+◌}
-use mathlib.Core.Bool.{Bool, ◌&&◌, and_assoc}
+use mathlib.Core.Bool.{Bool, true, false}
 use mathlib.Core.Path.{◌≡◌, refl, sym}
 use mathlib.Core.List.{List, ◌∷◌, ◌++◌}
 use lib.ListN.{length, length-append}
@@ -9,12 +9,16 @@ use Rattle.octets.proofs.Stores.{sets-append}
 use Rattle.scene_line.specs.declared.form.Form.{Form}
 use Rattle.scene_line.specs.Line.{next_form, field_ok, bare_after, forms_ok, field_bytes, line_bytes, field_entries, line_entries}
 
--- a turn of a loop that keeps whether all fields so far have their forms
-pub forms-next : (t : Form) (P ps : List (List ℕ)) (f : List ℕ) → P ≡ f ∷ ps → (b ok r : Bool) → r ≡ field_ok b t f
-    → (ok && forms_ok b t P) ≡ ((ok && r) && forms_ok (bare_after b t f) (next_form t) ps)
+-- the first field has its form, and the others decide
+pub forms-next : (t : Form) (P ps : List (List ℕ)) (f : List ℕ) → P ≡ f ∷ ps → (b : Bool) → field_ok b t f ≡ true
+    → forms_ok b t P ≡ forms_ok (bare_after b t f) (next_form t) ps
 unfolding forms_ok
-forms-next t P ps f cut b ok r e =
-    rw (cut, e) (sym (and_assoc ok (field_ok b t f) (forms_ok (bare_after b t f) (next_form t) ps)))
+forms-next t P ps f cut b e = rw (cut, e)
+
+-- or it has not
+pub forms-off : (t : Form) (P ps : List (List ℕ)) (f : List ℕ) → P ≡ f ∷ ps → (b : Bool) → field_ok b t f ≡ false → forms_ok b t P ≡ false
+unfolding forms_ok
+forms-off t P ps f cut b e = rw (cut, e)
 
 -- What fields give end to end: whole is one after another, by form.
 module _ (one : Form → List ℕ → List ℕ) (whole : Form → List (List ℕ) → List ℕ)

@@ -6,7 +6,6 @@ use Rattle.text.specs.Text.{in_range, hex_ok, hex_val, hex_bytes, decimal_of, nu
 use Rattle.protocol.specs.Limits.{digits_max_count}
 use Rattle.scene_line.specs.declared.form.Form.{Form}
 use Rattle.scene_line.specs.declared.form.Form.TheVariants.{Group, Since, TypeHash, Hash, TypeScript, Hex, Capacity, Digits}
-use Rattle.scene_line.specs.declared.fields.FieldsFound.{FieldsFound}
 
 -- 01: "`input,GROUP,SINCE,TYPEHASH,DATAHASH,TYPESCRIPT,DATA`; `output,` and `dep,` each with the last four"; 02, change 9:
 -- "Input and output lines end with a new field CAPACITY": the form of the next field
@@ -94,6 +93,6 @@ unfoldable pub line_entries : Form → List (List ℕ) → List ℕ
 line_entries t [] = []
 line_entries t (f ∷ fs) = field_entries t f ++ line_entries (next_form t) fs
 
--- what a line's fields are: the row for 3, and how many bytes the row for 6 asks room for
-unfoldable pub fields_found : Form → List (List ℕ) → FieldsFound
-fields_found t fs = record { ok = forms_ok true t fs; bytes = length (line_bytes t fs) }
+-- what a line's fields are: the row for 3, and where that passes how many bytes the row for 6 asks room for
+unfoldable pub fields_found : Form → List (List ℕ) → Option ℕ
+fields_found t fs = cond (forms_ok true t fs) (Some (length (line_bytes t fs))) None

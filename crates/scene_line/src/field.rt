@@ -1,96 +1,48 @@
 // Whether a field has its form, and how many bytes it has.
 ghost use Rattle.std.specs.Prelude.{◌≡◌, ◌≤◌, length};
-ghost use Rattle.text.specs.Text.{decimal_of};
-ghost use Rattle.scene_line.specs.Line.{is_number, hash_text_ok, field_ok, bare_after, field_bytes};
+ghost use Rattle.scene_line.specs.Line.{hash_text_ok, field_ok, bare_after, field_bytes};
 
-use crate::form::{Form, hex_form};
+use crate::form::Form;
 use protocol::DIGITS_MAX_COUNT;
 use text::{all_between, hex_ok, read_decimal};
 
-fn number_ok(f: &[u8]) -> bool
-    ensures { result ≡ is_number (decimal_of f.now) }
+fn hash_ok(field: &[u8]) -> bool
+    ensures { result ≡ hash_text_ok field.now }
 {
-    match read_decimal(f) {
-        Some(_) => true,
-        None => false,
+    field.len() == 64 && hex_ok(field)
+}
+
+// Whether a field has this form. bare: the line's TYPEHASH is empty.
+pub(crate) fn field_ok(bare: bool, form: Form, field: &[u8]) -> bool
+    ensures { result ≡ field_ok bare form field.now }
+{
+    match form {
+        Form::Group => field.len() == 1 && all_between(field, b'0', b'1'),
+        Form::Since | Form::Capacity => read_decimal(field).is_some(),
+        Form::TypeHash => field.is_empty() || hash_ok(field),
+        Form::Hash => hash_ok(field),
+        Form::TypeScript if bare => field.is_empty(),
+        Form::TypeScript => !field.is_empty() && hex_ok(field),
+        Form::Hex => hex_ok(field),
+        Form::Digits => field.len() <= DIGITS_MAX_COUNT && all_between(field, b'0', b'2'),
     }
 }
 
-fn hash_ok(f: &[u8]) -> bool
-    ensures { result ≡ hash_text_ok f.now }
+// Whether the line's TYPEHASH is empty, after a field of this form.
+pub(crate) fn bare_after(bare: bool, form: Form, field: &[u8]) -> bool
+    ensures { result ≡ bare_after bare form field.now }
 {
-    if f.len() != 64 {
-        return false;
-    }
-    hex_ok(f)
-}
-
-fn type_script_ok(bare: bool, f: &[u8]) -> bool
-    ensures { result ≡ field_ok bare Form.TypeScript f.now }
-{
-    if bare {
-        return f.len() == 0;
-    }
-    if f.len() == 0 {
-        return false;
-    }
-    hex_ok(f)
-}
-
-// Whether f has the form t. bare: the line's TYPEHASH is empty.
-pub(crate) fn field_ok(bare: bool, t: Form, f: &[u8]) -> bool
-    ensures { result ≡ field_ok bare t f.now }
-{
-    match t {
-        Form::Group => {
-            if f.len() != 1 {
-                return false;
-            }
-            all_between(f, 48, 49)
-        }
-        Form::Since => number_ok(f),
-        Form::TypeHash => {
-            if f.len() == 0 {
-                return true;
-            }
-            hash_ok(f)
-        }
-        Form::Hash => hash_ok(f),
-        Form::TypeScript => type_script_ok(bare, f),
-        Form::Hex => hex_ok(f),
-        Form::Capacity => number_ok(f),
-        Form::Digits => {
-            if DIGITS_MAX_COUNT < f.len() {
-                return false;
-            }
-            all_between(f, 48, 50)
-        }
-    }
-}
-
-// Whether the line's TYPEHASH is empty, after the field f of form t.
-pub(crate) fn bare_after(bare: bool, t: Form, f: &[u8]) -> bool
-    ensures { result ≡ bare_after bare t f.now }
-{
-    match t {
-        Form::Group => bare,
-        Form::Since => bare,
-        Form::TypeHash => f.len() == 0,
-        Form::Hash => bare,
-        Form::TypeScript => bare,
-        Form::Hex => bare,
-        Form::Capacity => bare,
-        Form::Digits => bare,
+    match form {
+        Form::TypeHash => field.is_empty(),
+        _ => bare,
     }
 }
 
 // How many bytes a field has.
-pub(crate) fn field_size(t: Form, f: &[u8]) -> usize
-    ensures value { result ≡ length (field_bytes t f.now) }
-    ensures upper_bound { result ≤ length f.now }
+#[tactic(auto, unfolding(crate::specs::Line::field_bytes))]
+pub(crate) fn field_size(form: Form, field: &[u8]) -> usize
+    ensures value { result ≡ length (field_bytes form field.now) }
+    ensures upper_bound { result ≤ length field.now }
 {
-    if hex_form(t) {
-        return f.len() / 2;
-    }
-    0
+    if form.is_hex() { field.len() / 2 } else { 0 }
 }

@@ -14,34 +14,29 @@ pub enum Form {
     Digits,
 }
 
-// The form of the field behind one of form t.
-pub fn next_form(t: Form) -> Form
-    ensures { result ≡ next_form t }
-{
-    match t {
-        Form::Group => Form::Since,
-        Form::Since => Form::TypeHash,
-        Form::TypeHash => Form::Hash,
-        Form::Hash => Form::TypeScript,
-        Form::TypeScript => Form::Hex,
-        Form::Hex => Form::Capacity,
-        Form::Capacity => Form::Capacity,
-        Form::Digits => Form::Digits,
+impl Form {
+    // The form of the field behind one of this form.
+    pub fn next(self) -> Form
+        ensures { result ≡ next_form self }
+    {
+        match self {
+            Form::Group => Form::Since,
+            Form::Since => Form::TypeHash,
+            Form::TypeHash => Form::Hash,
+            Form::Hash => Form::TypeScript,
+            Form::TypeScript => Form::Hex,
+            Form::Hex | Form::Capacity => Form::Capacity,
+            Form::Digits => Form::Digits,
+        }
     }
-}
 
-// Whether fields of form t are hexadecimal.
-pub fn hex_form(t: Form) -> bool
-    ensures { result ≡ hex_form t }
-{
-    match t {
-        Form::Group => false,
-        Form::Since => false,
-        Form::TypeHash => true,
-        Form::Hash => true,
-        Form::TypeScript => true,
-        Form::Hex => true,
-        Form::Capacity => false,
-        Form::Digits => false,
+    // Whether fields of this form are hexadecimal.
+    pub fn is_hex(self) -> bool
+        ensures { result ≡ hex_form self }
+    {
+        matches!(
+            self,
+            Form::TypeHash | Form::Hash | Form::TypeScript | Form::Hex
+        )
     }
 }

@@ -6,6 +6,6 @@ mod field; // field.rt
 mod fields; // fields.rt
 mod kind; // kind.rt
 
-pub use self::fields::{FieldsFound, check_fields};
-pub use self::form::{Form, hex_form, next_form};
-pub use self::kind::{Kind, VERDICTS_RANK, first_form, line_kind, rank_of};
+pub use self::fields::check_fields;
+pub use self::form::Form;
+pub use self::kind::{Kind, line_kind};
