@@ -1,4 +1,5 @@
 -- A line's numbers fit into the table. Assumes nothing.
+use Rattle.std.specs.Prelude.{Option, None, Some}
 use Prim.Native.Nat.{ℕ, zero, suc, ◌+◌, ◌≤◌, ◌<◌}
 use mathlib.Core.Bool.{Bool, true, false, cond, not, ◌&&◌, false≢true}
 use mathlib.Core.Path.{◌≡◌, refl, sym, ◌∙◌}
@@ -13,7 +14,7 @@ use Rattle.octets.specs.Lists.{every}
 use Rattle.scene_line.specs.declared.form.Form.{Form}
 use Rattle.scene_line.specs.declared.form.Form.TheVariants.{Group, Since, TypeHash, Hash, TypeScript, Hex, Capacity, Digits}
 use Rattle.scene_line.specs.declared.kind.Kind.{Kind}
-use Rattle.scene_line.specs.declared.kind.Kind.TheVariants.{Script, Tx, Input, Output, Dep, Witness, Verdicts, Unknown}
+use Rattle.scene_line.specs.declared.kind.Kind.TheVariants.{Script, Tx, Input, Output, Dep, Witness, Verdicts}
 use Rattle.text.specs.Text.{hex_val, in_range}
 use Rattle.scene_line.specs.Line.{next_form, field_ok, bare_after, field_entries, line_entries, forms_ok}
 use Rattle.scene_line.proofs.KindLaws.{rank-small}
@@ -63,18 +64,18 @@ numbers-few b t (f ∷ fs) ok =
 takes : ℕ → ℕ
 takes k = get_or (2 ∷ 2 ∷ 1 ∷ 8 ∷ 5 ∷ 3 ∷ 2 ∷ 18 ∷ []) k 0
 
-most-takes : (k : Kind) → 1 + most (first_form k) (field_count k) ≡ takes (rank k)
+most-takes : (k : Option Kind) → 1 + most (first_form k) (field_count k) ≡ takes (rank k)
 unfolding most field_most takes
-most-takes Script = refl
-most-takes Tx = refl
-most-takes Input = refl
-most-takes Output = refl
-most-takes Dep = refl
-most-takes Witness = refl
-most-takes Verdicts = refl
-most-takes Unknown = refl
+most-takes (Some Script) = refl
+most-takes (Some Tx) = refl
+most-takes (Some Input) = refl
+most-takes (Some Output) = refl
+most-takes (Some Dep) = refl
+most-takes (Some Witness) = refl
+most-takes (Some Verdicts) = refl
+most-takes None = refl
 
-entries-few : (k : Kind) (fs : List (List ℕ)) → length fs ≡ field_count k → forms_ok true (first_form k) fs ≡ true
+entries-few : (k : Option Kind) (fs : List (List ℕ)) → length fs ≡ field_count k → forms_ok true (first_form k) fs ≡ true
     → 1 + length (line_entries (first_form k) fs) ≤ takes (rank k)
 entries-few k fs n ok = omega (arith, rw n at (numbers-few true (first_form k) fs ok), most-takes k)
 
@@ -171,7 +172,7 @@ module _ (last seen k n c filled : ℕ) (hk : k < 8) (hs : seen ≤ 64) (hf : fi
   grows (inl a) (inr u) = grows-later (omega arith) u.1
   grows (inr a) (inr u) = grows-later (omega arith) u.1
 
-pub fits : (last seen filled : ℕ) (k : Kind) (fs : List (List ℕ)) → seen ≤ 64 → filled ≤ entries_limit last seen
+pub fits : (last seen filled : ℕ) (k : Option Kind) (fs : List (List ℕ)) → seen ≤ 64 → filled ≤ entries_limit last seen
     → length fs ≡ field_count k → follows last (rank k) ≡ true → forms_ok true (first_form k) fs ≡ true
     → filled + 1 + length (line_entries (first_form k) fs) ≤ entries_limit (rank k) (seen_with last seen (rank k))
 fits last seen filled k fs hs hf n o ok =

@@ -1,5 +1,5 @@
 -- Laws of the reader's rows and of a run over the lines. Assumes nothing.
-use Rattle.std.specs.Prelude.{Err, Ok, Result}
+use Rattle.std.specs.Prelude.{Option, Err, Ok, Result}
 use Prim.Native.Nat.{ℕ, ◌+◌, ◌≤◌, ◌<◌}
 use mathlib.Core.Path.{◌≡◌, refl, ap, ◌∙◌}
 use mathlib.Core.List.{List, [], ◌∷◌, ◌++◌}
@@ -103,7 +103,7 @@ module _ (h : ReaderState) (l s : List ℕ) (P : List (List ℕ)) (cut : P ≡ l
       rw (cut, z.2) (run-failed h l z.0 z.1 a (refused-failed _ _ a q))
 
 -- a line's step by the word before its first comma and the fields behind it
-pub step_cut : (h : ReaderState) (line w fields : List ℕ) (e : ℕ) (k : Kind) (o : ReaderOutcome) → Cut comma line e → e < length line → w ≡ take e line → fields ≡ drop (e + 1) line
+pub step_cut : (h : ReaderState) (line w fields : List ℕ) (e : ℕ) (k : Option Kind) (o : ReaderOutcome) → Cut comma line e → e < length line → w ≡ take e line → fields ≡ drop (e + 1) line
     → k ≡ line_kind h.last (w ∷ pieces comma fields) → o ≡ line_outcome_as h k (pieces comma fields) → o ≡ line_outcome h line
 unfolding rows_of_line line_put line_fields
 step_cut h line w fields e k o cut more hw hf hk ho = ho ∙ rw (hk, hw, hf, cut.cut more)

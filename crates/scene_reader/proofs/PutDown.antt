@@ -1,17 +1,16 @@
 -- A line that every row passes and that is put down: it fits, and the state after it is ready. Assumes nothing.
-use Rattle.std.specs.Prelude.{Ok}
+use Rattle.std.specs.Prelude.{Option, Ok}
 use Prim.Native.Nat.{ℕ, ◌+◌, ◌≤◌, ◌<◌}
 use mathlib.Core.Bool.{true}
-use mathlib.Core.Path.{◌≡◌, sym, ap, ◌∙◌}
+use mathlib.Core.Path.{◌≡◌, sym, ap}
 use mathlib.Core.List.{List}
 use native.Mathlib.Omega.{arith}
 use native.Mathlib.Numerals.{add-one}
 use lib.ListN.{length, set}
 use lib.Seq.{sets}
 use Rattle.scene_line.specs.declared.form.Form.{Form}
-use Rattle.scene_line.specs.declared.fields.FieldsFound.{FieldsFound}
 use Rattle.scene_line.specs.declared.kind.Kind.{Kind}
-use Rattle.scene_line.specs.Line.{line_bytes, line_entries, fields_found}
+use Rattle.scene_line.specs.Line.{line_bytes, line_entries}
 use Rattle.scene_line.specs.Kind.{rank, field_count, first_form, follows}
 use Rattle.scene_line.proofs.KindLaws.{rank-small}
 use Rattle.scene_reader.specs.declared.state.State.{State}
@@ -20,39 +19,29 @@ use Rattle.scene_reader.specs.Room.{state_holding, line_outcome_as, entries_limi
 use Rattle.scene_reader.proofs.Bounds.{fits, entries-limit-small}
 use Rattle.scene_reader.proofs.LinePasses.{Passes}
 
-module _ (s : State) (st tb : List ℕ) (k : Kind) (fs : List (List ℕ)) where
+module _ (s : State) (st tb : List ℕ) (k : Option Kind) (fs : List (List ℕ)) where
   -- the state and the lists after the line, part by part, are the line put down
-  pub is-put : (p n end m : ℕ) (t : Form) (st' tb' : List ℕ) → p ≡ rank k → n ≡ seen_with s.last s.seen p → t ≡ first_form k
+  pub is-put : (p : Option Kind) (n end m : ℕ) (t : Form) (st' tb' : List ℕ) → rank p ≡ rank k → n ≡ seen_with (rank s.last) s.seen (rank k) → t ≡ first_form k
       → m ≡ length (line_bytes (first_form k) fs) → end ≡ s.filled + 1 + length (line_entries t fs)
       → st' ≡ sets st s.used (line_bytes t fs)
-      → tb' ≡ sets (set (set tb p n) s.filled s.used) (s.filled + 1) (line_entries t fs)
+      → tb' ≡ sets (set (set tb (rank k) n) s.filled s.used) (s.filled + 1) (line_entries t fs)
       → state_holding (record { last = p; seen = n; used = s.used + m; filled = end }) st' tb' ≡ line_put_as (state_holding s st tb) k fs
   unfolding line_put_as
   is-put p n end m t st' tb' hp hn ht hm he hs hb = rw (he, hs, hb, hm, hn, hp, ht, add-one s.filled)
 
-  -- what was found of the fields is what they are, the first one of the kind's form
-  pub found_as : (t : Form) (f : FieldsFound) → t ≡ first_form k → f ≡ fields_found t fs → f ≡ fields_found (first_form k) fs
-  found_as t f ht hf = hf ∙ rw ht
-
-  -- the count of bytes that was found is the line's
-  pub counted : (f : FieldsFound) → f ≡ fields_found (first_form k) fs → f.bytes ≡ length (line_bytes (first_form k) fs)
-  unfolding fields_found
-  counted f hf = rw hf
-
   module _ (n : ℕ) (ready : ReaderReady s n (length st) (length tb))
-      (shape : (rank k ≡ 0 → ⊥) → (length fs ≡ field_count k) × (follows s.last (rank k) ≡ true))
+      (shape : (length fs ≡ field_count k) × (follows (rank s.last) (rank k) ≡ true))
       (z : Passes (state_holding s st tb) k fs) where
     -- the entries in use with the line stay within the limit
-    within : s.filled + 1 + length (line_entries (first_form k) fs) ≤ entries_limit (rank k) (seen_with s.last s.seen (rank k))
+    within : s.filled + 1 + length (line_entries (first_form k) fs) ≤ entries_limit (rank k) (seen_with (rank s.last) s.seen (rank k))
     within =
-        let o = shape z.real in
-        fits s.last s.seen s.filled k fs ready.few ready.fits o.0 o.1 z.forms
+        fits (rank s.last) s.seen s.filled k fs ready.few ready.fits shape.0 shape.1 z.forms
 
     -- the table has room for the line
     pub room : (rank k < length tb) × (s.filled + 1 + length (line_entries (first_form k) fs) ≤ length tb)
     room =
         let least = ready.enough in
-        let small = entries-limit-small (rank k) (seen_with s.last s.seen (rank k)) (rank-small k) z.few in
+        let small = entries-limit-small (rank k) (seen_with (rank s.last) s.seen (rank k)) (rank-small k) z.few in
         (omega (arith, least, rank-small k), omega (arith, least, small, within))
 
     -- what the line's step gives
@@ -64,13 +53,12 @@ module _ (s : State) (st tb : List ℕ) (k : Kind) (fs : List (List ℕ)) where
         → ReadyAfter s n (length st) (length tb) (Ok r)
     unfolding line_put_as
     kept r st' tb' few e =
-        let last' : r.last ≡ rank k = ap (λ (g : ReaderState). g.last) e in
-        let seen' : r.seen ≡ seen_with s.last s.seen (rank k) = ap (λ (g : ReaderState). g.seen) e in
+        let last' : rank r.last ≡ rank k = ap (λ (g : ReaderState). g.last) e in
+        let seen' : r.seen ≡ seen_with (rank s.last) s.seen (rank k) = ap (λ (g : ReaderState). g.seen) e in
         let used' : r.used ≡ s.used + length (line_bytes (first_form k) fs) = ap (λ (g : ReaderState). g.used) e in
         let filled' : r.filled ≡ s.filled + 1 + length (line_entries (first_form k) fs) = ap (λ (g : ReaderState). g.filled) e in
         let small = ready.small in (
           record {
-            known = rw last' (rank-small k);
             few = rw seen' z.few;
             inside = rw used' z.room;
             small = omega (arith, used', few, small);

@@ -1,5 +1,5 @@
 -- The scene reader: what a line puts down, the rows of a line and of a scene, and what the reader answers and leaves.
-use Rattle.std.specs.Prelude.{ℕ, ◌+◌, true, cond, not, List, [], ◌∷◌, ◌++◌, length, set, replicate, leb, eqb, Err, Ok}
+use Rattle.std.specs.Prelude.{ℕ, ◌+◌, true, cond, not, List, [], ◌∷◌, ◌++◌, length, set, replicate, leb, eqb, Err, Ok, Option, Some}
 use Rattle.std.proofs.lemmas.List.Edits.{sets}
 use Rattle.protocol.specs.Rows.{Row, row, decide, Check}
 use Rattle.protocol.specs.declared.error.ProtocolError.{ProtocolError}
@@ -33,7 +33,7 @@ seen_with last seen k = cond (eqb k last) (seen + 1) 1
 -- 01: "The reader puts the bytes of all hexadecimal fields end to end into a lent store, the rest into a lent u32 table": a line
 -- put down. Its kind's count stands at the table's entry `rank k`; after the table's entries the offset of its bytes in the
 -- store and its numbers; after the store's bytes its bytes
-unfoldable pub line_put_as : ReaderState → Kind → List (List ℕ) → ReaderState
+unfoldable pub line_put_as : ReaderState → Option Kind → List (List ℕ) → ReaderState
 line_put_as h k fs = record {
   last = rank k;
   seen = seen_with h.last h.seen (rank k);
@@ -46,7 +46,7 @@ line_put_as h k fs = record {
 -- 01, "Where each refusal is raised", the line rows, of a line of kind k with the fields fs: "kind, order, field count", 2, where
 -- the kind has no rank; "65th of a kind", 4; "a field's form, or just one of TYPEHASH and TYPESCRIPT empty", 3; "store too short
 -- for the field", 6
-unfoldable pub line_rows : ReaderState → Kind → List (List ℕ) → List Row
+unfoldable pub line_rows : ReaderState → Option Kind → List (List ℕ) → List Row
 line_rows h k fs =
     row (not (eqb (rank k) 0)) InvalidLine
     ∷ row (leb (seen_with h.last h.seen (rank k)) kind_max_lines) TooManyLines
@@ -65,7 +65,7 @@ line_put h line = line_put_as h (line_kind h.last (pieces comma line)) (line_fie
 -- 01: "ending, or a needed line missing", 2; "A needed line is missing at the line that stands in its place, or at the end of the
 -- scene": nothing follows the last line's ending, and verdicts was read
 unfoldable pub scene_end_rows : ReaderState → List ℕ → List Row
-scene_end_rows h rest = row (eqb (length rest) 0) InvalidLine ∷ row (eqb h.last (rank Verdicts)) InvalidLine ∷ []
+scene_end_rows h rest = row (eqb (length rest) 0) InvalidLine ∷ row (eqb h.last (rank (Some Verdicts))) InvalidLine ∷ []
 
 -- 01: "Lines are tested one by one, each through the line rows below in their order, a row over all fields of the line before the
 -- next row": the rows of all lines, each line's over what is held once those before it are put down; the last piece, and a text has

@@ -1,20 +1,19 @@
 -- Private: no public contract cites this file.
 -- The state in the code beside its definition, one line by its rows, and what private functions keep so that all that is written
 -- fits.
-use Rattle.std.specs.Prelude.{ℕ, ◌+◌, ◌*◌, ◌≤◌, ◌<◌, List, [], ◌∷◌, ◌≡◌, length, get_or, Err, Ok, Result}
+use Rattle.std.specs.Prelude.{ℕ, ◌+◌, ◌*◌, ◌≤◌, List, [], ◌∷◌, ◌≡◌, length, get_or, Err, Ok, Option, Result}
 use Rattle.protocol.specs.declared.error.ProtocolError.{ProtocolError}
 use Rattle.protocol.specs.Rows.{decide, Check}
 use Rattle.scene_line.specs.declared.kind.Kind.{Kind}
 use Rattle.protocol.specs.Limits.{scene_max_length, table_min_entries, kind_max_lines}
-use Rattle.scene_line.specs.declared.fields.FieldsFound.{FieldsFound}
-use Rattle.scene_line.specs.Line.{fields_found}
-use Rattle.scene_line.specs.Kind.{first_form}
+use Rattle.scene_line.specs.Line.{line_bytes}
+use Rattle.scene_line.specs.Kind.{rank, first_form}
 use Rattle.scene_reader.specs.declared.state.State.{State}
 use Rattle.scene_reader.specs.Reader.{ReaderState, ReaderOutcome, reader_refuses, reader_holds, outcome_after, line_rows, rows_of_line, scene_end_rows, line_put_as, line_put}
 
 -- the state in the code, with the store and the table
 abbrev pub state_holding : State → List ℕ → List ℕ → ReaderState
-state_holding s store table = record { last = s.last; seen = s.seen; used = s.used; filled = s.filled; store = store; table = table }
+state_holding s store table = record { last = rank s.last; seen = s.seen; used = s.used; filled = s.filled; store = store; table = table }
 
 -- what a step of the code leaves
 abbrev pub step_outcome : Result State ProtocolError → List ℕ → List ℕ → ReaderOutcome
@@ -22,14 +21,19 @@ step_outcome (Ok s) store table = reader_holds (state_holding s store table)
 step_outcome (Err e) store table = reader_refuses e
 
 -- a line of kind k with the fields fs: its rows, and then it is put down
-abbrev pub line_outcome_as : ReaderState → Kind → List (List ℕ) → ReaderOutcome
+abbrev pub line_outcome_as : ReaderState → Option Kind → List (List ℕ) → ReaderOutcome
 line_outcome_as h k fs = outcome_after (decide (Ok tt) (line_rows h k fs)) (line_put_as h k fs)
 
--- what the checks of a line of kind k find, for all fields that are as found and every store of room bytes
-abbrev pub LineChecked : Kind → State → FieldsFound → ℕ → Check → Type 0
-LineChecked k s found room r =
-    (fs : List (List ℕ)) (store table : List ℕ) → found ≡ fields_found (first_form k) fs → room ≡ length store
-    → r ≡ decide (Ok tt) (line_rows (state_holding s store table) k fs)
+-- how many bytes the fields of a line have that its rows let pass
+abbrev pub line_size : Check → ℕ → Result ℕ ProtocolError
+line_size (Ok _) n = Ok n
+line_size (Err e) n = Err e
+
+-- what the checks of a line of kind k with the fields fs find, with every store of room bytes
+abbrev pub LineChecked : Option Kind → State → List (List ℕ) → ℕ → Result ℕ ProtocolError → Type 0
+LineChecked k s fs room r =
+    (store table : List ℕ) → room ≡ length store
+    → r ≡ line_size (decide (Ok tt) (line_rows (state_holding s store table) k fs)) (length (line_bytes (first_form k) fs))
 
 -- a line of the text
 abbrev pub line_outcome : ReaderState → List ℕ → ReaderOutcome
@@ -55,12 +59,11 @@ entries_limit last seen = entries_before last + entries_each last * seen
 
 -- a state with n bytes of text to come, a store of that many bytes and a table of that many entries
 pub record ReaderReady (s : State) (n store table : ℕ) : Type 0 where
-  pub known : s.last < 8
   pub few : s.seen ≤ kind_max_lines
   pub inside : s.used ≤ store
   pub small : s.used + n ≤ scene_max_length
   pub enough : table_min_entries ≤ table
-  pub fits : s.filled ≤ entries_limit s.last s.seen
+  pub fits : s.filled ≤ entries_limit (rank s.last) s.seen
 
 -- what a step over n bytes leaves is ready
 abbrev pub ReadyAfter : State → ℕ → ℕ → ℕ → Result State ProtocolError → Type 0

@@ -12,21 +12,21 @@ ghost use Rattle.scene_reader.specs.Reader.{reader_check, reader_store, reader_t
 ghost use Rattle.scene_reader.specs.Room.{step_outcome};
 
 use crate::lines::read_lines;
+use crate::state::State;
 use octets::{zero_bytes, zero_words};
 use protocol::{ProtocolError, SCENE_MAX_LEN, TABLE_MIN_ENTRIES, require};
 
 // The limits, then the lines, into a store and a table that are all zero.
+#[tactic(auto, unfolding(protocol::specs::Rows::decide, crate::specs::Reader::scene_limit_rows))]
 fn read_checked(scene: &[u8], store: &mut [u8], table: &mut [u32]) -> Result<State, ProtocolError>
     requires { (store.old ≡ zeroed store.old) × (table.old ≡ zeroed table.old) }
     ensures { step_outcome result store.new table.new ≡ read_into scene.now store.old table.old }
 {
-    let checked = Ok(())
-        .require(scene.len() <= SCENE_MAX_LEN, ProtocolError::SceneTooLong)
-        .require(
-            TABLE_MIN_ENTRIES <= table.len(),
-            ProtocolError::StoreTooShort,
-        );
-    checked?;
+    require(scene.len() <= SCENE_MAX_LEN, ProtocolError::SceneTooLong)?;
+    require(
+        TABLE_MIN_ENTRIES <= table.len(),
+        ProtocolError::StoreTooShort,
+    )?;
     read_lines(scene, store, table)
 }
 
@@ -38,13 +38,10 @@ pub fn read_scene(scene: &[u8], store: &mut [u8], table: &mut [u32]) -> Result<(
 {
     zero_bytes(store);
     zero_words(table);
-    let step = read_checked(scene, store, table);
-    match step {
-        Ok(_) => Ok(()),
-        Err(error) => {
-            zero_bytes(store);
-            zero_words(table);
-            Err(error)
-        }
+    if let Err(error) = read_checked(scene, store, table) {
+        zero_bytes(store);
+        zero_words(table);
+        return Err(error);
     }
+    Ok(())
 }

@@ -1,5 +1,5 @@
 // Lines one by one.
-ghost use Rattle.std.specs.Prelude.{◌≡◌, true, List, ℕ, ◌+◌, ◌≤◌, length};
+ghost use Rattle.std.specs.Prelude.{◌≡◌, true, List, ℕ, ◌+◌, ◌≤◌, IfOk, Some, length};
 ghost use Rattle.octets.specs.Zeroed.{zeroed};
 ghost use Rattle.text.specs.Text.{pieces, comma, line_end};
 ghost use Rattle.scene_line.specs.Kind.{rank, field_count, follows};
@@ -8,89 +8,104 @@ ghost use Rattle.scene_reader.specs.Reader.{lines_outcome, reader_start};
 ghost use Rattle.scene_reader.specs.Room.{line_outcome_as, line_outcome, scene_end_outcome, ReaderReady, ReadyAfter, state_holding, step_outcome, LineChecked};
 
 use crate::put::put_line;
-use crate::state::{FIRST_RECORD_AT, State, seen_with};
+use crate::state::{FIRST_RECORD_AT, State};
 use protocol::{KIND_MAX_LINES, ProtocolError, require};
-use scene_line::{FieldsFound, Kind, VERDICTS_RANK, check_fields, first_form, line_kind, rank_of};
+use scene_line::{Kind, check_fields, line_kind};
 use text::{COMMA, LINE_END, find, head, tail};
 
-// What the rows of a line of kind k find, its fields and a store of room bytes being as found.
-fn check_line(k: Kind, s: State, found: FieldsFound, room: usize) -> Result<(), ProtocolError>
-    requires { (s.seen ≤ kind_max_lines) × (s.used + found.bytes ≤ scene_max_length) }
-    ensures { LineChecked k s found room result }
+// How many bytes the fields of a line of this kind have, where no row refuses it with a store of room bytes.
+#[tactic(auto, unfolding(protocol::specs::Rows::decide, crate::specs::Reader::line_rows, scene_line::specs::Line::fields_found))]
+fn check_line(kind: Kind, fields: &[u8], state: State, room: usize) -> Result<usize, ProtocolError>
+    requires { (state.seen ≤ kind_max_lines) × (state.used + length fields.now ≤ scene_max_length) }
+    ensures value { LineChecked (Some kind) state (pieces comma fields.now) room result }
+    ensures upper_bound { IfOk result (λ bytes. bytes ≤ length fields.now) }
 {
-    let p = rank_of(k);
-    let seen = seen_with(s.last, s.seen, p);
-    require(p != 0, ProtocolError::InvalidLine)?;
+    let seen = state.seen_with(kind);
+    let found = check_fields(kind.first_form(), fields);
     require(seen <= KIND_MAX_LINES, ProtocolError::TooManyLines)?;
-    require(found.ok, ProtocolError::InvalidField)?;
-    require(s.used + found.bytes <= room, ProtocolError::StoreTooShort)
+    let bytes = found.ok_or(ProtocolError::InvalidField)?;
+    require(state.used + bytes <= room, ProtocolError::StoreTooShort)?;
+    Ok(bytes)
 }
 
-// A line of kind k: its rows, and then it is put down.
-fn read_as(k: Kind, fields: &[u8], s: State, store: &mut [u8], table: &mut [u32]) -> Result<State, ProtocolError>
-    requires reader_ready { ReaderReady s (length fields.now) (length store.old) (length table.old) }
-    requires fields_len { (rank k ≡ 0 → ⊥) → (length (pieces comma fields.now) ≡ field_count k) × (follows s.last (rank k) ≡ true) }
+// A line of this kind: its rows, and then it is put down.
+fn read_as(
+    kind: Kind,
+    fields: &[u8],
+    state: State,
+    store: &mut [u8],
+    table: &mut [u32],
+) -> Result<State, ProtocolError>
+    requires reader_ready { ReaderReady state (length fields.now) (length store.old) (length table.old) }
+    requires fields_len { (length (pieces comma fields.now) ≡ field_count (Some kind)) × (follows (rank state.last) (rank (Some kind)) ≡ true) }
     ensures table_after { step_outcome result store.new table.new
-        ≡ line_outcome_as (state_holding s store.old table.old) k (pieces comma fields.now) }
-    ensures ready_after { ReadyAfter s (length fields.now) (length store.old) (length table.old) result }
+        ≡ line_outcome_as (state_holding state store.old table.old) (Some kind) (pieces comma fields.now) }
+    ensures ready_after { ReadyAfter state (length fields.now) (length store.old) (length table.old) result }
 {
-    let found = check_fields(first_form(k), fields);
-    check_line(k, s, found, store.len())?;
-    Ok(put_line(k, fields, s, found.bytes, store, table))
+    let bytes = check_line(kind, fields, state, store.len())?;
+    Ok(put_line(kind, fields, state, bytes, store, table))
 }
 
 // One line.
-fn read_line(line: &[u8], s: State, store: &mut [u8], table: &mut [u32]) -> Result<State, ProtocolError>
-    requires { ReaderReady s (length line.now) (length store.old) (length table.old) }
+#[tactic(auto, unfolding(protocol::specs::Rows::decide, crate::specs::Reader::line_rows, crate::specs::Reader::rows_of_line, scene_line::specs::Kind::line_kind, scene_line::specs::Kind::line_fields))]
+fn read_line(
+    line: &[u8],
+    state: State,
+    store: &mut [u8],
+    table: &mut [u32],
+) -> Result<State, ProtocolError>
+    requires { ReaderReady state (length line.now) (length store.old) (length table.old) }
     ensures table_after { step_outcome result store.new table.new
-        ≡ line_outcome (state_holding s store.old table.old) line.now }
-    ensures ready_after { ReadyAfter s (length line.now) (length store.old) (length table.old) result }
+        ≡ line_outcome (state_holding state store.old table.old) line.now }
+    ensures ready_after { ReadyAfter state (length line.now) (length store.old) (length table.old) result }
 {
-    let e = find(line, COMMA);
-    if e == line.len() {
+    let end = find(line, COMMA);
+    if end == line.len() {
         return Err(ProtocolError::InvalidLine);
     }
-    let fields = tail(line, e);
-    let k = line_kind(head(line, e), fields, s.last);
-    read_as(k, fields, s, store, table)
+    let fields = tail(line, end);
+    let found = line_kind(head(line, end), fields, state.last);
+    let kind = found.ok_or(ProtocolError::InvalidLine)?;
+    read_as(kind, fields, state, store, table)
 }
 
 // The end of a scene: what follows the last line's ending.
-fn finish_at(s: State, rest: &[u8]) -> Result<State, ProtocolError>
-    ensures { (store table : List ℕ) → step_outcome result store table ≡ scene_end_outcome (state_holding s store table) rest.now }
+#[tactic(auto, unfolding(protocol::specs::Rows::decide, crate::specs::Reader::scene_end_rows))]
+fn finish_at(state: State, rest: &[u8]) -> Result<State, ProtocolError>
+    ensures { (store table : List ℕ) → step_outcome result store table ≡ scene_end_outcome (state_holding state store table) rest.now }
 {
-    let checked = Ok(())
-        .require(rest.len() == 0, ProtocolError::InvalidLine)
-        .require(s.last == VERDICTS_RANK, ProtocolError::InvalidLine);
-    checked?;
-    Ok(s)
+    require(rest.is_empty(), ProtocolError::InvalidLine)?;
+    require(
+        state.last == Some(Kind::Verdicts),
+        ProtocolError::InvalidLine,
+    )?;
+    Ok(state)
 }
 
 // All lines, into a store and a table that are all zero.
-pub(crate) fn read_lines(scene: &[u8], store: &mut [u8], table: &mut [u32]) -> Result<State, ProtocolError>
+pub(crate) fn read_lines(
+    scene: &[u8],
+    store: &mut [u8],
+    table: &mut [u32],
+) -> Result<State, ProtocolError>
     requires scene_len_bound { (length scene.now ≤ scene_max_length) × (table_min_entries ≤ length table.old) }
     requires store_value { (store.old ≡ zeroed store.old) × (table.old ≡ zeroed table.old) }
     ensures { step_outcome result store.new table.new
         ≡ lines_outcome (reader_start (length store.old) (length table.old)) (pieces line_end scene.now) }
 {
     let mut rest = scene;
-    let mut s = State {
-        last: 0,
+    let mut state = State {
+        last: None,
         seen: 0,
         used: 0,
         filled: FIRST_RECORD_AT,
     };
     loop {
-        let e = find(rest, LINE_END);
-        if e == rest.len() {
-            return finish_at(s, rest);
+        let end = find(rest, LINE_END);
+        if end == rest.len() {
+            return finish_at(state, rest);
         }
-        let step = read_line(head(rest, e), s, store, table);
-        let Ok(after) = step else {
-            return step;
-        };
-        s = after;
-        let next = tail(rest, e);
-        rest = next;
+        state = read_line(head(rest, end), state, store, table)?;
+        rest = tail(rest, end);
     }
 }

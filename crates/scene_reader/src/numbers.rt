@@ -20,20 +20,14 @@ fn digit(f: &[u8]) -> u8
 }
 
 // Puts the halves of the number that f is into the table at `at`.
+#[tactic(auto, unfolding(text::specs::Text::number_in))]
 fn put_halves(f: &[u8], table: &mut [u32], at: usize)
     requires { at + 2 ≤ length table.old }
     ensures { table.new ≡ sets table.old at (u64_halves (number_in (decimal_of f.now))) }
 {
-    match read_decimal(f) {
-        Some(v) => {
-            table[at] = (v % 4294967296) as u32;
-            table[at + 1] = (v / 4294967296) as u32;
-        }
-        None => {
-            table[at] = 0;
-            table[at + 1] = 0;
-        }
-    }
+    let number = read_decimal(f).unwrap_or(0);
+    table[at] = (number % 4294967296) as u32;
+    table[at + 1] = (number / 4294967296) as u32;
 }
 
 // Puts the count of the digits f and each of them into the table from at on.
@@ -62,23 +56,14 @@ pub(crate) fn put_number(t: Form, f: &[u8], table: &mut [u32], at: usize) -> usi
             table[at] = digit(f) as u32;
             1
         }
-        Form::Since => {
+        Form::Since | Form::Capacity => {
             put_halves(f, table, at);
             2
         }
-        Form::TypeHash => 0,
-        Form::Hash => 0,
-        Form::TypeScript => {
+        Form::TypeHash | Form::Hash => 0,
+        Form::TypeScript | Form::Hex => {
             table[at] = (f.len() / 2) as u32;
             1
-        }
-        Form::Hex => {
-            table[at] = (f.len() / 2) as u32;
-            1
-        }
-        Form::Capacity => {
-            put_halves(f, table, at);
-            2
         }
         Form::Digits => {
             put_digits(f, table, at);

@@ -1,5 +1,5 @@
 // A line put down: its numbers into the table, its bytes into the store.
-ghost use Rattle.std.specs.Prelude.{◌≡◌, ◌+◌, ◌<◌, ◌≤◌, length};
+ghost use Rattle.std.specs.Prelude.{◌≡◌, ◌+◌, ◌<◌, ◌≤◌, Some, length};
 ghost use Rattle.std.proofs.lemmas.List.Edits.{sets};
 ghost use Rattle.text.specs.Text.{pieces, comma};
 ghost use Rattle.scene_line.specs.Line.{field_bytes, line_bytes, line_entries};
@@ -9,21 +9,23 @@ ghost use Rattle.scene_reader.specs.Reader.{line_put_as};
 ghost use Rattle.scene_reader.specs.Room.{state_holding};
 
 use crate::numbers::put_number;
-use crate::state::{State, seen_with};
-use scene_line::{Form, Kind, first_form, hex_form, next_form, rank_of};
+use crate::state::State;
+use scene_line::{Form, Kind};
 use text::{COMMA, decode, find, head, tail};
 
 // Puts the bytes of a field into the store from at on, and says how many they are.
+#[tactic(auto, unfolding(scene_line::specs::Line::field_bytes))]
 fn put_bytes(t: Form, f: &[u8], store: &mut [u8], at: usize) -> usize
     ensures value { result ≡ length (field_bytes t f.now) }
     ensures upper_bound { result ≤ length f.now }
     ensures store_after { store.new ≡ sets store.old at (field_bytes t f.now) }
 {
-    if hex_form(t) {
+    if t.is_hex() {
         decode(f, store, at);
-        return f.len() / 2;
+        f.len() / 2
+    } else {
+        0
     }
-    0
 }
 
 // Puts the fields down, their bytes from used on and their numbers from filled on, and says where the numbers end.
@@ -53,37 +55,34 @@ fn put_fields(
         if e == rest.len() {
             return entry;
         }
-        t = next_form(t);
-        let next = tail(rest, e);
-        rest = next;
+        t = t.next();
+        rest = tail(rest, e);
     }
 }
 
 // Puts a line down whose fields have n bytes.
 pub(crate) fn put_line(
-    k: Kind,
+    kind: Kind,
     fields: &[u8],
-    s: State,
+    state: State,
     n: usize,
     store: &mut [u8],
     table: &mut [u32],
 ) -> State
-    requires n_value { n ≡ length (line_bytes (first_form k) (pieces comma fields.now)) }
-    requires n_in_bounds { s.used + n ≤ length store.old }
-    requires fields_len_bound { (length fields.now ≤ scene_max_length) × (s.used ≤ scene_max_length) × (s.seen ≤ kind_max_lines) }
-    requires k_in_bounds { (rank k < length table.old) × (s.filled + 1 + length (line_entries (first_form k) (pieces comma fields.now)) ≤ length table.old) }
+    requires n_value { n ≡ length (line_bytes (first_form (Some kind)) (pieces comma fields.now)) }
+    requires n_in_bounds { state.used + n ≤ length store.old }
+    requires fields_len_bound { (length fields.now ≤ scene_max_length) × (state.used ≤ scene_max_length) × (state.seen ≤ kind_max_lines) }
+    requires k_in_bounds { (rank (Some kind) < length table.old) × (state.filled + 1 + length (line_entries (first_form (Some kind)) (pieces comma fields.now)) ≤ length table.old) }
     ensures { state_holding result store.new table.new
-        ≡ line_put_as (state_holding s store.old table.old) k (pieces comma fields.now) }
+        ≡ line_put_as (state_holding state store.old table.old) (Some kind) (pieces comma fields.now) }
 {
-    let p = rank_of(k);
-    let used = s.used;
-    let filled = s.filled;
-    let seen = seen_with(s.last, s.seen, p);
-    table[p] = seen as u32;
+    let State { used, filled, .. } = state;
+    let seen = state.seen_with(kind);
+    table[kind.rank()] = seen as u32;
     table[filled] = used as u32;
-    let end = put_fields(first_form(k), fields, store, used, table, filled + 1);
+    let end = put_fields(kind.first_form(), fields, store, used, table, filled + 1);
     State {
-        last: p,
+        last: Some(kind),
         seen,
         used: used + n,
         filled: end,

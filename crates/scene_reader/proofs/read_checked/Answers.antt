@@ -1,28 +1,31 @@
 -- `scene_reader::read_checked` meets its contract. Assumes nothing.
-use Rattle.std.specs.Prelude.{Ok}
+use Rattle.std.specs.Prelude.{Err}
 use mathlib.Core.Path.{◌≡◌, sym, ◌∙◌}
+use borrow.Author.Rules.{rules}
 use lib.ListN.{length}
 use Rattle.protocol.specs.Rows.{decide}
 use Rattle.scene_reader.specs.Reader.{scene_limit_rows}
-use Rattle.scene_reader.proofs.LinesOutcome.{limits-within, limits-passed, limits-failed}
+use Rattle.scene_reader.proofs.LinesOutcome.{limits-passed, limits-failed}
 use Rattle.scene_reader.proofs.read_checked.Goals as goal
 
-pub read_lines-requires : goal.read_lines-requires
+pub returns-in_err-require : goal.returns-in_err-require
 unfolding scene_limit_rows decide
-read_lines-requires c =
+returns-in_err-require c =
     let a = c.args in
-    let q : decide (Ok tt) (scene_limit_rows a.scene.now (length a.table.now)) ≡ Ok tt = rw (← c.require.ensures, ← c.require-checked.ensures, c.in-Passed.is) in
-    record { scene_len_bound = limits-within a.scene.now (length a.table.now) q; store_value = c.requires }
+    let e = c.in_err-require.field-0.0 in
+    let told : c.from_residual.result ≡ Err e = search rules in
+    rw told (sym (limits-failed a.scene.now (length a.store.now) (length a.table.now) e (search rules)))
 
-pub returns-in-Failed : goal.returns-in-Failed
+pub returns-in_err-require-2 : goal.returns-in_err-require-2
 unfolding scene_limit_rows decide
-returns-in-Failed c =
+returns-in_err-require-2 c =
     let a = c.args in
-    sym (limits-failed a.scene.now (length a.store.now) (length a.table.now) _ (rw (← c.require.ensures, ← c.require-checked.ensures, c.in-Failed.is)))
+    let e = c.in_err-require-2.field-0.0 in
+    let told : c.from_residual-in_err-require-2.result ≡ Err e = search rules in
+    rw told (sym (limits-failed a.scene.now (length a.store.now) (length a.table.now) e (search rules)))
 
-pub returns-in-Passed : goal.returns-in-Passed
+pub returns : goal.returns
 unfolding scene_limit_rows decide
-returns-in-Passed c =
+returns c =
     let a = c.args in
-    let q : decide (Ok tt) (scene_limit_rows a.scene.now (length a.table.now)) ≡ Ok tt = rw (← c.require.ensures, ← c.require-checked.ensures, c.in-Passed.is) in
-    c.read_lines.ensures ∙ sym (limits-passed a.scene.now (length a.store.now) (length a.table.now) q)
+    c.read_lines.ensures ∙ sym (limits-passed a.scene.now (length a.store.now) (length a.table.now) (search rules))
