@@ -1,5 +1,5 @@
 -- The scene: 01, "The scene, added by the port" and the reader's rows, 02, change 9, computed from the definitions. Bytes are ASCII.
-use Rattle.std.specs.Prelude.{ℕ, ◌-◌, ◌^◌, ◌≡◌, true, false, List, [], ◌∷◌, ◌++◌, map, length, replicate, None, Ok, Some}
+use Rattle.std.specs.Prelude.{ℕ, ◌-◌, ◌^◌, ◌≡◌, true, false, List, [], ◌∷◌, ◌++◌, map, length, replicate, None, Ok, Some, Option}
 use Rattle.protocol.specs.Rows.{decide, check_number}
 use Rattle.text.specs.Text.{pieces, line_end, is_hex, hex_bytes, decimal_of}
 use Rattle.scene_line.specs.declared.form.Form.TheVariants as form
@@ -48,16 +48,16 @@ abbrev limit_number : List ℕ → ℕ → ℕ
 limit_number scene entries = check_number (decide (Ok tt) (scene_limit_rows scene entries))
 
 -- a line of a kind without a field, by how many lines of that kind came before it
-abbrev line_number : Kind → ℕ → ℕ
+abbrev line_number : Option Kind → ℕ → ℕ
 line_number k seen = check_number (decide (Ok tt) (line_rows (record { last = rank k; seen = seen; used = 0; filled = 8; store = []; table = [] }) k []))
 
 -- a dep line behind the tx line, by its TYPEHASH and its TYPESCRIPT, with a store of 65 bytes
 abbrev dep_number : List ℕ → List ℕ → ℕ
 dep_number type_hash type_script =
-    check_number (decide (Ok _) (line_rows (record { last = 2; seen = 1; used = 0; filled = 8; store = replicate 65 0; table = [] }) kind.Dep (type_hash ∷ replicate 64 48 ∷ type_script ∷ [] ∷ [])))
+    check_number (decide (Ok tt) (line_rows (record { last = 2; seen = 1; used = 0; filled = 8; store = replicate 65 0; table = [] }) (Some kind.Dep) (type_hash ∷ replicate 64 48 ∷ type_script ∷ [] ∷ [])))
 
 -- the kind of a line of this word, behind the tx line, with n fields
-abbrev kind_with : List ℕ → ℕ → Kind
+abbrev kind_with : List ℕ → ℕ → Option Kind
 kind_with word n = line_kind 2 (word ∷ replicate n [])
 
 pub record SceneLimits : Type 0 where
@@ -66,14 +66,14 @@ pub record SceneLimits : Type 0 where
   pub of-1048577 : (scene : List ℕ) → length scene ≡ 1048577 → limit_number scene 2048 ≡ 1
   pub table-2047 : limit_number [] 2047 ∷ limit_number [] 2048 ∷ [] ≡ 6 ∷ 0 ∷ []
   -- "line: 65th of a kind", 4
-  pub inputs : line_number kind.Input 63 ∷ line_number kind.Input 64 ∷ [] ≡ 0 ∷ 4 ∷ []
-  pub outputs : line_number kind.Output 63 ∷ line_number kind.Output 64 ∷ [] ≡ 0 ∷ 4 ∷ []
-  pub deps : line_number kind.Dep 63 ∷ line_number kind.Dep 64 ∷ [] ≡ 0 ∷ 4 ∷ []
-  pub witnesses : line_number kind.Witness 63 ∷ line_number kind.Witness 64 ∷ [] ≡ 0 ∷ 4 ∷ []
+  pub inputs : line_number (Some kind.Input) 63 ∷ line_number (Some kind.Input) 64 ∷ [] ≡ 0 ∷ 4 ∷ []
+  pub outputs : line_number (Some kind.Output) 63 ∷ line_number (Some kind.Output) 64 ∷ [] ≡ 0 ∷ 4 ∷ []
+  pub deps : line_number (Some kind.Dep) 63 ∷ line_number (Some kind.Dep) 64 ∷ [] ≡ 0 ∷ 4 ∷ []
+  pub witnesses : line_number (Some kind.Witness) 63 ∷ line_number (Some kind.Witness) 64 ∷ [] ≡ 0 ∷ 4 ∷ []
   -- 02, change 9: "Input and output lines end with a new field CAPACITY .. so older lines fall under 2"
-  pub input-fields : map (kind_with input) (6 ∷ 7 ∷ 8 ∷ []) ≡ kind.Unknown ∷ kind.Input ∷ kind.Unknown ∷ []
-  pub output-fields : map (kind_with output) (4 ∷ 5 ∷ 6 ∷ []) ≡ kind.Unknown ∷ kind.Output ∷ kind.Unknown ∷ []
-  pub dep-fields : map (kind_with dep) (3 ∷ 4 ∷ 5 ∷ []) ≡ kind.Unknown ∷ kind.Dep ∷ kind.Unknown ∷ []
+  pub input-fields : map (kind_with input) (6 ∷ 7 ∷ 8 ∷ []) ≡ None ∷ Some kind.Input ∷ None ∷ []
+  pub output-fields : map (kind_with output) (4 ∷ 5 ∷ 6 ∷ []) ≡ None ∷ Some kind.Output ∷ None ∷ []
+  pub dep-fields : map (kind_with dep) (3 ∷ 4 ∷ 5 ∷ []) ≡ None ∷ Some kind.Dep ∷ None ∷ []
   -- "in this order of kinds": script, tx, then the others up to verdicts, by the ranks 1 to 7
   pub order-start : map (follows 0) (1 ∷ 2 ∷ 3 ∷ 7 ∷ []) ≡ true ∷ false ∷ false ∷ false ∷ []
   pub order-script : map (follows 1) (1 ∷ 2 ∷ 3 ∷ 7 ∷ []) ≡ false ∷ true ∷ false ∷ false ∷ []

@@ -1,5 +1,6 @@
 -- The counts of the kinds, which the reader sets line by line at the table's first eight entries.
 -- Assumes nothing.
+use Rattle.std.specs.Prelude.{Option, Some}
 use Prim.Native.Nat.{ℕ, zero, suc, ◌+◌, ◌-◌, ◌≤◌, ◌<◌}
 use mathlib.Core.Path.{◌≡◌, refl, ap, ◌∙◌}
 use mathlib.Core.List.{List, [], ◌∷◌, ◌++◌}
@@ -17,7 +18,7 @@ use Rattle.scene_line.proofs.KindLaws.{rank-small}
 use Rattle.scene_reading.proofs.KindsOrder.{body_kinds, body-right}
 
 -- a table after the counts of lines of these kinds
-unfoldable pub counts_after : List ℕ → ℕ → ℕ → List Kind → List ℕ
+unfoldable pub counts_after : List ℕ → ℕ → ℕ → List (Option Kind) → List ℕ
 counts_after table last seen [] = table
 counts_after table last seen (k ∷ ks) =
     counts_after (set table (rank k) (seen_with last seen (rank k))) (rank k) (seen_with last seen (rank k)) ks
@@ -28,7 +29,7 @@ set-sets [] t i x at h = refl
 set-sets (v ∷ vs) t i x at h = set-sets vs (set t at v) i x (suc at) (omega arith) ∙ rw (set_comm t at i v x (λ e. omega arith))
 
 -- counts and a record behind them, in either order
-pub counted-behind : (ks : List Kind) (t : List ℕ) (last seen at : ℕ) (vs : List ℕ) → 8 ≤ at → counts_after (sets t at vs) last seen ks ≡ sets (counts_after t last seen ks) at vs
+pub counted-behind : (ks : List (Option Kind)) (t : List ℕ) (last seen at : ℕ) (vs : List ℕ) → 8 ≤ at → counts_after (sets t at vs) last seen ks ≡ sets (counts_after t last seen ks) at vs
 unfolding counts_after
 counted-behind [] t last seen at vs h = refl
 counted-behind (k ∷ ks) t last seen at vs h =
@@ -37,7 +38,7 @@ counted-behind (k ∷ ks) t last seen at vs h =
     rw (set-sets vs t (rank k) s at (omega arith)) (counted-behind ks (set t (rank k) s) (rank k) s at vs h)
 
 -- a run of n lines of a kind, before others
-module _ (k : Kind) (ks : List Kind) (result : List ℕ) where
+module _ (k : Option Kind) (ks : List (Option Kind)) (result : List ℕ) where
   one_more : (n last seen s : ℕ) (t : List ℕ) → seen_with last seen (rank k) ≡ s
       → counts_after t last seen (replicate (suc n) k ++ ks) ≡ counts_after (set t (rank k) s) (rank k) s (replicate n k ++ ks)
   unfolding counts_after
@@ -67,23 +68,23 @@ module _ (a b c d : ℕ) (r : List ℕ) where
   done : List ℕ
   done = 0 ∷ 1 ∷ 1 ∷ a ∷ b ∷ c ∷ d ∷ 1 ∷ r
 
-  verdicts-counted : (l s : ℕ) → l ≤ 6 → counts_after (0 ∷ 1 ∷ 1 ∷ a ∷ b ∷ c ∷ d ∷ 0 ∷ r) l s (Verdicts ∷ []) ≡ done
+  verdicts-counted : (l s : ℕ) → l ≤ 6 → counts_after (0 ∷ 1 ∷ 1 ∷ a ∷ b ∷ c ∷ d ∷ 0 ∷ r) l s (Some Verdicts ∷ []) ≡ done
   unfolding counts_after done
   verdicts-counted l s h = rw (ne_eqb 7 l (λ e. omega arith))
 
-  witnesses-counted : (l s : ℕ) → l ≤ 5 → counts_after (0 ∷ 1 ∷ 1 ∷ a ∷ b ∷ c ∷ 0 ∷ 0 ∷ r) l s (replicate d Witness ++ (Verdicts ∷ [])) ≡ done
-  witnesses-counted l s h = counted-run Witness (Verdicts ∷ []) done d l s (0 ∷ 1 ∷ 1 ∷ a ∷ b ∷ c ∷ 0 ∷ 0 ∷ r) (omega arith) refl verdicts-counted
+  witnesses-counted : (l s : ℕ) → l ≤ 5 → counts_after (0 ∷ 1 ∷ 1 ∷ a ∷ b ∷ c ∷ 0 ∷ 0 ∷ r) l s (replicate d (Some Witness) ++ (Some Verdicts ∷ [])) ≡ done
+  witnesses-counted l s h = counted-run (Some Witness) (Some Verdicts ∷ []) done d l s (0 ∷ 1 ∷ 1 ∷ a ∷ b ∷ c ∷ 0 ∷ 0 ∷ r) (omega arith) refl verdicts-counted
 
-  deps-counted : (l s : ℕ) → l ≤ 4 → counts_after (0 ∷ 1 ∷ 1 ∷ a ∷ b ∷ 0 ∷ 0 ∷ 0 ∷ r) l s (replicate c Dep ++ (replicate d Witness ++ (Verdicts ∷ []))) ≡ done
-  deps-counted l s h = counted-run Dep _ done c l s (0 ∷ 1 ∷ 1 ∷ a ∷ b ∷ 0 ∷ 0 ∷ 0 ∷ r) (omega arith) refl witnesses-counted
+  deps-counted : (l s : ℕ) → l ≤ 4 → counts_after (0 ∷ 1 ∷ 1 ∷ a ∷ b ∷ 0 ∷ 0 ∷ 0 ∷ r) l s (replicate c (Some Dep) ++ (replicate d (Some Witness) ++ (Some Verdicts ∷ []))) ≡ done
+  deps-counted l s h = counted-run (Some Dep) _ done c l s (0 ∷ 1 ∷ 1 ∷ a ∷ b ∷ 0 ∷ 0 ∷ 0 ∷ r) (omega arith) refl witnesses-counted
 
   outputs-counted : (l s : ℕ) → l ≤ 3
-      → counts_after (0 ∷ 1 ∷ 1 ∷ a ∷ 0 ∷ 0 ∷ 0 ∷ 0 ∷ r) l s (replicate b Output ++ (replicate c Dep ++ (replicate d Witness ++ (Verdicts ∷ [])))) ≡ done
-  outputs-counted l s h = counted-run Output _ done b l s (0 ∷ 1 ∷ 1 ∷ a ∷ 0 ∷ 0 ∷ 0 ∷ 0 ∷ r) (omega arith) refl deps-counted
+      → counts_after (0 ∷ 1 ∷ 1 ∷ a ∷ 0 ∷ 0 ∷ 0 ∷ 0 ∷ r) l s (replicate b (Some Output) ++ (replicate c (Some Dep) ++ (replicate d (Some Witness) ++ (Some Verdicts ∷ [])))) ≡ done
+  outputs-counted l s h = counted-run (Some Output) _ done b l s (0 ∷ 1 ∷ 1 ∷ a ∷ 0 ∷ 0 ∷ 0 ∷ 0 ∷ r) (omega arith) refl deps-counted
 
   body-counted : counts_after (0 ∷ 1 ∷ 1 ∷ 0 ∷ 0 ∷ 0 ∷ 0 ∷ 0 ∷ r) 2 1 (body_kinds a b c d) ≡ done
   body-counted =
-      rw (body-right a b c d) (counted-run Input _ done a 2 1 (0 ∷ 1 ∷ 1 ∷ 0 ∷ 0 ∷ 0 ∷ 0 ∷ 0 ∷ r) (omega arith) refl outputs-counted)
+      rw (body-right a b c d) (counted-run (Some Input) _ done a 2 1 (0 ∷ 1 ∷ 1 ∷ 0 ∷ 0 ∷ 0 ∷ 0 ∷ 0 ∷ r) (omega arith) refl outputs-counted)
 
   kinds-counted : counts_after (0 ∷ 0 ∷ 0 ∷ 0 ∷ 0 ∷ 0 ∷ 0 ∷ 0 ∷ r) 0 0 (kinds_of a b c d) ≡ done
   unfolding counts_after kinds_of body_kinds

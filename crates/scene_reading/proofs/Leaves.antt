@@ -1,5 +1,6 @@
 -- An accepted text leaves the store and the table of the scene that it says.
 -- Assumes nothing.
+use Rattle.std.specs.Prelude.{Option}
 use Prim.Native.Nat.{ℕ, zero, suc, ◌+◌, ◌-◌, ◌≤◌}
 use mathlib.Core.Path.{◌≡◌, refl, sym, ap, ◌∙◌}
 use mathlib.Core.List.{List, [], ◌∷◌, ◌++◌, map}
@@ -33,7 +34,7 @@ module _ (h : ReaderState) (l : List ℕ) where
   unfolding put_line line_put_as bytes_of_line
   store_line bs = sets-append h.store h.used (bytes_of_line l) bs _ refl
 
-  table-line : (ks : List Kind) (rs : List ℕ) → 8 ≤ h.filled
+  table-line : (ks : List (Option Kind)) (rs : List ℕ) → 8 ≤ h.filled
       → sets (counts_after (put_line h l).table (put_line h l).last (put_line h l).seen ks) (put_line h l).filled rs
       ≡ sets (counts_after h.table h.last h.seen (kind_of_line l ∷ ks)) h.filled ((h.used ∷ (line_read l).numbers) ++ rs)
   unfolding put_line line_put_as counts_after line_read line_in

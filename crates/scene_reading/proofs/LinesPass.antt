@@ -1,6 +1,6 @@
 -- A run over lines holds exactly where each line passes its rows, and then every line has been put down.
 -- Assumes nothing.
-use Rattle.std.specs.Prelude.{Err, Ok}
+use Rattle.std.specs.Prelude.{Err, Ok, Option, None}
 use Prim.Native.Nat.{ℕ, suc, ◌+◌, ◌≤◌}
 use mathlib.Core.Bool.{Bool, true, false, cond, not, ◌&&◌, false≢true}
 use mathlib.Core.Path.{◌≡◌, refl, sym, ap, ◌∙◌}
@@ -14,7 +14,6 @@ use Rattle.protocol.specs.Rows.{decide, AllPass, Check}
 use Rattle.protocol.proofs.AllPass.{passed-all-pass, all-pass-passed}
 use Rattle.text.specs.Text.{pieces, comma, line_end}
 use Rattle.scene_line.specs.declared.kind.Kind.{Kind}
-use Rattle.scene_line.specs.declared.kind.Kind.TheVariants.{Unknown}
 use Rattle.scene_line.specs.Kind.{rank, field_count, first_form, kind_of, follows, line_kind, line_fields}
 use Rattle.scene_line.specs.Line.{forms_ok, line_bytes}
 use Rattle.octets.specs.Lists.{same}
@@ -71,9 +70,9 @@ module _ (last : ℕ) where
   known-kind [] e = absurd (false≢true (sym e))
   known-kind (w ∷ fs) e = by (follows last (rank (kind_of w)) && eqb (length fs) (field_count (kind_of w))) refl e
     where
-      by : (t : Bool) → (follows last (rank (kind_of w)) && eqb (length fs) (field_count (kind_of w))) ≡ t → eqb (rank (cond t (kind_of w) Unknown)) 0 ≡ false
+      by : (t : Bool) → (follows last (rank (kind_of w)) && eqb (length fs) (field_count (kind_of w))) ≡ t → eqb (rank (cond t (kind_of w) None)) 0 ≡ false
           → (follows last (rank (kind_of w)) ≡ true)
-          × ((eqb (length fs) (field_count (kind_of w)) ≡ true) × (cond t (kind_of w) Unknown ≡ kind_of w))
+          × ((eqb (length fs) (field_count (kind_of w)) ≡ true) × (cond t (kind_of w) None ≡ kind_of w))
       by true q e = let p = and_both (follows last (rank (kind_of w))) _ q in (p.0, (p.1, refl))
       by false q e = absurd (false≢true (sym e))
 
@@ -83,13 +82,13 @@ pub held_same : (g h : ReaderState) → reader_holds g ≡ reader_holds h → g 
 held_same g h e = cc
 
 -- every row passes a line of a kind with a rank
-record Rows (h : ReaderState) (k : Kind) (fs : List (List ℕ)) : Type 0 where
+record Rows (h : ReaderState) (k : Option Kind) (fs : List (List ℕ)) : Type 0 where
   known : eqb (rank k) 0 ≡ false
   few : seen_with h.last h.seen (rank k) ≤ 64
   form : forms_ok true (first_form k) fs ≡ true
   room : h.used + length (line_bytes (first_form k) fs) ≤ length h.store
 
-rows_of : (h : ReaderState) (k : Kind) (fs : List (List ℕ)) → AllPass (line_rows h k fs) → Rows h k fs
+rows_of : (h : ReaderState) (k : Option Kind) (fs : List (List ℕ)) → AllPass (line_rows h k fs) → Rows h k fs
 unfolding line_rows
 rows_of h k fs z =
     record {
@@ -99,7 +98,7 @@ rows_of h k fs z =
       room = leb-true (h.used + length (line_bytes (first_form k) fs)) (length h.store) z.1.1.1.0;
     }
 
-of-rows : (h : ReaderState) (k : Kind) (fs : List (List ℕ)) → Rows h k fs → AllPass (line_rows h k fs)
+of-rows : (h : ReaderState) (k : Option Kind) (fs : List (List ℕ)) → Rows h k fs → AllPass (line_rows h k fs)
 unfolding line_rows
 of-rows h k fs r = (rw r.known, (le-leb _ 64 r.few, (r.form, (le-leb _ (length h.store) r.room, tt))))
 

@@ -1,5 +1,6 @@
 -- The order of kinds line by line, and how many lines of each kind may still come.
 -- Assumes nothing.
+use Rattle.std.specs.Prelude.{Option}
 use Prim.Native.Nat.{ℕ, suc, ◌+◌, ◌-◌, ◌≤◌, ◌<◌}
 use mathlib.Core.Bool.{Bool, true, false, cond, not, ◌&&◌}
 use mathlib.Core.Path.{◌≡◌, refl}
@@ -13,7 +14,7 @@ use Rattle.scene_reader.specs.Reader.{seen_with}
 use Rattle.octets.proofs.Truth.{and_both}
 
 -- the kinds of the lines that are left, after `seen` lines of the kind of rank `last`
-unfoldable pub Order : ℕ → ℕ → List Kind → Type 0
+unfoldable pub Order : ℕ → ℕ → List (Option Kind) → Type 0
 Order last seen [] = last ≡ 7
 Order last seen (k ∷ ks) =
     (follows last (rank k) ≡ true) × ((seen_with last seen (rank k) ≤ 64) × Order (rank k) (seen_with last seen (rank k)) ks)

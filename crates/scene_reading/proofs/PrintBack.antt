@@ -1,5 +1,6 @@
 -- A text that no line row refuses says one scene, and is its print.
 -- Assumes nothing.
+use Rattle.std.specs.Prelude.{Option, Some}
 use Prim.Native.Nat.{ℕ, zero, suc, ◌≤◌}
 use mathlib.Core.Path.{◌≡◌, refl, sym, ap, ◌∙◌}
 use mathlib.Core.Bool.{Bool, true}
@@ -22,11 +23,11 @@ use Rattle.scene_reading.proofs.PrintBackLines.{text-back, PrintOf, LinePasses, 
 use Rattle.scene_reading.proofs.Printed.{printed-pieces, printed-reading}
 
 -- lines of these kinds, none of which a row refuses
-data EachPasses : List (List ℕ) → List Kind → Type 0 where
+data EachPasses : List (List ℕ) → List (Option Kind) → Type 0 where
   none : EachPasses [] []
-  more : {l : List ℕ} {k : Kind} {ls : List (List ℕ)} {ks : List Kind} → LinePasses l k → EachPasses ls ks → EachPasses (l ∷ ls) (k ∷ ks)
+  more : {l : List ℕ} {k : Option Kind} {ls : List (List ℕ)} {ks : List (Option Kind)} → LinePasses l k → EachPasses ls ks → EachPasses (l ∷ ls) (k ∷ ks)
 
-each-passes : (ls : List (List ℕ)) (ks : List Kind) → map kind_of_line ls ≡ ks → every count_ok ls ≡ true → every form_ok ls ≡ true → EachPasses ls ks
+each-passes : (ls : List (List ℕ)) (ks : List (Option Kind)) → map kind_of_line ls ≡ ks → every count_ok ls ≡ true → every form_ok ls ≡ true → EachPasses ls ks
 unfolding every
 each-passes [] [] e c f = none
 each-passes [] (k ∷ ks) e c f = absurd (let z : ◌≡◌ {A = ℕ} 0 1 = cc in omega arith)
@@ -37,14 +38,14 @@ each-passes (l ∷ ls) (k ∷ ks) e c f =
     more (record { is = a; counted = and_left (count_ok l) (every count_ok ls) c; formed = and_left (form_ok l) (every form_ok ls) f })
     (each-passes ls ks b (and_right (count_ok l) (every count_ok ls) c) (and_right (form_ok l) (every form_ok ls) f))
 
-record Parted (ls : List (List ℕ)) (ks js : List Kind) : Type 0 where
+record Parted (ls : List (List ℕ)) (ks js : List (Option Kind)) : Type 0 where
   first : List (List ℕ)
   rest : List (List ℕ)
   whole : first ++ rest ≡ ls
   firsts : EachPasses first ks
   rests : EachPasses rest js
 
-parted : (ls : List (List ℕ)) (ks js : List Kind) → EachPasses ls (ks ++ js) → Parted ls ks js
+parted : (ls : List (List ℕ)) (ks js : List (Option Kind)) → EachPasses ls (ks ++ js) → Parted ls ks js
 parted ls [] js p = record { first = []; rest = ls; whole = refl; firsts = none; rests = p }
 parted [] (k ∷ ks) js p = elim p [ ]
 parted (l ∷ ls) (k ∷ ks) js (more a p) =
@@ -58,7 +59,7 @@ record Segment {A : Type 0} (ok : A → Bool) (text : A → List ℕ) (n : ℕ) 
   fit : every ok values ≡ true
   print : map text values ≡ ls
 
-segment : {A : Type 0} (ok : A → Bool) (text : A → List ℕ) (k : Kind) → ((l : List ℕ) → LinePasses l k → PrintOf ok text l)
+segment : {A : Type 0} (ok : A → Bool) (text : A → List ℕ) (k : Option Kind) → ((l : List ℕ) → LinePasses l k → PrintOf ok text l)
     → (n : ℕ) {ls : List (List ℕ)} → EachPasses ls (replicate n k) → Segment ok text n ls
 unfolding every
 segment ok text k line zero none = record { values = []; count = refl; fit = refl; print = refl }
@@ -68,15 +69,15 @@ segment ok text k line (suc n) (more p r) =
     record { values = x.value ∷ s.values; count = rw s.count; fit = rw (x.fits, s.fit); print = rw (x.print, s.print) }
 
 -- what n lines of one kind, at most 64, say behind lines of other kinds
-record Behind {A : Type 0} (ok : A → Bool) (text : A → List ℕ) (ks : List Kind) (ls : List (List ℕ)) : Type 0 where
+record Behind {A : Type 0} (ok : A → Bool) (text : A → List ℕ) (ks : List (Option Kind)) (ls : List (List ℕ)) : Type 0 where
   first : List (List ℕ)
   firsts : EachPasses first ks
   values : List A
   few : few_of ok values ≡ true
   print : first ++ map text values ≡ ls
 
-behind : {A : Type 0} (ok : A → Bool) (text : A → List ℕ) (k : Kind) → ((l : List ℕ) → LinePasses l k → PrintOf ok text l)
-    → (n : ℕ) → n ≤ 64 → (ks : List Kind) (ls : List (List ℕ)) → EachPasses ls (ks ++ replicate n k) → Behind ok text ks ls
+behind : {A : Type 0} (ok : A → Bool) (text : A → List ℕ) (k : Option Kind) → ((l : List ℕ) → LinePasses l k → PrintOf ok text l)
+    → (n : ℕ) → n ≤ 64 → (ks : List (Option Kind)) (ls : List (List ℕ)) → EachPasses ls (ks ++ replicate n k) → Behind ok text ks ls
 unfolding few_of
 behind ok text k line n h ks ls p =
     let q = parted ls ks (replicate n k) p in
@@ -97,7 +98,7 @@ record Front (ls : List (List ℕ)) : Type 0 where
   hash-fits : hash_bytes_ok hash ≡ true
   print : bytes_text script bytes ∷ bytes_text tx hash ∷ [] ≡ ls
 
-front : {ls : List (List ℕ)} → EachPasses ls (kind.Script ∷ kind.Tx ∷ []) → Front ls
+front : {ls : List (List ℕ)} → EachPasses ls (Some kind.Script ∷ Some kind.Tx ∷ []) → Front ls
 front (more p (more q none)) =
     let x = script-line _ p in
     let y = tx-line _ q in
@@ -109,7 +110,7 @@ record Last (ls : List (List ℕ)) : Type 0 where
   fit : digits_ok digits ≡ true
   print : line_text verdicts (digits_text digits ∷ []) ∷ [] ≡ ls
 
-last : {ls : List (List ℕ)} → EachPasses ls (kind.Verdicts ∷ []) → Last ls
+last : {ls : List (List ℕ)} → EachPasses ls (Some kind.Verdicts ∷ []) → Last ls
 last (more p none) = let x = verdicts-line _ p in record { digits = x.value; fit = x.fits; print = ap (λ (y : List ℕ). y ∷ []) x.print }
 
 -- a scene whose print the lines are
@@ -121,9 +122,9 @@ record Said (ls : List (List ℕ)) : Type 0 where
 join : {a b ls : List (List ℕ)} (c : List (List ℕ)) → a ≡ b → b ++ c ≡ ls → a ++ c ≡ ls
 join c e w = ap (λ (x : List (List ℕ)). x ++ c) e ∙ w
 
-said-by : {ls : List (List ℕ)} {k₁ k₂ k₃ k₄ : List Kind} (v : Parted ls k₄ (kind.Verdicts ∷ [])) (w : Behind bytes_ok (bytes_text witness) k₃ v.first)
+said-by : {ls : List (List ℕ)} {k₁ k₂ k₃ k₄ : List (Option Kind)} (v : Parted ls k₄ (Some kind.Verdicts ∷ [])) (w : Behind bytes_ok (bytes_text witness) k₃ v.first)
     (d : Behind cell_ok dep_text k₂ w.first) (o : Behind output_ok output_text k₁ d.first)
-    (i : Behind input_ok input_text (kind.Script ∷ kind.Tx ∷ []) o.first) → Said ls
+    (i : Behind input_ok input_text (Some kind.Script ∷ Some kind.Tx ∷ []) o.first) → Said ls
 unfolding scene_ok text_lines
 said-by v w d o i =
     let head = front i.firsts in
@@ -149,16 +150,16 @@ said-by v w d o i =
 said : (text : List ℕ) (n : ℕ) (p : LinesAccepted text n) → Said p.lines
 unfolding kinds_of
 said text n p =
-    let K₀ = kind.Script ∷ kind.Tx ∷ [] in
-    let K₁ = K₀ ++ replicate p.inputs kind.Input in
-    let K₂ = K₁ ++ replicate p.outputs kind.Output in
-    let K₃ = K₂ ++ replicate p.deps kind.Dep in
-    let K₄ = K₃ ++ replicate p.witnesses kind.Witness in
-    let v = parted p.lines K₄ (kind.Verdicts ∷ []) (each-passes p.lines (K₄ ++ (kind.Verdicts ∷ [])) p.ordered p.counted p.formed) in
-    let w = behind bytes_ok (bytes_text witness) kind.Witness witness-line p.witnesses p.few-witnesses K₃ v.first v.firsts in
-    let d = behind cell_ok dep_text kind.Dep dep-line p.deps p.few-deps K₂ w.first w.firsts in
-    let o = behind output_ok output_text kind.Output output-line p.outputs p.few-outputs K₁ d.first d.firsts in
-    let i = behind input_ok input_text kind.Input input-line p.inputs p.few-inputs K₀ o.first o.firsts in
+    let K₀ = Some kind.Script ∷ Some kind.Tx ∷ [] in
+    let K₁ = K₀ ++ replicate p.inputs (Some kind.Input) in
+    let K₂ = K₁ ++ replicate p.outputs (Some kind.Output) in
+    let K₃ = K₂ ++ replicate p.deps (Some kind.Dep) in
+    let K₄ = K₃ ++ replicate p.witnesses (Some kind.Witness) in
+    let v = parted p.lines K₄ (Some kind.Verdicts ∷ []) (each-passes p.lines (K₄ ++ (Some kind.Verdicts ∷ [])) p.ordered p.counted p.formed) in
+    let w = behind bytes_ok (bytes_text witness) (Some kind.Witness) witness-line p.witnesses p.few-witnesses K₃ v.first v.firsts in
+    let d = behind cell_ok dep_text (Some kind.Dep) dep-line p.deps p.few-deps K₂ w.first w.firsts in
+    let o = behind output_ok output_text (Some kind.Output) output-line p.outputs p.few-outputs K₁ d.first d.firsts in
+    let i = behind input_ok input_text (Some kind.Input) input-line p.inputs p.few-inputs K₀ o.first o.firsts in
     said-by v w d o i
 
 -- what an accepted text says is a scene that a text can say

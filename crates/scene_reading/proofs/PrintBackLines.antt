@@ -1,5 +1,6 @@
 -- A line that no row refuses is the print of what it says.
 -- Assumes nothing.
+use Rattle.std.specs.Prelude.{Option, Some, None}
 use Prim.Native.Nat.{ℕ, ◌<◌}
 use mathlib.Core.Path.{◌≡◌, refl, sym, ap, ap₂, ◌∙◌}
 use mathlib.Core.Bool.{Bool, true, false, cond, ◌&&◌}
@@ -69,11 +70,11 @@ line-rejoined (w ∷ fs) = refl
 -- a word names the kind whose word it is, or none
 module _ (w : List ℕ) where
   -- w is the word of a kind, if that has one
-  abbrev Named : Kind → Type 0
+  abbrev Named : Option Kind → Type 0
   Named k = 0 < rank k → w ≡ kind_word k
 
   -- one word tested
-  pick : (b : Bool) (k other : Kind) → (b ≡ true → w ≡ kind_word k) → Named other → Named (cond b k other)
+  pick : (b : Bool) (k other : Option Kind) → (b ≡ true → w ≡ kind_word k) → Named other → Named (cond b k other)
   pick true k other h o = λ n. h refl
   pick false k other h o = o
 
@@ -81,12 +82,12 @@ module _ (w : List ℕ) where
   kind-named : Named (kind_of w)
   unfolding kind_of
   kind-named =
-      pick (same w script) kind.Script _ (same-eq w script)
-      (pick (same w tx) kind.Tx _ (same-eq w tx)
-      (pick (same w input) kind.Input _ (same-eq w input)
-      (pick (same w output) kind.Output _ (same-eq w output)
-      (pick (same w dep) kind.Dep _ (same-eq w dep)
-      (pick (same w witness) kind.Witness _ (same-eq w witness) (pick (same w verdicts) kind.Verdicts kind.Unknown (same-eq w verdicts) (λ n. absurd (omega arith))))))))
+      pick (same w script) (Some kind.Script) _ (same-eq w script)
+      (pick (same w tx) (Some kind.Tx) _ (same-eq w tx)
+      (pick (same w input) (Some kind.Input) _ (same-eq w input)
+      (pick (same w output) (Some kind.Output) _ (same-eq w output)
+      (pick (same w dep) (Some kind.Dep) _ (same-eq w dep)
+      (pick (same w witness) (Some kind.Witness) _ (same-eq w witness) (pick (same w verdicts) (Some kind.Verdicts) None (same-eq w verdicts) (λ n. absurd (omega arith))))))))
 
 -- what a line l is the print of
 pub record PrintOf {A : Type 0} (ok : A → Bool) (text : A → List ℕ) (l : List ℕ) : Type 0 where
@@ -95,12 +96,12 @@ pub record PrintOf {A : Type 0} (ok : A → Bool) (text : A → List ℕ) (l : L
   pub print : text value ≡ l
 
 -- a line of kind k that no row refuses
-pub record LinePasses (l : List ℕ) (k : Kind) : Type 0 where
+pub record LinePasses (l : List ℕ) (k : Option Kind) : Type 0 where
   pub is : kind_of_line l ≡ k
   pub counted : count_ok l ≡ true
   pub formed : form_ok l ≡ true
 
-module _ (l : List ℕ) (k : Kind) (p : LinePasses l k) where
+module _ (l : List ℕ) (k : Option Kind) (p : LinePasses l k) where
   named : 0 < rank k → word_of (pieces comma l) ≡ kind_word k
   unfolding kind_of_line
   named = rw p.is at (kind-named (word_of (pieces comma l)))
@@ -136,51 +137,51 @@ module _ (l : List ℕ) (k : Kind) (p : LinePasses l k) where
   fields-line ok fields x fits e r = record { value = x; fits = fits; print = line-whole (kind_word k) (fields x) (named r) e }
 
 module _ (l : List ℕ) where
-  pub script-line : LinePasses l kind.Script → PrintOf bytes_ok (bytes_text script) l
-  script-line p = bytes-line l kind.Script p script (named l kind.Script p (lit< tt)) refl refl
+  pub script-line : LinePasses l (Some kind.Script) → PrintOf bytes_ok (bytes_text script) l
+  script-line p = bytes-line l (Some kind.Script) p script (named l (Some kind.Script) p (lit< tt)) refl refl
 
-  pub tx-line : LinePasses l kind.Tx → PrintOf hash_bytes_ok (bytes_text tx) l
+  pub tx-line : LinePasses l (Some kind.Tx) → PrintOf hash_bytes_ok (bytes_text tx) l
   unfolding bytes_text forms_ok
   tx-line p =
-      let e = one_field l kind.Tx p refl in
+      let e = one_field l (Some kind.Tx) p refl in
       let field = get_or (fields_of_line l) 0 [] in
-      let h : (eqb (length field) 64 && hex_ok field && true) ≡ true = rw e at (field-forms l kind.Tx p) in
+      let h : (eqb (length field) 64 && hex_ok field && true) ≡ true = rw e at (field-forms l (Some kind.Tx) p) in
       let x = hash-print field (and_left (eqb (length field) 64 && hex_ok field) true h) in
-      record { value = hex_bytes field; fits = x.ok; print = rw x.text (line-whole l kind.Tx p tx (field ∷ []) (named l kind.Tx p (lit< tt)) (sym e)) }
+      record { value = hex_bytes field; fits = x.ok; print = rw x.text (line-whole l (Some kind.Tx) p tx (field ∷ []) (named l (Some kind.Tx) p (lit< tt)) (sym e)) }
 
-  pub input-line : LinePasses l kind.Input → PrintOf input_ok input_text l
+  pub input-line : LinePasses l (Some kind.Input) → PrintOf input_ok input_text l
   unfolding input_text
   input-line p =
-      let i = input-print (fields_of_line l) (field-count l kind.Input p) (field-forms l kind.Input p) in
-      fields-line l kind.Input p input_ok input_fields (input_of (fields_of_line l)) i.ok i.text (lit< tt)
+      let i = input-print (fields_of_line l) (field-count l (Some kind.Input) p) (field-forms l (Some kind.Input) p) in
+      fields-line l (Some kind.Input) p input_ok input_fields (input_of (fields_of_line l)) i.ok i.text (lit< tt)
 
-  pub output-line : LinePasses l kind.Output → PrintOf output_ok output_text l
+  pub output-line : LinePasses l (Some kind.Output) → PrintOf output_ok output_text l
   unfolding output_text output_fields
   output-line p =
-      let o = output-print (fields_of_line l) (field-count l kind.Output p) (field-forms l kind.Output p) in
-      fields-line l kind.Output p output_ok output_fields (output_of (fields_of_line l)) o.ok o.text (lit< tt)
+      let o = output-print (fields_of_line l) (field-count l (Some kind.Output) p) (field-forms l (Some kind.Output) p) in
+      fields-line l (Some kind.Output) p output_ok output_fields (output_of (fields_of_line l)) o.ok o.text (lit< tt)
 
-  pub dep-line : LinePasses l kind.Dep → PrintOf cell_ok dep_text l
+  pub dep-line : LinePasses l (Some kind.Dep) → PrintOf cell_ok dep_text l
   unfolding dep_text
   dep-line p =
-      let c = cell-print (fields_of_line l) (field-count l kind.Dep p) (field-forms l kind.Dep p) in
-      fields-line l kind.Dep p cell_ok cell_fields (cell_of 0 (fields_of_line l)) c.ok c.text (lit< tt)
+      let c = cell-print (fields_of_line l) (field-count l (Some kind.Dep) p) (field-forms l (Some kind.Dep) p) in
+      fields-line l (Some kind.Dep) p cell_ok cell_fields (cell_of 0 (fields_of_line l)) c.ok c.text (lit< tt)
 
-  pub witness-line : LinePasses l kind.Witness → PrintOf bytes_ok (bytes_text witness) l
-  witness-line p = bytes-line l kind.Witness p witness (named l kind.Witness p (lit< tt)) refl refl
+  pub witness-line : LinePasses l (Some kind.Witness) → PrintOf bytes_ok (bytes_text witness) l
+  witness-line p = bytes-line l (Some kind.Witness) p witness (named l (Some kind.Witness) p (lit< tt)) refl refl
 
-  pub verdicts-line : LinePasses l kind.Verdicts → PrintOf digits_ok (λ (ds : List ℕ). line_text verdicts (digits_text ds ∷ [])) l
+  pub verdicts-line : LinePasses l (Some kind.Verdicts) → PrintOf digits_ok (λ (ds : List ℕ). line_text verdicts (digits_text ds ∷ [])) l
   unfolding forms_ok digits_ok
   verdicts-line p =
-      let e = one_field l kind.Verdicts p refl in
+      let e = one_field l (Some kind.Verdicts) p refl in
       let field = get_or (fields_of_line l) 0 [] in
       let few = leb (length field) 16 in
       let digits = every (in_range 48 50) field in
-      let h : (few && digits && true) ≡ true = rw e at (field-forms l kind.Verdicts p) in
+      let h : (few && digits && true) ≡ true = rw e at (field-forms l (Some kind.Verdicts) p) in
       let h₁ = and_left (few && digits) true h in
       let x = digits-print 3 (omega arith) field (and_right few digits h₁) in
       record {
         value = map hex_val field;
         fits = rw (length-map field hex_val, and_left few digits h₁) x.each;
-        print = rw x.text (line-whole l kind.Verdicts p verdicts (field ∷ []) (named l kind.Verdicts p (lit< tt)) (sym e));
+        print = rw x.text (line-whole l (Some kind.Verdicts) p verdicts (field ∷ []) (named l (Some kind.Verdicts) p (lit< tt)) (sym e));
       }

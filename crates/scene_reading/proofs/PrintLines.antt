@@ -1,5 +1,6 @@
 -- The printed lines of a scene: each has its kind and its fields, and the reader puts down of it what the scene says.
 -- Assumes nothing.
+use Rattle.std.specs.Prelude.{Option, Some, None}
 use Prim.Native.Nat.{ℕ, ◌≤◌, ◌<◌}
 use mathlib.Core.Path.{◌≡◌, refl, ap, ◌∙◌}
 use mathlib.Core.Bool.{Bool, true, not}
@@ -49,36 +50,36 @@ line-without word (f ∷ fs) w h =
     (line-without f fs (and_left (every (leb 48) f) (every (every (leb 48)) fs) h) (and_right (every (leb 48) f) (every (every (leb 48)) fs) h))
 
 -- what is known of the text l of a line of kind k with the fields fs
-pub record Says (l : List ℕ) (k : Kind) (fs : List (List ℕ)) : Type 0 where
+pub record Says (l : List ℕ) (k : Option Kind) (fs : List (List ℕ)) : Type 0 where
   pub ended : without line_end l ≡ true
   pub kind : kind_of_line l ≡ k
   pub fields : fields_of_line l ≡ fs
 
--- the word of each kind of lines, none for Unknown
-abbrev pub kind_word : Kind → List ℕ
-kind_word kind.Script = script
-kind_word kind.Tx = tx
-kind_word kind.Input = input
-kind_word kind.Output = output
-kind_word kind.Dep = dep
-kind_word kind.Witness = witness
-kind_word kind.Verdicts = verdicts
-kind_word kind.Unknown = []
+-- the word of each kind of lines, none where a line has no kind
+abbrev pub kind_word : Option Kind → List ℕ
+kind_word (Some kind.Script) = script
+kind_word (Some kind.Tx) = tx
+kind_word (Some kind.Input) = input
+kind_word (Some kind.Output) = output
+kind_word (Some kind.Dep) = dep
+kind_word (Some kind.Witness) = witness
+kind_word (Some kind.Verdicts) = verdicts
+kind_word None = []
 
 -- it names the kind, and its bytes are 48 or more
-word-of : (k : Kind) → (kind_of (kind_word k) ≡ k) × (every (leb 48) (kind_word k) ≡ true)
+word-of : (k : Option Kind) → (kind_of (kind_word k) ≡ k) × (every (leb 48) (kind_word k) ≡ true)
 unfolding kind_of same every
-word-of kind.Script = (refl, refl)
-word-of kind.Tx = (refl, refl)
-word-of kind.Input = (refl, refl)
-word-of kind.Output = (refl, refl)
-word-of kind.Dep = (refl, refl)
-word-of kind.Witness = (refl, refl)
-word-of kind.Verdicts = (refl, refl)
-word-of kind.Unknown = (refl, refl)
+word-of (Some kind.Script) = (refl, refl)
+word-of (Some kind.Tx) = (refl, refl)
+word-of (Some kind.Input) = (refl, refl)
+word-of (Some kind.Output) = (refl, refl)
+word-of (Some kind.Dep) = (refl, refl)
+word-of (Some kind.Witness) = (refl, refl)
+word-of (Some kind.Verdicts) = (refl, refl)
+word-of None = (refl, refl)
 
 -- a line has the kind of its word, and its fields
-line-says : (k : Kind) (fs : List (List ℕ)) → every (every (leb 48)) fs ≡ true → Says (line_text (kind_word k) fs) k fs
+line-says : (k : Option Kind) (fs : List (List ℕ)) → every (every (leb 48)) fs ≡ true → Says (line_text (kind_word k) fs) k fs
 unfolding kind_of_line fields_of_line word_of line_fields
 line-says k fs h =
     let w = word-of k in
@@ -86,7 +87,7 @@ line-says k fs h =
     record { ended = line-without (kind_word k) fs w.1 h; kind = rw e w.0; fields = rw e }
 
 -- and that no line row refuses it, and what the reader puts down of it
-pub record Prints (l : List ℕ) (k : Kind) (line : Line) : Type 0 where
+pub record Prints (l : List ℕ) (k : Option Kind) (line : Line) : Type 0 where
   pub fields : List (List ℕ)
   pub says : Says l k fields
   pub counted : eqb (length fields) (field_count k) ≡ true
@@ -94,7 +95,7 @@ pub record Prints (l : List ℕ) (k : Kind) (line : Line) : Type 0 where
   pub read : line_in (first_form k) fields ≡ line
 
 -- lines of bytes
-module _ (k : Kind) where
+module _ (k : Option Kind) where
   pub bytes-says : (bs : List ℕ) → bytes_ok bs ≡ true → Says (bytes_text (kind_word k) bs) k (hex_text bs ∷ [])
   unfolding bytes_text every
   bytes-says bs h = line-says k (hex_text bs ∷ []) (rw (hex-high bs h))
@@ -110,23 +111,23 @@ module _ (k : Kind) where
         read = rw f (hex-put (hex_text bs) ∙ rw (hex-back bs h));
       }
 
-pub hash-prints : (hash : List ℕ) → HashHolds hash → Prints (bytes_text tx hash) kind.Tx (hash_line hash)
+pub hash-prints : (hash : List ℕ) → HashHolds hash → Prints (bytes_text tx hash) (Some kind.Tx) (hash_line hash)
 unfolding forms_ok
 hash-prints hash h =
     record {
       fields = hex_text hash ∷ [];
-      says = bytes-says kind.Tx hash h.bytes;
+      says = bytes-says (Some kind.Tx) hash h.bytes;
       counted = refl;
       formed = rw (hash-form hash h);
       read = hash-put (hex_text hash) ∙ rw (hex-back hash h.bytes);
     }
 
 -- lines of inputs, outputs and deps
-pub input-says : (i : Input) → InputHolds i → Says (input_text i) kind.Input (input_fields i)
+pub input-says : (i : Input) → InputHolds i → Says (input_text i) (Some kind.Input) (input_fields i)
 unfolding input_text
-input-says i h = line-says kind.Input (input_fields i) (input-high i h)
+input-says i h = line-says (Some kind.Input) (input_fields i) (input-high i h)
 
-pub input-prints : (i : Input) → InputHolds i → Prints (input_text i) kind.Input (input_line i)
+pub input-prints : (i : Input) → InputHolds i → Prints (input_text i) (Some kind.Input) (input_line i)
 unfolding input_fields cell_fields
 input-prints i h =
     record {
@@ -137,11 +138,11 @@ input-prints i h =
       read = input-put _ _ _ _ _ _ _ ∙ ap input_line (input-fields-back i h);
     }
 
-pub output-says : (o : Output) → OutputHolds o → Says (output_text o) kind.Output (output_fields o)
+pub output-says : (o : Output) → OutputHolds o → Says (output_text o) (Some kind.Output) (output_fields o)
 unfolding output_text output_fields
-output-says o h = line-says kind.Output (output_fields o) (output-high o h)
+output-says o h = line-says (Some kind.Output) (output_fields o) (output-high o h)
 
-pub output-prints : (o : Output) → OutputHolds o → Prints (output_text o) kind.Output (output_line o)
+pub output-prints : (o : Output) → OutputHolds o → Prints (output_text o) (Some kind.Output) (output_line o)
 unfolding output_fields cell_fields
 output-prints o h =
     record {
@@ -152,15 +153,15 @@ output-prints o h =
       read = output-put _ _ _ _ _ ∙ ap output_line (output-back o h);
     }
 
-pub dep-says : (c : Cell) → CellHolds c → Says (dep_text c) kind.Dep (cell_fields c)
+pub dep-says : (c : Cell) → CellHolds c → Says (dep_text c) (Some kind.Dep) (cell_fields c)
 unfolding dep_text cell_fields every
-dep-says c h = line-says kind.Dep (cell_fields c) (cell-high c h [] refl)
+dep-says c h = line-says (Some kind.Dep) (cell_fields c) (cell-high c h [] refl)
 
 pub dep-back : (c : Cell) → CellHolds c → cell_of 0 (cell_fields c) ≡ c
 unfolding cell_fields
 dep-back c h = cell-back c h []
 
-pub dep-prints : (c : Cell) → CellHolds c → Prints (dep_text c) kind.Dep (cell_line c)
+pub dep-prints : (c : Cell) → CellHolds c → Prints (dep_text c) (Some kind.Dep) (cell_line c)
 unfolding cell_fields forms_ok
 dep-prints c h =
     record {
@@ -175,11 +176,11 @@ pub record DigitsHold (ds : List ℕ) : Type 0 where
   pub few : length ds ≤ 16
   pub each : every (λ (d : ℕ). ltb d 3) ds ≡ true
 
-pub digits-says : (ds : List ℕ) → DigitsHold ds → Says (line_text verdicts (digits_text ds ∷ [])) kind.Verdicts (digits_text ds ∷ [])
+pub digits-says : (ds : List ℕ) → DigitsHold ds → Says (line_text verdicts (digits_text ds ∷ [])) (Some kind.Verdicts) (digits_text ds ∷ [])
 unfolding every
-digits-says ds h = line-says kind.Verdicts (digits_text ds ∷ []) (rw (digits-high 3 (omega arith) ds h.each))
+digits-says ds h = line-says (Some kind.Verdicts) (digits_text ds ∷ []) (rw (digits-high 3 (omega arith) ds h.each))
 
-pub digits-prints : (ds : List ℕ) → DigitsHold ds → Prints (line_text verdicts (digits_text ds ∷ [])) kind.Verdicts (digits_line ds)
+pub digits-prints : (ds : List ℕ) → DigitsHold ds → Prints (line_text verdicts (digits_text ds ∷ [])) (Some kind.Verdicts) (digits_line ds)
 unfolding forms_ok
 digits-prints ds h =
     record {
@@ -191,18 +192,18 @@ digits-prints ds h =
     }
 
 -- lines one by one, with their kinds and with what they hold
-pub data EachPrints : List (List ℕ) → List Kind → List Line → Type 0 where
+pub data EachPrints : List (List ℕ) → List (Option Kind) → List Line → Type 0 where
   none : EachPrints [] [] []
-  more : {l : List ℕ} {k : Kind} {line : Line} {ls : List (List ℕ)} {ks : List Kind} {lines : List Line}
+  more : {l : List ℕ} {k : Option Kind} {line : Line} {ls : List (List ℕ)} {ks : List (Option Kind)} {lines : List Line}
       → Prints l k line → EachPrints ls ks lines → EachPrints (l ∷ ls) (k ∷ ks) (line ∷ lines)
 
-pub each-prints-append : {ls ls' : List (List ℕ)} {ks ks' : List Kind} {xs xs' : List Line}
+pub each-prints-append : {ls ls' : List (List ℕ)} {ks ks' : List (Option Kind)} {xs xs' : List Line}
     → EachPrints ls ks xs → EachPrints ls' ks' xs' → EachPrints (ls ++ ls') (ks ++ ks') (xs ++ xs')
 each-prints-append none q = q
 each-prints-append (more p r) q = more p (each-prints-append r q)
 
 -- n lines of one kind
-pub each_map : {A : Type 0} (ok : A → Bool) (text : A → List ℕ) (k : Kind) (line : A → Line) → ((x : A) → ok x ≡ true → Prints (text x) k (line x))
+pub each_map : {A : Type 0} (ok : A → Bool) (text : A → List ℕ) (k : Option Kind) (line : A → Line) → ((x : A) → ok x ≡ true → Prints (text x) k (line x))
     → (xs : List A) → every ok xs ≡ true → EachPrints (map text xs) (replicate (length xs) k) (map line xs)
 unfolding every
 each_map ok text k line p [] h = none
@@ -210,14 +211,14 @@ each_map ok text k line p (x ∷ xs) h =
     more (p x (and_left (ok x) (every ok xs) h)) (each_map ok text k line p xs (and_right (ok x) (every ok xs) h))
 
 -- what the line rows ask of all of them, and what the reader puts down of them
-pub record LinesPrinted (ls : List (List ℕ)) (ks : List Kind) (lines : List Line) : Type 0 where
+pub record LinesPrinted (ls : List (List ℕ)) (ks : List (Option Kind)) (lines : List Line) : Type 0 where
   pub ended : every (without line_end) ls ≡ true
   pub ordered : map kind_of_line ls ≡ ks
   pub counted : every count_ok ls ≡ true
   pub formed : every form_ok ls ≡ true
   pub read : map line_read ls ≡ lines
 
-pub each-printed : {ls : List (List ℕ)} {ks : List Kind} {lines : List Line} → EachPrints ls ks lines → LinesPrinted ls ks lines
+pub each-printed : {ls : List (List ℕ)} {ks : List (Option Kind)} {lines : List Line} → EachPrints ls ks lines → LinesPrinted ls ks lines
 unfolding every count_ok form_ok line_read
 each-printed none = record { ended = refl; ordered = refl; counted = refl; formed = refl; read = refl }
 each-printed (more p r) =

@@ -1,5 +1,6 @@
 -- The printed text of a scene that a text can say: no line row refuses it, and it says that scene.
 -- Assumes nothing.
+use Rattle.std.specs.Prelude.{Option, Some}
 use Prim.Native.Nat.{ℕ, ◌≤◌}
 use mathlib.Core.Path.{◌≡◌, refl, ap, ◌∙◌}
 use mathlib.Core.Bool.{Bool, true, false, cond}
@@ -33,11 +34,11 @@ pub scene-prints : (s : Scene) → Sayable s
 unfolding text_lines kinds_of lines_of
 scene-prints s h =
     let verdict = more (digits-prints s.digits (record { few = h.few_digits; each = h.digits })) none in
-    let inputs = each_map input_ok input_text kind.Input input_line (λ i e. input-prints i (input-holds i e)) s.inputs h.inputs in
-    let outputs = each_map output_ok output_text kind.Output output_line (λ o e. output-prints o (output-holds o e)) s.outputs h.outputs in
-    let deps = each_map cell_ok dep_text kind.Dep cell_line (λ c e. dep-prints c (cell_holds c e)) s.deps h.deps in
-    let witnesses = each_map bytes_ok (bytes_text witness) kind.Witness bytes_line (bytes-prints kind.Witness refl refl) s.witnesses h.witnesses in
-    let head = more (bytes-prints kind.Script refl refl s.script h.script) (more (hash-prints s.transaction (hash-holds s.transaction h.transaction)) inputs) in
+    let inputs = each_map input_ok input_text (Some kind.Input) input_line (λ i e. input-prints i (input-holds i e)) s.inputs h.inputs in
+    let outputs = each_map output_ok output_text (Some kind.Output) output_line (λ o e. output-prints o (output-holds o e)) s.outputs h.outputs in
+    let deps = each_map cell_ok dep_text (Some kind.Dep) cell_line (λ c e. dep-prints c (cell_holds c e)) s.deps h.deps in
+    let witnesses = each_map bytes_ok (bytes_text witness) (Some kind.Witness) bytes_line (bytes-prints (Some kind.Witness) refl refl) s.witnesses h.witnesses in
+    let head = more (bytes-prints (Some kind.Script) refl refl s.script h.script) (more (hash-prints s.transaction (hash-holds s.transaction h.transaction)) inputs) in
     each-prints-append (each-prints-append (each-prints-append (each-prints-append head outputs) deps) witnesses) verdict
 
 -- the bytes of lines are those that the reader puts down
@@ -80,12 +81,12 @@ unfolding printed-passes
 printed-lines s n ok room = refl
 
 -- the fields of lines of kind j, where those of kind k are asked for
-given : Kind → Kind → List (List (List ℕ)) → List (List (List ℕ))
+given : Option Kind → Option Kind → List (List (List ℕ)) → List (List (List ℕ))
 given j k fss = cond (eqb (rank j) (rank k)) fss []
 
-module _ (k : Kind) where
+module _ (k : Option Kind) where
   -- a line gives its fields to its kind
-  line_gives : (l : List ℕ) (j : Kind) (fs : List (List ℕ)) (ls : List (List ℕ)) → Says l j fs
+  line_gives : (l : List ℕ) (j : Option Kind) (fs : List (List ℕ)) (ls : List (List ℕ)) → Says l j fs
       → fields_of_kind k (l ∷ ls) ≡ given j k (fs ∷ []) ++ fields_of_kind k ls
   unfolding fields_of_kind given
   line_gives l j fs ls says = rw (says.kind, says.fields) (go (eqb (rank j) (rank k)) (fields_of_kind k ls))
@@ -95,7 +96,7 @@ module _ (k : Kind) where
       go false rest = refl
 
   -- and so do lines of one kind
-  lines-give : {A : Type 0} (ok : A → Bool) (text : A → List ℕ) (j : Kind) (fields : A → List (List ℕ)) → ((x : A) → ok x ≡ true → Says (text x) j (fields x))
+  lines-give : {A : Type 0} (ok : A → Bool) (text : A → List ℕ) (j : Option Kind) (fields : A → List (List ℕ)) → ((x : A) → ok x ≡ true → Says (text x) j (fields x))
       → (xs : List A) → every ok xs ≡ true → (ls : List (List ℕ)) → fields_of_kind k (map text xs ++ ls) ≡ given j k (map fields xs) ++ fields_of_kind k ls
   unfolding every given
   lines-give ok text j fields says [] h ls = none-given (eqb (rank j) (rank k))
@@ -116,23 +117,23 @@ bytes_fields : List ℕ → List (List ℕ)
 bytes_fields bytes = hex_text bytes ∷ []
 
 -- the fields of each kind in the printed text
-printed-fields : (s : Scene) → Sayable s → (k : Kind) → fields_of_kind k (text_lines s)
-    ≡ given kind.Script k (bytes_fields s.script ∷ [])
-    ++ (given kind.Tx k (bytes_fields s.transaction ∷ [])
-    ++ (given kind.Input k (map input_fields s.inputs)
-    ++ (given kind.Output k (map output_fields s.outputs)
-    ++ (given kind.Dep k (map cell_fields s.deps)
-    ++ (given kind.Witness k (map bytes_fields s.witnesses) ++ (given kind.Verdicts k ((digits_text s.digits ∷ []) ∷ []) ++ []))))))
+printed-fields : (s : Scene) → Sayable s → (k : Option Kind) → fields_of_kind k (text_lines s)
+    ≡ given (Some kind.Script) k (bytes_fields s.script ∷ [])
+    ++ (given (Some kind.Tx) k (bytes_fields s.transaction ∷ [])
+    ++ (given (Some kind.Input) k (map input_fields s.inputs)
+    ++ (given (Some kind.Output) k (map output_fields s.outputs)
+    ++ (given (Some kind.Dep) k (map cell_fields s.deps)
+    ++ (given (Some kind.Witness) k (map bytes_fields s.witnesses) ++ (given (Some kind.Verdicts) k ((digits_text s.digits ∷ []) ∷ []) ++ []))))))
 unfolding text_lines bytes_fields fields_of_kind
 printed-fields s h k =
     rw (
-      line_gives k _ _ _ _ (bytes-says kind.Script s.script h.script),
-      line_gives k _ _ _ _ (bytes-says kind.Tx s.transaction (hash-holds s.transaction h.transaction).bytes),
+      line_gives k _ _ _ _ (bytes-says (Some kind.Script) s.script h.script),
+      line_gives k _ _ _ _ (bytes-says (Some kind.Tx) s.transaction (hash-holds s.transaction h.transaction).bytes),
       right-nested (map input_text s.inputs) (map output_text s.outputs) (map dep_text s.deps) (map (bytes_text witness) s.witnesses) _,
-      lines-give k input_ok input_text kind.Input input_fields (λ i e. input-says i (input-holds i e)) s.inputs h.inputs,
-      lines-give k output_ok output_text kind.Output output_fields (λ o e. output-says o (output-holds o e)) s.outputs h.outputs,
-      lines-give k cell_ok dep_text kind.Dep cell_fields (λ c e. dep-says c (cell_holds c e)) s.deps h.deps,
-      lines-give k bytes_ok (bytes_text witness) kind.Witness bytes_fields (bytes-says kind.Witness) s.witnesses h.witnesses,
+      lines-give k input_ok input_text (Some kind.Input) input_fields (λ i e. input-says i (input-holds i e)) s.inputs h.inputs,
+      lines-give k output_ok output_text (Some kind.Output) output_fields (λ o e. output-says o (output-holds o e)) s.outputs h.outputs,
+      lines-give k cell_ok dep_text (Some kind.Dep) cell_fields (λ c e. dep-says c (cell_holds c e)) s.deps h.deps,
+      lines-give k bytes_ok (bytes_text witness) (Some kind.Witness) bytes_fields (bytes-says (Some kind.Witness)) s.witnesses h.witnesses,
       line_gives k _ _ _ _ (digits-says s.digits (record { few = h.few_digits; each = h.digits })),
     )
 
@@ -150,13 +151,13 @@ unfolding scene_of given only_field bytes_field bytes_fields
 printed-reading s ok =
     let h = sayable s ok in
     let fields = printed-fields s h in
-    let script = ap (λ (f : List (List (List ℕ))). hex_bytes (only_field f)) (fields kind.Script) ∙ hex-back s.script h.script in
-    let transaction = ap (λ (f : List (List (List ℕ))). hex_bytes (only_field f)) (fields kind.Tx) ∙ hex-back s.transaction (hash-holds s.transaction h.transaction).bytes in
-    let inputs = ap (map input_of) (fields kind.Input) ∙ values-back input_ok input_fields input_of (λ i e. input-fields-back i (input-holds i e)) s.inputs h.inputs in
-    let outputs = ap (map output_of) (fields kind.Output) ∙ values-back output_ok output_fields output_of (λ o e. output-back o (output-holds o e)) s.outputs h.outputs in
-    let deps = ap (map (cell_of 0)) (fields kind.Dep) ∙ values-back cell_ok cell_fields (cell_of 0) (λ c e. dep-back c (cell_holds c e)) s.deps h.deps in
-    let witnesses = ap (map bytes_field) (fields kind.Witness) ∙ values-back bytes_ok bytes_fields bytes_field hex-back s.witnesses h.witnesses in
-    let digits = ap (λ (f : List (List (List ℕ))). map hex_val (only_field f)) (fields kind.Verdicts) ∙ digits-back 3 (omega arith) s.digits h.digits in
+    let script = ap (λ (f : List (List (List ℕ))). hex_bytes (only_field f)) (fields (Some kind.Script)) ∙ hex-back s.script h.script in
+    let transaction = ap (λ (f : List (List (List ℕ))). hex_bytes (only_field f)) (fields (Some kind.Tx)) ∙ hex-back s.transaction (hash-holds s.transaction h.transaction).bytes in
+    let inputs = ap (map input_of) (fields (Some kind.Input)) ∙ values-back input_ok input_fields input_of (λ i e. input-fields-back i (input-holds i e)) s.inputs h.inputs in
+    let outputs = ap (map output_of) (fields (Some kind.Output)) ∙ values-back output_ok output_fields output_of (λ o e. output-back o (output-holds o e)) s.outputs h.outputs in
+    let deps = ap (map (cell_of 0)) (fields (Some kind.Dep)) ∙ values-back cell_ok cell_fields (cell_of 0) (λ c e. dep-back c (cell_holds c e)) s.deps h.deps in
+    let witnesses = ap (map bytes_field) (fields (Some kind.Witness)) ∙ values-back bytes_ok bytes_fields bytes_field hex-back s.witnesses h.witnesses in
+    let digits = ap (λ (f : List (List (List ℕ))). map hex_val (only_field f)) (fields (Some kind.Verdicts)) ∙ digits-back 3 (omega arith) s.digits h.digits in
     λ i. record {
       script = script i;
       transaction = transaction i;

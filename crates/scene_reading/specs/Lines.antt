@@ -1,6 +1,6 @@
 -- When no line row refuses a scene, said of the lines of its text. 01: "The reader accepts every scene that no reader or line row
 -- refuses"; the rows are those of "Where each refusal is raised".
-use Rattle.std.specs.Prelude.{ℕ, ◌≤◌, Bool, true, ◌≡◌, List, [], ◌∷◌, ◌++◌, map, length, replicate, eqb}
+use Rattle.std.specs.Prelude.{ℕ, ◌≤◌, Bool, true, ◌≡◌, List, [], ◌∷◌, ◌++◌, map, length, replicate, eqb, Option, Some}
 use Rattle.octets.specs.Lists.{joined, every}
 use Rattle.text.specs.Text.{pieces, comma, line_end}
 use Rattle.scene_line.specs.declared.kind.Kind.{Kind}
@@ -14,22 +14,22 @@ unfoldable pub word_of : List (List ℕ) → List ℕ
 word_of [] = []
 word_of (w ∷ fs) = w
 
-unfoldable pub kind_of_line : List ℕ → Kind
+unfoldable pub kind_of_line : List ℕ → Option Kind
 kind_of_line l = kind_of (word_of (pieces comma l))
 
 unfoldable pub fields_of_line : List ℕ → List (List ℕ)
 fields_of_line l = line_fields (pieces comma l)
 
 -- "in this order of kinds"; "Script, tx and verdicts stand once"
-unfoldable pub kinds_of : ℕ → ℕ → ℕ → ℕ → List Kind
+unfoldable pub kinds_of : ℕ → ℕ → ℕ → ℕ → List (Option Kind)
 kinds_of inputs outputs deps witnesses =
-    Script
-    ∷ Tx
-    ∷ replicate inputs Input
-    ++ replicate outputs Output
-    ++ replicate deps Dep
-    ++ replicate witnesses Witness
-    ++ (Verdicts ∷ [])
+    (Some Script)
+    ∷ (Some Tx)
+    ∷ replicate inputs (Some Input)
+    ++ replicate outputs (Some Output)
+    ++ replicate deps (Some Dep)
+    ++ replicate witnesses (Some Witness)
+    ++ (Some Verdicts ∷ [])
 
 -- "line: kind, order, field count, ending, or a needed line missing", 2, of the field count
 unfoldable pub count_ok : List ℕ → Bool

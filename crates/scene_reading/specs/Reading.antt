@@ -1,5 +1,5 @@
 -- What a text says: the scene that its lines hold, each line read by its kind, as 01, "The scene, added by the port", lists them.
-use Rattle.std.specs.Prelude.{ℕ, ◌+◌, cond, List, [], ◌∷◌, map, get_or, eqb}
+use Rattle.std.specs.Prelude.{ℕ, ◌+◌, cond, List, [], ◌∷◌, map, get_or, eqb, Option, Some}
 use Rattle.text.specs.Text.{hex_bytes, hex_val, decimal_of, number_in}
 use Rattle.scene_line.specs.declared.kind.Kind.{Kind}
 use Rattle.scene_line.specs.declared.kind.Kind.TheVariants as kind
@@ -37,7 +37,7 @@ unfoldable pub bytes_field : List (List ℕ) → List ℕ
 bytes_field fs = hex_bytes (get_or fs 0 [])
 
 -- the fields of the lines of a kind, line by line
-unfoldable pub fields_of_kind : Kind → List (List ℕ) → List (List (List ℕ))
+unfoldable pub fields_of_kind : Option Kind → List (List ℕ) → List (List (List ℕ))
 fields_of_kind k [] = []
 fields_of_kind k (l ∷ ls) = cond (eqb (rank (kind_of_line l)) (rank k)) (fields_of_line l ∷ fields_of_kind k ls) (fields_of_kind k ls)
 
@@ -50,11 +50,11 @@ only_field (fs ∷ more) = get_or fs 0 []
 -- tx and verdicts stand once"
 unfoldable pub scene_of : List (List ℕ) → Scene
 scene_of ls = record {
-  script = hex_bytes (only_field (fields_of_kind kind.Script ls));
-  transaction = hex_bytes (only_field (fields_of_kind kind.Tx ls));
-  inputs = map input_of (fields_of_kind kind.Input ls);
-  outputs = map output_of (fields_of_kind kind.Output ls);
-  deps = map (cell_of 0) (fields_of_kind kind.Dep ls);
-  witnesses = map bytes_field (fields_of_kind kind.Witness ls);
-  digits = map hex_val (only_field (fields_of_kind kind.Verdicts ls));
+  script = hex_bytes (only_field (fields_of_kind (Some kind.Script) ls));
+  transaction = hex_bytes (only_field (fields_of_kind (Some kind.Tx) ls));
+  inputs = map input_of (fields_of_kind (Some kind.Input) ls);
+  outputs = map output_of (fields_of_kind (Some kind.Output) ls);
+  deps = map (cell_of 0) (fields_of_kind (Some kind.Dep) ls);
+  witnesses = map bytes_field (fields_of_kind (Some kind.Witness) ls);
+  digits = map hex_val (only_field (fields_of_kind (Some kind.Verdicts) ls));
 }
