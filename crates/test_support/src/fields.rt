@@ -26,10 +26,7 @@ pub fn fields_after(fields: &[u8]) -> &[u8]
 pub fn value(f: &[u8]) -> u64
     ensures { result ≡ field_number (decimal_of f.now) }
 {
-    match read_decimal(f) {
-        Some(v) => v,
-        None => NO_NUMBER,
-    }
+    read_decimal(f).unwrap_or(NO_NUMBER)
 }
 
 // A byte as a number that can be printed.
