@@ -19,3 +19,6 @@ bit-of false false false bit h = absurd (let e : ◌≡◌ {A = ℕ} 0 1 = cc in
 pub bit-above : (operation bit : ℕ) → capability_for operation ≡ Ok bit → 0 < bit
 unfolding capability_for
 bit-above operation bit h = bit-of (eqb operation 1) (eqb operation 2) (eqb operation 3) bit h
+
+-- for the check's own search
+pub ruleset bits = (bit-above)

@@ -1,7 +1,7 @@
 -- The place of a slot's entry: what is there is what the entries say of the slot, and the search for it, an entry a turn.
 -- Assumes nothing.
-use Rattle.std.specs.Prelude.{None, Some}
-use mathlib.Core.Path.{◌≡◌, refl, sym, ap, ◌∙◌}
+use Rattle.std.specs.Prelude.{None, Some, is_some}
+use mathlib.Core.Path.{◌≡◌, refl, ◌∙◌}
 use mathlib.Core.Bool.{Bool, true, false, cond}
 use mathlib.Core.List.{List, []}
 use Prim.Native.Nat.{ℕ, zero, suc, ◌+◌, ◌-◌, ◌*◌, ◌≤◌, ◌<◌}
@@ -11,10 +11,10 @@ use lib.ListN.{drop}
 use lib.Seq.{drop-drop}
 use borrow.Author.Tests.{eq-eqb, ne_eqb}
 use Rattle.octets.specs.Le.{number_at, from_le}
-use Rattle.account_state.specs.Fields.{entry_length_of, entry_slot_of}
+use Rattle.account_state.specs.Fields.{entry_count_of, entry_length_of, entry_slot_of}
 use Rattle.account_state.specs.Reading.{entry_of, entries_of, state_entries}
 use Rattle.quorum.specs.Slots.{known_slot, entry_for, no_entry}
-use Rattle.quorum.specs.Places.{place_from, entry_place, is_known, entry_in}
+use Rattle.quorum.specs.Places.{place_from, entry_place, entry_in}
 
 -- no bytes read as no entry
 none_read : entry_of [] ≡ no_entry
@@ -23,13 +23,13 @@ none_read = refl
 
 module _ (slot : ℕ) (state : List ℕ) where
   -- among n entries: there is a place exactly where there is an entry,
-  place-known-from : (n at : ℕ) → is_known (place_from slot state n at) ≡ known_slot slot (entries_of n (drop at state))
+  place-known-from : (n at : ℕ) → is_some (place_from slot state n at) ≡ known_slot slot (entries_of n (drop at state))
   unfolding place_from known_slot entries_of entry_of
   place-known-from zero at = refl
   place-known-from (suc n) at = go (eqb (entry_slot_of (drop at state)) slot) (place-known-from n (at + entry_length_of (drop at state)))
     where
-      go : (b : Bool) → is_known (place_from slot state n (at + entry_length_of (drop at state))) ≡ known_slot slot (entries_of n (drop (at + entry_length_of (drop at state)) state))
-          → is_known (cond b (Some at) (place_from slot state n (at + entry_length_of (drop at state))))
+      go : (b : Bool) → is_some (place_from slot state n (at + entry_length_of (drop at state))) ≡ known_slot slot (entries_of n (drop (at + entry_length_of (drop at state)) state))
+          → is_some (cond b (Some at) (place_from slot state n (at + entry_length_of (drop at state))))
           ≡ cond b true (known_slot slot (entries_of n (drop (entry_length_of (drop at state)) (drop at state))))
       go true h = refl
       go false h = rw (drop-drop (entry_length_of (drop at state)) at state) h
@@ -47,7 +47,7 @@ module _ (slot : ℕ) (state : List ℕ) where
       go false h = rw (drop-drop (entry_length_of (drop at state)) at state) h
 
   -- the state has an entry for the slot exactly where the place of one is found,
-  pub place-known : is_known (entry_place slot state) ≡ known_slot slot (state_entries state)
+  pub place-known : is_some (entry_place slot state) ≡ known_slot slot (state_entries state)
   unfolding entry_place
   place-known = place-known-from _ 32
 
@@ -61,22 +61,27 @@ pub record Seeking (slot : ℕ) (state : List ℕ) (left at : ℕ) : Type 0 wher
   pub small : at + 65535 * left ≤ 16711457
   pub finds : entry_place slot state ≡ place_from slot state left at
 
-module _ {slot : ℕ} {state : List ℕ} {left at : ℕ} (z : Seeking slot state left at) where
-  one-first : 0 < left → place_from slot state left at
-      ≡ cond (eqb (entry_slot_of (drop at state)) slot) (Some at) (place_from slot state (left - 1) (at + entry_length_of (drop at state)))
-  unfolding place_from
-  one-first h = let l : left ≡ suc (left - 1) = omega arith in ap (λ (n : ℕ). place_from slot state n at) l
+pub seek-first : (slot : ℕ) (state : List ℕ) (left : ℕ) → left ≤ 255 → left ≡ entry_count_of state → Seeking slot state left 32
+unfolding entry_place
+seek-first slot state left h e = record { small = omega arith; finds = rw e }
 
-  -- its slot is this one
-  pub seek_hit : 0 < left → entry_slot_of (drop at state) ≡ slot → Some at ≡ entry_place slot state
-  seek_hit h e = sym (z.finds ∙ (one-first h ∙ rw (eq-eqb _ _ e)))
+-- its slot is this one
+pub seek_hit : {slot : ℕ} {state : List ℕ} {left at : ℕ} → Seeking slot state left at → 0 < left → entry_slot_of (drop at state) ≡ slot
+    → entry_place slot state ≡ Some at
+unfolding place_from
+seek_hit {left = left} z h e = let one : left ≡ suc (left - 1) = omega arith in z.finds ∙ rw (one, eq-eqb _ _ e)
 
-  -- it is another
-  pub seek-next : 0 < left → (entry_slot_of (drop at state) ≡ slot → ⊥) → (n : ℕ) → n ≡ entry_length_of (drop at state) → n ≤ 65535
-      → Seeking slot state (left - 1) (at + n)
-  seek-next h e n k m = record { small = omega arith; finds = z.finds ∙ (one-first h ∙ rw (ne_eqb _ _ e, k)) }
+-- it is another
+pub seek-next : {slot : ℕ} {state : List ℕ} {left next at : ℕ} → Seeking slot state left at → left ≡ suc next
+    → (entry_slot_of (drop at state) ≡ slot → ⊥) → entry_length_of (drop at state) ≤ 65535
+    → Seeking slot state next (at + entry_length_of (drop at state))
+unfolding place_from
+seek-next z one e m = record { small = omega arith; finds = z.finds ∙ rw (one, ne_eqb _ _ e) }
 
-  -- no entry is left
-  pub seek-none : left ≡ 0 → None ≡ entry_place slot state
-  unfolding place_from
-  seek-none h = sym (z.finds ∙ rw h)
+-- no entry is left
+pub seek-none : {slot : ℕ} {state : List ℕ} {left at : ℕ} → Seeking slot state left at → left ≡ 0 → entry_place slot state ≡ None
+unfolding place_from
+seek-none z h = z.finds ∙ rw h
+
+-- for the check's own search
+pub ruleset seeks = (seek-first, seek_hit, seek-next, seek-none)

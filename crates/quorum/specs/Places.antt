@@ -1,5 +1,5 @@
 -- The place of a slot's entry in the bytes of a state, on any bytes: entries are walked by their lengths, as many as are counted.
-use Rattle.std.specs.Prelude.{ℕ, zero, suc, ◌+◌, Bool, true, false, cond, List, [], eqb, drop, None, Option, Some}
+use Rattle.std.specs.Prelude.{ℕ, zero, suc, ◌+◌, cond, List, [], eqb, drop, None, Option, Some}
 use Rattle.account_state.specs.Fields.{entry_count_of, entry_length_of, entry_slot_of}
 
 -- where the first of n entries that has the slot begins, the first of the n being at `at`; 01: "The account in a state has one entry
@@ -13,11 +13,7 @@ place_from slot state (suc n) at =
 unfoldable pub entry_place : ℕ → List ℕ → Option ℕ
 entry_place slot state = place_from slot state (entry_count_of state) 32
 
--- whether there is an entry, and the bytes from it on
-abbrev pub is_known : Option ℕ → Bool
-is_known (Some at) = true
-is_known None = false
-
+-- the bytes from the entry on
 abbrev pub entry_in : List ℕ → Option ℕ → List ℕ
 entry_in state (Some at) = drop at state
 entry_in state None = []

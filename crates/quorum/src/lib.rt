@@ -5,4 +5,4 @@ mod slot; // slot.rt
 mod operation; // operation.rt
 
 pub use self::operation::{is_capable, threshold_of};
-pub use self::slot::{entry_in, find_authenticator, is_known};
+pub use self::slot::{entry_in, find_authenticator};
