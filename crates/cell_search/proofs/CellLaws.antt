@@ -20,7 +20,7 @@ use Rattle.cell_search.specs.declared.cells.Source.TheVariants as source
 use Rattle.cell_search.specs.declared.cells.CellField.{CellField}
 use Rattle.cell_search.specs.declared.search.Search.{Search}
 use Rattle.cell_search.specs.declared.search.Search.TheVariants.{Missing, One, Several}
-use Rattle.cell_search.specs.Search.{cells_of, cell_hash, matching, search_of, is_missing, is_one, is_several, cell_at, no_cell}
+use Rattle.cell_search.specs.Search.{cells_of, cell_hash, matching, matches, search_of, is_missing, is_one, is_several, cell_at, no_cell}
 use Rattle.cell_search.specs.Cells.{cell_count, source_places, no_places, places_within}
 
 -- the cells of a list are the table's records
@@ -68,18 +68,25 @@ module _ (from : Source) (table store : List ℕ) (i : ℕ) where
 unfoldable pub match_from : CellField → List ℕ → List Cell → ℕ → List ℕ
 match_from f hash cells k = matching f hash k (drop k cells)
 
-module _ (f : CellField) (hash : List ℕ) {cells : List Cell} {n : ℕ} {g : ℕ → Cell} (l : Listed cells n g) (k : ℕ) where
-  pub match-yes : k < n → same (cell_hash f (g k)) hash ≡ true → match_from f hash cells k ≡ k ∷ match_from f hash cells (k + 1)
+module _ (f : CellField) (hash : List ℕ) (from : Source) (table store : List ℕ) (k : ℕ) where
+  -- a cell that has it, one that has not, and behind the last
+  pub match-yes : k < cell_count from table → same (cell_hash f (places.cell_in store (source_places from table k))) hash ≡ true
+      → match_from f hash (cells_of from (scene_in table store)) k ≡ k ∷ match_from f hash (cells_of from (scene_in table store)) (k + 1)
   unfolding match_from matching
-  match-yes h e = rw (l.turn k h, e)
+  match-yes h e = rw ((cells-listed from table store).turn k h, e)
 
-  pub match-no : k < n → same (cell_hash f (g k)) hash ≡ false → match_from f hash cells k ≡ match_from f hash cells (k + 1)
+  pub match-no : k < cell_count from table → same (cell_hash f (places.cell_in store (source_places from table k))) hash ≡ false
+      → match_from f hash (cells_of from (scene_in table store)) k ≡ match_from f hash (cells_of from (scene_in table store)) (k + 1)
   unfolding match_from matching
-  match-no h e = rw (l.turn k h, e)
+  match-no h e = rw ((cells-listed from table store).turn k h, e)
 
-  pub match-end : n ≤ k → match_from f hash cells k ≡ []
+  pub match-end : cell_count from table ≤ k → match_from f hash (cells_of from (scene_in table store)) k ≡ []
   unfolding match_from matching
-  match-end h = rw (l.none k h)
+  match-end h = rw ((cells-listed from table store).none k h)
+
+pub match-first : (f : CellField) (hash : List ℕ) (cells : List Cell) → match_from f hash cells 0 ≡ matches f hash cells
+unfolding match_from matches
+match-first f hash cells = refl
 
 -- the indices behind an answer, as many of them as tell the answers apart
 unfoldable pub places_of : Search → List ℕ
@@ -100,6 +107,8 @@ unfolding search_of places_of
 second-match Missing k xs o = absurd (o refl)
 second-match (One j) k xs o = refl
 second-match Several k xs o = refl
+
+pub ruleset searching = (match-first, match-yes, match-no, match-end, found-places, second-match)
 
 -- none, one and several, told by how many indices there are
 pub missing-count : (xs : List ℕ) → eqb (length xs) 0 ≡ is_missing (search_of xs)

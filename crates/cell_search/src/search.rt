@@ -15,6 +15,7 @@ pub enum Search {
 }
 
 // The search leaves its loop at the second match.
+#[tactic(auto, using(crate::proofs::CellLaws::searching), unfolding(crate::specs::Search::cell_search, crate::proofs::CellLaws::places_of))]
 pub fn search_cells(
     table: &[u32],
     store: &[u8],
