@@ -5,12 +5,12 @@ use mathlib.Core.List.{List, [], ◌∷◌, ◌++◌, append_assoc}
 use Prim.Native.Nat.{ℕ, ◌+◌, ◌≤◌}
 use native.Mathlib.Omega.{arith}
 use lib.Dec.{lit<}
-use lib.ListN.{length, take, drop, length-append, length-drop}
-use lib.Seq.{sets, take-add, drop-drop, length-take-le}
+use lib.ListN.{length, take, drop, replicate, length-append, length-drop, length-replicate}
+use lib.Seq.{sets, take_all, take-add, drop-drop, length-take-le}
 use Rattle.octets.specs.Le.{to_le, from_le, number_at, Bytes}
 use Rattle.octets.specs.Layout.{Field, layout_bytes, layout_at, field_widths, layout_width, LayoutFits}
 use Rattle.octets.proofs.LeLaws.{length_to, from-to-fit, to-from, bytes_take, bytes_drop, bytes-append, bytes-to}
-use Rattle.octets.proofs.Stores.{sets-append}
+use Rattle.octets.proofs.Stores.{sets-append, sets_over}
 use Rattle.octets.proofs.Parts.{part-back}
 
 -- a table's bytes are as many as its widths say
@@ -65,3 +65,14 @@ numbers-stored l at [] = refl
 numbers-stored l at (f ∷ fs) =
     numbers-stored (sets l at (to_le f.width f.value)) (at + f.width) fs
     ∙ sets-append l at (to_le f.width f.value) (layout_bytes fs) (at + f.width) (ap (λ (k : ℕ). at + k) (sym (length_to f.width f.value)))
+
+-- the same, by the bytes
+pub layout_stored : (l : List ℕ) (at : ℕ) (fs : List Field) → sets l at (layout_bytes fs) ≡ store_numbers l at fs
+layout_stored l at fs = sym (numbers-stored l at fs)
+
+-- a table that fills an array of zeros
+pub layout_filled : (fs : List Field) → layout_bytes fs ≡ store_numbers (replicate (layout_width (field_widths fs)) 0) 0 fs
+layout_filled fs =
+    let l : List ℕ = replicate (layout_width (field_widths fs)) 0 in
+    let n : length (layout_bytes fs) ≡ length l = length-numbers fs ∙ sym (length-replicate (layout_width (field_widths fs)) 0) in
+    sym (numbers-stored l 0 fs ∙ (sets_over l (layout_bytes fs) (omega arith) ∙ take_all (length l) (layout_bytes fs) (omega arith)))
