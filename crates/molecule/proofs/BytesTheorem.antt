@@ -1,8 +1,8 @@
 -- The bytes in a field, the lock of a witness and the args of a script: accepted exactly where every check passes, and then
 -- the field is the vector of the bytes at the place that the reader gives.
 -- Assumes nothing.
-use Rattle.std.specs.Prelude.{Err, Ok, Result}
-use mathlib.Core.Path.{◌≡◌, refl, sym, ap, ◌∙◌}
+use Rattle.std.specs.Prelude.{Err, Ok}
+use mathlib.Core.Path.{◌≡◌, sym, ap, ◌∙◌}
 use mathlib.Core.List.{List, [], ◌∷◌, ◌++◌}
 use mathlib.Core.Logic.{◌↔◌}
 use Prim.Native.Nat.{ℕ, ◌+◌, ◌-◌, ◌^◌, ◌<◌}
@@ -14,79 +14,57 @@ use Rattle.octets.specs.Le.{Bytes}
 use Rattle.octets.specs.Places.{bytes_at}
 use Rattle.octets.proofs.LeLaws.{number_lt, length_to, bytes_take, bytes_drop}
 use Rattle.octets.proofs.Parts.{part_length}
-use Rattle.protocol.specs.Rows.{Row, decide, AllPass, FirstFailed, Check}
+use Rattle.protocol.specs.Rows.{Row, ◌then◌, decide, AllPass, FirstFailed}
 use Rattle.protocol.specs.Reading.{OneReading}
 use Rattle.protocol.specs.declared.error.ProtocolError.{ProtocolError}
 use Rattle.protocol.specs.declared.error.ProtocolError.TheVariants.{InvalidArgs, InvalidWitness}
 use Rattle.protocol.proofs.AllPass.{passed-all-pass, all-pass-passed, all-pass-split}
-use Rattle.protocol.proofs.Answers.{answer-given, answer-accepts, answer-refuses}
+use Rattle.protocol.proofs.Answers.{then-given, then-accepts, then-refuses}
 use Rattle.molecule.specs.Molecule.{bytes_vector, table_bytes}
 use Rattle.molecule.specs.Table3.{table_rows, between, field1, field2, field3, second_offset_of, table_total_of, third_offset_of}
-use Rattle.molecule.specs.Bytes.{bytes_rows, bytes_place_from, place_answer, read_bytes, witness_lock_rows, witness_lock_place, read_witness_lock, script_args_rows, script_args_place, read_script_args, bytes_in}
+use Rattle.molecule.specs.Bytes.{bytes_rows, bytes_place_from, read_bytes, witness_lock_rows, witness_lock_place, read_witness_lock, script_args_rows, script_args_place, read_script_args, bytes_in}
 use Rattle.molecule.proofs.Form.{TablePasses, table-passes, length-field1}
 use Rattle.molecule.proofs.Inverse.{table-written, vector-length, vector-written, vector-read}
 
--- what the checks found, by the answer
-abbrev pub place_found : Result Place ProtocolError → Check
-place_found (Ok p) = (Ok tt)
-place_found (Err e) = Err e
-
--- which is what it was made from
-place-back : (g : Place) (k : Check) → place_found (place_answer k g) ≡ k
-unfolding place_answer
-place-back g (Ok _) = refl
-place-back g (Err e) = refl
-
--- What holds of each of the three readers: its rows, and the place that it gives where they pass.
-module _ (rows : List Row) (g : Place) where
-  pub place-accepts : (place_answer (decide (Ok tt) rows) g ≡ Ok g) ↔ AllPass rows
-  unfolding place_answer
-  place-accepts = answer-accepts (λ k. place_answer k g) place_found (place-back g) rows
-
-  pub place-refuses : (e : ProtocolError) → (place_answer (decide (Ok tt) rows) g ≡ Err e) ↔ FirstFailed rows e
-  unfolding place_answer
-  place-refuses e = answer-refuses (λ k. place_answer k g) place_found (place-back g) rows e
-
-  place-given : (p : Place) → place_answer (decide (Ok tt) rows) g ≡ Ok p → AllPass rows × (p ≡ g)
-  unfolding place_answer
-  place-given p h =
-      let z = answer-given (λ k. place_answer k g) place_found (place-back g) (decide (Ok tt) rows) (Ok p) h refl in
-      let e : Ok g ≡ Ok p = z.1 in
-      (passed-all-pass rows z.0, cc)
+-- the place that a reader gives, and where it gives one its rows pass
+place-given : (rows : List Row) (g p : Place) → decide (Ok tt) rows then Ok g ≡ Ok p → AllPass rows × (p ≡ g)
+place-given rows g p h =
+    let z = then-given g (decide (Ok tt) rows) p h in
+    (passed-all-pass rows z.0, sym z.1)
 
 -- the bytes of a lock and of args that pass
 pub lock-read : (s : List ℕ) → AllPass (witness_lock_rows s) → bytes_at s (witness_lock_place s) ≡ bytes_in s (read_witness_lock s)
-unfolding read_witness_lock place_answer bytes_in
+unfolding read_witness_lock bytes_in
 lock-read s h = rw (all-pass-passed (witness_lock_rows s) h)
 
 pub args_read : (s : List ℕ) → AllPass (script_args_rows s) → bytes_at s (script_args_place s) ≡ bytes_in s (read_script_args s)
-unfolding read_script_args place_answer bytes_in
+unfolding read_script_args bytes_in
 args_read s h = rw (all-pass-passed (script_args_rows s) h)
 
 -- accepted exactly where every check passes, refused exactly with the first that fails
 pub bytes-accepts : (field : List ℕ) → (read_bytes field ≡ Ok (bytes_place_from 0 field)) ↔ AllPass (bytes_rows InvalidWitness field)
 unfolding read_bytes
-bytes-accepts field = place-accepts (bytes_rows InvalidWitness field) (bytes_place_from 0 field)
+bytes-accepts field = then-accepts (bytes_place_from 0 field) (bytes_rows InvalidWitness field)
 
 pub bytes-refuses : (field : List ℕ) (e : ProtocolError) → (read_bytes field ≡ Err e) ↔ FirstFailed (bytes_rows InvalidWitness field) e
 unfolding read_bytes
-bytes-refuses field e = place-refuses (bytes_rows InvalidWitness field) (bytes_place_from 0 field) e
+bytes-refuses field e = then-refuses (bytes_place_from 0 field) (bytes_rows InvalidWitness field) e
 
 pub witness-lock-accepts : (s : List ℕ) → (read_witness_lock s ≡ Ok (bytes_place_from 16 (field1 s))) ↔ AllPass (witness_lock_rows s)
 unfolding read_witness_lock
-witness-lock-accepts s = place-accepts (witness_lock_rows s) (bytes_place_from 16 (field1 s))
+witness-lock-accepts s = then-accepts (bytes_place_from 16 (field1 s)) (witness_lock_rows s)
 
 pub witness-lock-refuses : (s : List ℕ) (e : ProtocolError) → (read_witness_lock s ≡ Err e) ↔ FirstFailed (witness_lock_rows s) e
 unfolding read_witness_lock
-witness-lock-refuses s e = place-refuses (witness_lock_rows s) (bytes_place_from 16 (field1 s)) e
+witness-lock-refuses s e = then-refuses (bytes_place_from 16 (field1 s)) (witness_lock_rows s) e
 
 pub script-args-accepts : (s : List ℕ) → (read_script_args s ≡ Ok (bytes_place_from (third_offset_of s) (field3 s))) ↔ AllPass (script_args_rows s)
 unfolding read_script_args
-script-args-accepts s = place-accepts (script_args_rows s) (bytes_place_from (third_offset_of s) (field3 s))
+script-args-accepts s = then-accepts (bytes_place_from (third_offset_of s) (field3 s)) (script_args_rows s)
 
 pub script-args-refuses : (s : List ℕ) (e : ProtocolError) → (read_script_args s ≡ Err e) ↔ FirstFailed (script_args_rows s) e
 unfolding read_script_args
-script-args-refuses s e = place-refuses (script_args_rows s) (bytes_place_from (third_offset_of s) (field3 s)) e
+script-args-refuses s e = then-refuses (bytes_place_from (third_offset_of s) (field3 s)) (script_args_rows s) e
 
 length-vector : (q : List ℕ) → length (bytes_vector q) ≡ 4 + length q
 unfolding bytes_vector

@@ -1,7 +1,7 @@
 -- Tables of three fields: their written form, what the loose reader's rows and its answer say, and the fields of one whose rows pass.
 -- Assumes nothing.
-use Rattle.std.specs.Prelude.{Err, Ok, Result}
-use mathlib.Core.Path.{◌≡◌, refl}
+use Rattle.std.specs.Prelude.{Ok}
+use mathlib.Core.Path.{◌≡◌, sym}
 use mathlib.Core.List.{List, [], ◌∷◌, ◌++◌, append-nil}
 use Prim.Native.Nat.{ℕ, ◌+◌, ◌-◌, ◌≤◌}
 use native.Mathlib.Omega.{arith}
@@ -11,14 +11,14 @@ use Rattle.octets.specs.Lists.{joined}
 use Rattle.octets.specs.Layout.{Field, layout_bytes}
 use Rattle.octets.proofs.LayoutLaws.{length-numbers}
 use Rattle.octets.proofs.Parts.{part_length}
-use Rattle.protocol.specs.Rows.{decide, AllPass, Check}
+use Rattle.protocol.specs.Rows.{decide, AllPass}
 use Rattle.protocol.specs.declared.error.ProtocolError.{ProtocolError}
 use Rattle.protocol.specs.declared.error.ProtocolError.TheVariants.{InvalidWitness}
 use Rattle.protocol.proofs.AllPass.{passed-all-pass}
-use Rattle.protocol.proofs.Answers.{answer-given}
+use Rattle.protocol.proofs.Answers.{then-given}
 use Rattle.molecule.specs.declared.table.TableFields.{TableFields}
 use Rattle.molecule.specs.Molecule.{offsets_from, head_size, table_head, table_bytes}
-use Rattle.molecule.specs.Table3.{table_rows, table_fields_of, table_answer, read_table, between, field1, field2, field3, first_offset_of, second_offset_of, table_total_of, third_offset_of}
+use Rattle.molecule.specs.Table3.{table_rows, table_fields_of, read_table, between, field1, field2, field3, first_offset_of, second_offset_of, table_total_of, third_offset_of}
 
 -- the numbers before the fields
 abbrev pub head3 : ℕ → ℕ → ℕ → List Field
@@ -83,21 +83,9 @@ module _ (s : List ℕ) (z : TablePasses s) where
   unfolding field3
   length-field3 = length-drop (third_offset_of s) s
 
--- what the checks found, by the answer
-abbrev pub table_found : Result TableFields ProtocolError → Check
-table_found (Ok f) = (Ok tt)
-table_found (Err e) = Err e
-
--- which is what it was made from
-pub table-found-back : (g : TableFields) (k : Check) → table_found (table_answer k g) ≡ k
-unfolding table_answer
-table-found-back g (Ok _) = refl
-table-found-back g (Err e) = refl
-
 -- the fields of an answer that accepts
 pub table-given : (s : List ℕ) (f : TableFields) → read_table s ≡ Ok f → AllPass (table_rows InvalidWitness s) × (f ≡ table_fields_of s)
-unfolding read_table table_answer
+unfolding read_table
 table-given s f h =
-    let z = answer-given (λ k. table_answer k (table_fields_of s)) table_found (table-found-back (table_fields_of s)) (decide (Ok tt) (table_rows InvalidWitness s)) (Ok f) h refl in
-    let e : Ok (table_fields_of s) ≡ Ok f = z.1 in
-    (passed-all-pass (table_rows InvalidWitness s) z.0, cc)
+    let z = then-given (table_fields_of s) (decide (Ok tt) (table_rows InvalidWitness s)) f h in
+    (passed-all-pass (table_rows InvalidWitness s) z.0, sym z.1)

@@ -15,22 +15,22 @@ use Rattle.protocol.specs.Rows.{AllPass, FirstFailed}
 use Rattle.protocol.specs.Reading.{OneReading}
 use Rattle.protocol.specs.declared.error.ProtocolError.{ProtocolError}
 use Rattle.protocol.specs.declared.error.ProtocolError.TheVariants.{InvalidWitness}
-use Rattle.protocol.proofs.Answers.{answer-accepts, answer-refuses}
+use Rattle.protocol.proofs.Answers.{then-accepts, then-refuses}
 use Rattle.molecule.specs.declared.table.TableFields.{TableFields}
 use Rattle.molecule.specs.Molecule.{table_bytes}
-use Rattle.molecule.specs.Table3.{table_rows, table_fields_of, table_answer, read_table, field1, field2, field3, Table3, table3_bytes, table_given}
-use Rattle.molecule.proofs.Form.{length_three, TablePasses, table-passes, table-passes-hold, table_found, table-found-back, table-given}
+use Rattle.molecule.specs.Table3.{table_rows, table_fields_of, read_table, field1, field2, field3, Table3, table3_bytes, table_given}
+use Rattle.molecule.proofs.Form.{length_three, TablePasses, table-passes, table-passes-hold, table-given}
 use Rattle.molecule.proofs.Inverse.{table-written, written-passes, field1-read, field2-read, field3-read}
 
 -- accepted exactly where every check passes
 pub table-accepts : (s : List ℕ) → (read_table s ≡ Ok (table_fields_of s)) ↔ AllPass (table_rows InvalidWitness s)
-unfolding read_table table_answer
-table-accepts s = answer-accepts (λ k. table_answer k (table_fields_of s)) table_found (table-found-back (table_fields_of s)) (table_rows InvalidWitness s)
+unfolding read_table
+table-accepts s = then-accepts (table_fields_of s) (table_rows InvalidWitness s)
 
 -- refused exactly with the first check that fails
 pub table-refuses : (s : List ℕ) (e : ProtocolError) → (read_table s ≡ Err e) ↔ FirstFailed (table_rows InvalidWitness s) e
-unfolding read_table table_answer
-table-refuses s e = answer-refuses (λ k. table_answer k (table_fields_of s)) table_found (table-found-back (table_fields_of s)) (table_rows InvalidWitness s) e
+unfolding read_table
+table-refuses s e = then-refuses (table_fields_of s) (table_rows InvalidWitness s) e
 
 -- a written table whose size fits its field is accepted, and read as what was written
 pub table-accepted : (e : ProtocolError) (r : Table3) → length (table3_bytes r) < 2 ^ 32

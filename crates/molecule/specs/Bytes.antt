@@ -4,8 +4,7 @@ use Rattle.std.specs.Prelude.{ℕ, ◌+◌, List, [], ◌∷◌, ◌++◌, eqb, 
 use Rattle.octets.specs.declared.place.Place.{Place}
 use Rattle.octets.specs.Le.{number_at}
 use Rattle.octets.specs.Places.{bytes_at}
-use Rattle.protocol.specs.Errors.{error_number}
-use Rattle.protocol.specs.Rows.{Row, row, decide, Check}
+use Rattle.protocol.specs.Rows.{Row, row, ◌then◌, decide}
 use Rattle.protocol.specs.declared.error.ProtocolError.{ProtocolError}
 use Rattle.protocol.specs.declared.error.ProtocolError.TheVariants.{InvalidArgs, InvalidWitness}
 use Rattle.molecule.specs.Table3.{third_offset_of, table_rows, field1, field3}
@@ -21,12 +20,8 @@ bytes_rows e field = row (leb 4 (length field)) e ∷ row (eqb (4 + bytes_length
 unfoldable pub bytes_place_from : ℕ → List ℕ → Place
 bytes_place_from at field = record { start = at + 4; len = bytes_length_of field }
 
-unfoldable pub place_answer : Check → Place → Result Place ProtocolError
-place_answer (Ok _) p = Ok p
-place_answer (Err e) p = Err e
-
 unfoldable pub read_bytes : List ℕ → Result Place ProtocolError
-read_bytes field = place_answer (decide (Ok tt) (bytes_rows InvalidWitness field)) (bytes_place_from 0 field)
+read_bytes field = decide (Ok tt) (bytes_rows InvalidWitness field) then Ok (bytes_place_from 0 field)
 
 -- "A witness's lock is field 1"; 01, "Where each refusal is raised": "table, empty lock" are 22
 unfoldable pub witness_lock_rows : List ℕ → List Row
@@ -37,7 +32,7 @@ abbrev pub witness_lock_place : List ℕ → Place
 witness_lock_place s = bytes_place_from 16 (field1 s)
 
 unfoldable pub read_witness_lock : List ℕ → Result Place ProtocolError
-read_witness_lock s = place_answer (decide (Ok tt) (witness_lock_rows s)) (witness_lock_place s)
+read_witness_lock s = decide (Ok tt) (witness_lock_rows s) then Ok (witness_lock_place s)
 
 -- "a script's args are field 3"; 01, "Where each refusal is raised": "script .., its table, args" are 20
 unfoldable pub script_args_rows : List ℕ → List Row
@@ -47,14 +42,9 @@ abbrev pub script_args_place : List ℕ → Place
 script_args_place s = bytes_place_from (third_offset_of s) (field3 s)
 
 unfoldable pub read_script_args : List ℕ → Result Place ProtocolError
-read_script_args s = place_answer (decide (Ok tt) (script_args_rows s)) (script_args_place s)
+read_script_args s = decide (Ok tt) (script_args_rows s) then Ok (script_args_place s)
 
 -- the bytes of s that an answer places, none where it is a refusal
 unfoldable pub bytes_in : List ℕ → Result Place ProtocolError → List ℕ
 bytes_in s (Ok p) = bytes_at s p
 bytes_in s (Err e) = []
-
--- document 01's number of the answer
-abbrev pub place_number : Result Place ProtocolError → ℕ
-place_number (Ok p) = 0
-place_number (Err e) = error_number e

@@ -1,8 +1,8 @@
 -- 01, main.rs: "`table3_fields` takes a Molecule table of three fields loosely". Its checks, its fields, and what its reader
 -- answers.
-use Rattle.std.specs.Prelude.{ℕ, ◌-◌, List, [], ◌∷◌, eqb, leb, length, take, drop, Err, Ok, Result}
+use Rattle.std.specs.Prelude.{ℕ, ◌-◌, List, [], ◌∷◌, eqb, leb, length, take, drop, Ok, Result}
 use Rattle.octets.specs.Le.{number_at}
-use Rattle.protocol.specs.Rows.{Row, row, decide, Check}
+use Rattle.protocol.specs.Rows.{Row, row, ◌then◌, decide}
 use Rattle.protocol.specs.declared.error.ProtocolError.{ProtocolError}
 use Rattle.protocol.specs.declared.error.ProtocolError.TheVariants.{InvalidWitness}
 use Rattle.molecule.specs.Molecule.{table_bytes}
@@ -37,12 +37,8 @@ table_rows e s =
 unfoldable pub table_fields_of : List ℕ → TableFields
 table_fields_of s = record { first = 16; second = second_offset_of s; third = third_offset_of s }
 
-unfoldable pub table_answer : Check → TableFields → Result TableFields ProtocolError
-table_answer (Ok _) f = Ok f
-table_answer (Err e) f = Err e
-
 unfoldable pub read_table : List ℕ → Result TableFields ProtocolError
-read_table s = table_answer (decide (Ok tt) (table_rows InvalidWitness s)) (table_fields_of s)
+read_table s = decide (Ok tt) (table_rows InvalidWitness s) then Ok (table_fields_of s)
 
 -- the bytes of s from one place up to another
 unfoldable pub between : List ℕ → ℕ → ℕ → List ℕ

@@ -32,7 +32,7 @@ fn place_of(at: u32, field: &[u8]) -> Place
 }
 
 // The place of the bytes in a field.
-#[tactic(auto, unfolding(crate::specs::Bytes::read_bytes, crate::specs::Bytes::place_answer))]
+#[tactic(auto, unfolding(crate::specs::Bytes::read_bytes))]
 pub fn molecule_bytes(field: &[u8]) -> Result<Place, ProtocolError>
     ensures { result ≡ read_bytes field.now }
 {
@@ -66,7 +66,7 @@ pub fn lock_of(witness: &[u8]) -> &[u8]
 }
 
 // The place in a witness of its lock's bytes.
-#[tactic(auto, unfolding(crate::specs::Bytes::read_witness_lock, crate::specs::Bytes::place_answer))]
+#[tactic(auto, unfolding(crate::specs::Bytes::read_witness_lock))]
 pub fn witness_lock(witness: &[u8]) -> Result<Place, ProtocolError>
     ensures { result ≡ read_witness_lock witness.now }
 {
@@ -98,7 +98,7 @@ pub fn args_of(script: &[u8]) -> &[u8]
 }
 
 // The place in a script of its args' bytes.
-#[tactic(auto, unfolding(crate::specs::Bytes::read_script_args, crate::specs::Bytes::place_answer))]
+#[tactic(auto, unfolding(crate::specs::Bytes::read_script_args))]
 pub fn script_args(script: &[u8]) -> Result<Place, ProtocolError>
     ensures { result ≡ read_script_args script.now }
 {

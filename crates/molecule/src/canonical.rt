@@ -9,6 +9,7 @@ use octets::{fits, rest, store_bytes, store_number};
 use protocol::{ProtocolError, require};
 
 // The total, the three offsets, and the length of the empty lock.
+#[tactic(auto, using(octets::proofs::LayoutLaws::layout_filled), unfolding(octets::proofs::LayoutLaws::store_numbers, crate::specs::Canonical::canonical_head))]
 fn head_bytes(total: u64, third: u64) -> [u8; 20]
     ensures { result ≡ layout_bytes (canonical_head total third) }
 {

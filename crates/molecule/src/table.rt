@@ -29,7 +29,7 @@ pub fn check_table(table: &[u8], error: ProtocolError) -> Result<(), ProtocolErr
 }
 
 // Where the fields of a table begin, or the refusal.
-#[tactic(auto, unfolding(crate::specs::Table3::read_table, crate::specs::Table3::table_answer, crate::specs::Table3::table_fields_of))]
+#[tactic(auto, unfolding(crate::specs::Table3::read_table, crate::specs::Table3::table_fields_of))]
 pub fn table3_fields(table: &[u8]) -> Result<TableFields, ProtocolError>
     ensures { result ≡ read_table table.now }
 {
