@@ -8,7 +8,7 @@ ghost use Rattle.exports.specs.Writers.{lent_written, lent_stored, WritesRequest
 use export_answers::{check_sizes, store_words, written};
 use octets::array_32;
 use protocol::{error_number, ProtocolError};
-use verifier_request::{encode_verifier_request, parse_verifier_request};
+use verifier_request::{RequestContent, encode_verifier_request, parse_verifier_request};
 
 // Stores algorithm, slot, operation, profile, the places of digest and key, and place and length of the aux and of the proof.
 #[tactic(auto, unfolding(export_answers::specs::Stored::answer_bytes, crate::specs::Readers::request_words))]
@@ -57,17 +57,17 @@ fn write_request(
         out.old }
 {
     check_sizes(digest, key)?;
-    encode_verifier_request(
-            algorithm,
-            slot,
-            operation,
-            profile,
-            array_32(digest),
-            array_32(key),
-            aux,
-            proof,
-            out,
-        )
+    let request = RequestContent {
+        algorithm,
+        slot,
+        operation,
+        profile,
+        digest: array_32(digest),
+        key: array_32(key),
+        aux,
+        proof,
+    };
+    encode_verifier_request(&request, out)
 }
 
 // Writes a request. A digest or a key of another length than 32 is 7.

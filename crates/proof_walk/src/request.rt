@@ -13,7 +13,7 @@ use cell_search::{CellField, Source, search_cells};
 use octets::{array_32, fits, u8_at};
 use protocol::{ProtocolError, VERIFIER_MAX_AUX_LEN, VERIFIER_MAX_PROOF_LEN, VERIFIER_MAX_REQUEST_LEN, VERIFIER_REQUEST_HEADER_LEN, require};
 use quorum::{entry_in, find_authenticator, is_capable, is_known};
-use verifier_request::encode_verifier_request;
+use verifier_request::{RequestContent, encode_verifier_request};
 
 // Which hash of a dep names the verifier.
 fn verifier_field(hash_type: u8) -> CellField
@@ -78,18 +78,17 @@ fn encode_request(
         out.old }
 {
     let aux = aux_of(entry);
-    let digest = authorization.digest;
-    encode_verifier_request(
-        algorithm_of(entry),
+    let request = RequestContent {
+        algorithm: algorithm_of(entry),
         slot,
-        authorization.operation,
-        u8_at(aux, 0),
-        digest,
-        array_32(key_of(entry)),
+        operation: authorization.operation,
+        profile: u8_at(aux, 0),
+        digest: authorization.digest,
+        key: array_32(key_of(entry)),
         aux,
         proof,
-        out,
-    )
+    };
+    encode_verifier_request(&request, out)
 }
 
 // The rows of a proof, and its request at the front of `out`.

@@ -5,7 +5,7 @@ use held_request::{is_for, request_authorization_digest_of, request_refusal_of};
 use octets::{part, same_bytes};
 use protocol::check_number;
 use std::io;
-use verifier_request::encode_verifier_request;
+use verifier_request::{RequestContent, encode_verifier_request};
 
 fn print_answer(rt: &impl Print, answer: bool) -> io::Result<()> {
     println!(rt; "{}", if answer { "yes" } else { "no" })
@@ -23,11 +23,24 @@ fn print_request(rt: &impl Print, request: &[u8], digest: &[u8]) -> io::Result<(
     print_answer(rt, is_for(request, digest))
 }
 
+fn content(digest: [u8; 32], key: [u8; 32]) -> RequestContent<'static> {
+    RequestContent {
+        algorithm: 0x0101,
+        slot: 7,
+        operation: 1,
+        profile: 3,
+        digest,
+        key,
+        aux: b"a",
+        proof: b"bcd",
+    }
+}
+
 fn print_written(rt: &impl Print) -> io::Result<()> {
     let digest = [0x11u8; 32];
     let key = [0x22u8; 32];
     let mut request = [0u8; 100];
-    let written = encode_verifier_request(0x0101, 7, 1, 3, digest, key, b"a", b"bcd", &mut request);
+    let written = encode_verifier_request(&content(digest, key), &mut request);
     println!(rt; "written {}", check_number(written))?;
     println!(rt; "its digest:")?;
     print_request(rt, &request, &digest)?;
@@ -40,7 +53,7 @@ fn print_written(rt: &impl Print) -> io::Result<()> {
 fn print_operation_4(rt: &impl Print) -> io::Result<()> {
     let digest = [0x11u8; 32];
     let mut request = [0u8; 100];
-    let _ = encode_verifier_request(0x0101, 7, 1, 3, digest, digest, b"a", b"bcd", &mut request);
+    let _ = encode_verifier_request(&content(digest, digest), &mut request);
     request[12] = 4;
     println!(rt; "operation 4:")?;
     print_request(rt, &request, &digest)
@@ -49,7 +62,7 @@ fn print_operation_4(rt: &impl Print) -> io::Result<()> {
 fn print_abi_2(rt: &impl Print) -> io::Result<()> {
     let digest = [0x11u8; 32];
     let mut request = [0u8; 100];
-    let _ = encode_verifier_request(0x0101, 7, 1, 3, digest, digest, b"a", b"bcd", &mut request);
+    let _ = encode_verifier_request(&content(digest, digest), &mut request);
     request[4] = 2;
     println!(rt; "ABI 2:")?;
     print_request(rt, &request, &digest)

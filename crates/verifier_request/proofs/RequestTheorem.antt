@@ -1,8 +1,8 @@
 -- Requests: accepted exactly where every check passes, and then exactly one reading has them as its written form, which is
 -- the one that the reader gives and which the writer writes back; and what the writer writes is accepted.
 -- Assumes nothing.
-use Rattle.std.specs.Prelude.{Err, Ok, Result}
-use mathlib.Core.Path.{◌≡◌, refl, sym, ap, ◌∙◌}
+use Rattle.std.specs.Prelude.{Err, Ok}
+use mathlib.Core.Path.{◌≡◌, sym, ap, ◌∙◌}
 use mathlib.Core.List.{List}
 use mathlib.Core.Logic.{◌↔◌}
 use Prim.Native.Nat.{ℕ, ◌+◌, ◌^◌, ◌≤◌, ◌<◌}
@@ -10,39 +10,28 @@ use native.Mathlib.Omega.{arith}
 use borrow.Author.Tests.{leb-true}
 use lib.ListN.{length}
 use Rattle.octets.specs.Le.{Bytes}
-use Rattle.protocol.specs.Rows.{decide, AllPass, FirstFailed, Check}
+use Rattle.protocol.specs.Rows.{decide, AllPass, FirstFailed}
 use Rattle.protocol.specs.Reading.{OneReading, WritesBack}
 use Rattle.protocol.specs.declared.error.ProtocolError.{ProtocolError}
 use Rattle.protocol.proofs.AllPass.{passed-all-pass}
-use Rattle.protocol.proofs.Answers.{answer-given, answer-accepts, answer-refuses}
+use Rattle.protocol.proofs.Answers.{then-given, then-accepts, then-refuses}
 use Rattle.protocol.proofs.Back.{writes-back}
 use Rattle.verifier_request.specs.declared.reader.RequestFields.{RequestFields}
-use Rattle.verifier_request.specs.Reader.{request_rows, request_fault, request_fields_of, request_answer, read_request}
+use Rattle.verifier_request.specs.Reader.{request_rows, request_fault, request_fields_of, read_request}
 use Rattle.verifier_request.specs.Reading.{RequestReading, RequestTyped, request_given, request_reading, request_bytes}
 use Rattle.verifier_request.specs.Writer.{request_writer_limit_rows, request_writer_rows, request_total, request_writer_fault, request_written, request_stored}
 use Rattle.verifier_request.proofs.Form.{request-typed-sized, length-request}
 use Rattle.verifier_request.proofs.Inverse.{RequestPasses, request-passes, request-passes-hold, request-back, request-typed, request-reading-limits, request-reading-total, request-written-read, request-written-passes}
 
--- what the checks found, by the answer
-abbrev request_found : Result RequestFields ProtocolError → Check
-request_found (Ok f) = (Ok tt)
-request_found (Err e) = Err e
-
--- which is what it was made from
-request-found-back : (g : RequestFields) (k : Check) → request_found (request_answer k g) ≡ k
-unfolding request_answer
-request-found-back g (Ok _) = refl
-request-found-back g (Err e) = refl
-
 -- accepted exactly where every check passes
 pub request-accepts : (s : List ℕ) → (read_request s ≡ Ok (request_fields_of s)) ↔ AllPass (request_rows s)
-unfolding read_request request_fault request_answer
-request-accepts s = answer-accepts (λ k. request_answer k (request_fields_of s)) request_found (request-found-back (request_fields_of s)) (request_rows s)
+unfolding read_request request_fault
+request-accepts s = then-accepts (request_fields_of s) (request_rows s)
 
 -- refused exactly with the first check that fails
 pub request-refuses : (s : List ℕ) (e : ProtocolError) → (read_request s ≡ Err e) ↔ FirstFailed (request_rows s) e
-unfolding read_request request_fault request_answer
-request-refuses s e = answer-refuses (λ k. request_answer k (request_fields_of s)) request_found (request-found-back (request_fields_of s)) (request_rows s) e
+unfolding read_request request_fault
+request-refuses s e = then-refuses (request_fields_of s) (request_rows s) e
 
 -- what the writer writes is accepted, and read as what was written
 pub request-accepted : (r : RequestReading) → RequestTyped r → AllPass (request_writer_rows r) → AllPass (request_rows (request_bytes r)) × (request_reading (request_bytes r) ≡ r)
@@ -71,12 +60,10 @@ request-one s b h =
 
 -- is the one that the reader gives,
 pub request-given : (s : List ℕ) (f : RequestFields) → read_request s ≡ Ok f → AllPass (request_rows s) × (request_given s f ≡ request_reading s)
-unfolding read_request request_fault request_reading request_answer
+unfolding read_request request_fault request_reading
 request-given s f h =
-    let z = answer-given (λ k. request_answer k (request_fields_of s)) request_found (request-found-back (request_fields_of s)) (decide (Ok tt) (request_rows s)) (Ok f) h refl in
-    let e : Ok (request_fields_of s) ≡ Ok f = z.1 in
-    let same : f ≡ request_fields_of s = cc in
-    (passed-all-pass (request_rows s) z.0, ap (request_given s) same)
+    let z = then-given (request_fields_of s) (decide (Ok tt) (request_rows s)) f h in
+    (passed-all-pass (request_rows s) z.0, ap (request_given s) (sym z.1))
 
 -- and the writer writes it back
 pub request-writes-back : (s : List ℕ) → Bytes s → AllPass (request_rows s) → WritesBack (request_written (request_reading s)) (request_stored (request_reading s)) s

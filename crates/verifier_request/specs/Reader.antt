@@ -1,10 +1,9 @@
 -- 01, Request: "96 bytes then aux and proof: `CKVR`, 1, 0, 96 (u16), algorithm, slot (u16), operation, profile, two zeros,
 -- digest, key (32 bytes each), aux and proof lengths (u32), eight zeros." Its checks, and what its reader answers.
-use Rattle.std.specs.Prelude.{ℕ, ◌+◌, List, [], ◌∷◌, ◌++◌, eqb, leb, length, Err, Ok, Result}
+use Rattle.std.specs.Prelude.{ℕ, ◌+◌, List, [], ◌∷◌, ◌++◌, eqb, leb, length, Ok, Result}
 use Rattle.protocol.specs.declared.error.ProtocolError.{ProtocolError}
-use Rattle.protocol.specs.Errors.{error_number}
 use Rattle.protocol.specs.Policy.{is_operation}
-use Rattle.protocol.specs.Rows.{Row, row, decide, Check}
+use Rattle.protocol.specs.Rows.{Row, row, ◌then◌, decide, Check}
 use Rattle.protocol.specs.declared.error.ProtocolError.TheVariants.{InvalidRequest, InvalidOperation, UnsupportedVersion}
 use Rattle.verifier_request.specs.Fields.{request_magic_of, request_abi_of, request_reserved_of, request_header_length_of, request_algorithm_of, request_slot_of, request_operation_of, request_profile_of, request_zeros_of, request_digest_offset, request_key_offset, request_aux_length_of, request_proof_length_of, request_last_zeros_of, request_size}
 use Rattle.verifier_request.specs.declared.reader.RequestFields.{RequestFields}
@@ -57,14 +56,5 @@ request_fields_of s =
       proof_len = request_proof_length_of s;
     }
 
-unfoldable pub request_answer : Check → RequestFields → Result RequestFields ProtocolError
-request_answer (Ok _) f = Ok f
-request_answer (Err e) f = Err e
-
 unfoldable pub read_request : List ℕ → Result RequestFields ProtocolError
-read_request s = request_answer (request_fault s) (request_fields_of s)
-
--- document 01's number of the answer
-abbrev pub request_number : Result RequestFields ProtocolError → ℕ
-request_number (Ok f) = 0
-request_number (Err e) = error_number e
+read_request s = request_fault s then Ok (request_fields_of s)

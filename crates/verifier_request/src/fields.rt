@@ -2,7 +2,11 @@
 ghost use Rattle.std.specs.Prelude.{◌≡◌};
 ghost use Rattle.verifier_request.specs.Fields.{request_magic_of, request_abi_of, request_reserved_of, request_header_length_of, request_algorithm_of, request_slot_of, request_operation_of, request_profile_of, request_zeros_of, request_aux_length_of, request_proof_length_of, request_last_zeros_of};
 
-use crate::offsets::{ABI_OFFSET, ALGORITHM_OFFSET, AUX_LENGTH_OFFSET, HEADER_LENGTH_OFFSET, LAST_ZEROS_OFFSET, MAGIC_OFFSET, OPERATION_OFFSET, PROFILE_OFFSET, PROOF_LENGTH_OFFSET, RESERVED_OFFSET, SLOT_OFFSET, ZEROS_OFFSET};
+use crate::offsets::{
+    ABI_OFFSET, ALGORITHM_OFFSET, AUX_LENGTH_OFFSET, HEADER_LENGTH_OFFSET, LAST_ZEROS_OFFSET,
+    MAGIC_OFFSET, OPERATION_OFFSET, PROFILE_OFFSET, PROOF_LENGTH_OFFSET, RESERVED_OFFSET,
+    SLOT_OFFSET, ZEROS_OFFSET,
+};
 use octets::{u8_at, u16_at, u32_at, u64_at};
 
 pub(crate) fn request_magic_of(request: &[u8]) -> u32

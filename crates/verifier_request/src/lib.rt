@@ -7,4 +7,4 @@ mod reader; // reader.rt
 mod writer; // writer.rt
 
 pub use self::reader::{RequestFields, parse_verifier_request};
-pub use self::writer::encode_verifier_request;
+pub use self::writer::{RequestContent, encode_verifier_request};
