@@ -1,5 +1,4 @@
 pub mod WalkLaws
-pub mod WitnessParts
 pub mod Accepted
 pub mod Inverse
 pub mod Unique

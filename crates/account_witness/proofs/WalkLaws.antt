@@ -1,29 +1,22 @@
 -- A step and the walk: what the rows of a proof say, what a step tells, and the rows that are left after it.
 -- Assumes nothing.
-use Rattle.std.specs.Prelude.{Err, Ok}
+use Rattle.std.specs.Prelude.{Err, Ok, Result}
 use mathlib.Core.Path.{◌≡◌, refl, ap, ◌∙◌}
-use mathlib.Core.Bool.{Bool, true}
 use mathlib.Core.List.{List}
 use Prim.Native.Nat.{ℕ, suc, ◌+◌, ◌-◌, ◌≤◌, ◌<◌}
 use native.Mathlib.Omega.{arith}
 use borrow.Author.Tests.{leb-true, eqb-true}
 use lib.Dec.{eqb}
 use lib.ListN.{length}
-use Rattle.protocol.specs.Rows.{row, ◌▷◌, decide, AllPass}
+use Rattle.protocol.specs.Rows.{row, ◌▷◌, decide, AllPass, Check}
 use Rattle.protocol.specs.declared.error.ProtocolError.{ProtocolError}
 use Rattle.protocol.specs.declared.error.ProtocolError.TheVariants.{InvalidWitness}
 use Rattle.protocol.proofs.AllPass.{decide-append, decide-failed}
-use Rattle.protocol.proofs.Answers.{answer-found, answer-given}
+use Rattle.protocol.proofs.Answers.{then-given, then-refused}
 use Rattle.account_witness.specs.Fields.{proof_length_at, proof_reserved_at, proof_slot_at}
 use Rattle.account_witness.specs.declared.walk.Proof.{Proof}
 use Rattle.account_witness.specs.declared.walk.ProofCursor.{ProofCursor}
-use Rattle.account_witness.specs.Walk.{proof_layout_rows, proof_at, proof_cursor_behind, proof_step_answer, proof_step, proofs_layout_rows}
-use Rattle.account_witness.proofs.Accepted.{proof_step_found, proof-step-found-back, proof_step_by}
-
--- a row that passes decides nothing
-pub row-passed : (b : Bool) (e : ProtocolError) → b ≡ true → (Ok tt) ▷ row b e ≡ Ok tt
-unfolding ◌▷◌
-row-passed b e h = rw h
+use Rattle.account_witness.specs.Walk.{proof_layout_rows, proof_at, proof_cursor_behind, proof_step, proofs_layout_rows}
 
 -- what the rows of a proof say
 pub record ProofHolds (s : List ℕ) (off least : ℕ) : Type 0 where
@@ -45,17 +38,16 @@ proof-holds s off least h =
 -- a step that goes on: every row of the proof passed, and the cursor is behind it
 pub proof-step-next : (s : List ℕ) (c : ProofCursor) (p : Proof) (d : ProofCursor) → proof_step s c ≡ Ok (p, d)
     → (decide (Ok tt) (proof_layout_rows s c.offset c.least) ≡ Ok tt) × (proof_at s c.offset ≡ p) × (proof_cursor_behind s c.offset ≡ d)
-unfolding proof_step proof_step_answer
+unfolding proof_step
 proof-step-next s c p d h =
-    let z = answer-given (proof_step_by s c) proof_step_found (proof-step-found-back _ _) (decide (Ok tt) (proof_layout_rows s c.offset c.least)) (Ok (p, d)) h refl in
-    let e : Ok (proof_at s c.offset, proof_cursor_behind s c.offset) ≡ Ok (p, d) = z.1 in
-    (z.0, cc, cc)
+    let z = then-given (proof_at s c.offset, proof_cursor_behind s c.offset) (decide (Ok tt) (proof_layout_rows s c.offset c.least)) (p, d) h in
+    (z.0, ap (λ (x : Proof × ProofCursor). x.0) z.1, ap (λ (x : Proof × ProofCursor). x.1) z.1)
 
 -- a step that does not: the refusal of the rows
 pub proof-step-refused : (s : List ℕ) (c : ProofCursor) (e : ProtocolError) → proof_step s c ≡ Err e
     → decide (Ok tt) (proof_layout_rows s c.offset c.least) ≡ Err e
-unfolding proof_step proof_step_answer
-proof-step-refused s c e h = answer-found (proof_step_by s c) proof_step_found (proof-step-found-back _ _) _ (Err e) h
+unfolding proof_step
+proof-step-refused s c e h = then-refused (proof_at s c.offset, proof_cursor_behind s c.offset) _ e h
 
 -- a proof's rows, and then those of the proofs behind it
 pub walk_more : (s : List ℕ) (left off least : ℕ) → 0 < left
@@ -66,22 +58,28 @@ walk_more s left off least p =
     let l : left ≡ suc (left - 1) = omega arith in
     ap (λ (n : ℕ). decide (Ok tt) (proofs_layout_rows s n off least)) l ∙ decide-append (Ok tt) (proof_layout_rows s off least) _
 
--- after a step the rows that are left decide
-pub walk-next : (s : List ℕ) (left : ℕ) (c d : ProofCursor) (p : Proof) → 0 < left → proof_step s c ≡ Ok (p, d)
-    → decide (Ok tt) (proofs_layout_rows s left c.offset c.least) ≡ decide (Ok tt) (proofs_layout_rows s (left - 1) d.offset d.least)
+-- what the rows find by a step: its refusal, or what the n rows behind it find
+abbrev after_step : List ℕ → ℕ → Result (Proof × ProofCursor) ProtocolError → Check
+after_step s n (Ok x) = decide (Ok tt) (proofs_layout_rows s n x.1.offset x.1.least)
+after_step s n (Err e) = Err e
+
+step_by : (s : List ℕ) (n : ℕ) (c : ProofCursor) (k : Result (Proof × ProofCursor) ProtocolError) → 0 < n → proof_step s c ≡ k
+    → decide (Ok tt) (proofs_layout_rows s n c.offset c.least) ≡ after_step s (n - 1) k
 unfolding proof_cursor_behind
-walk-next s left c d p l h =
-    let z = proof-step-next s c p d h in
-    walk_more s left c.offset c.least l ∙ rw (z.0, ← z.2)
+step_by s n c (Ok x) l h =
+    let z = proof-step-next s c x.0 x.1 h in
+    walk_more s n c.offset c.least l ∙ rw (z.0, ← z.2)
+step_by s n c (Err e) l h = walk_more s n c.offset c.least l ∙ rw (proof-step-refused s c e h) (decide-failed _ e)
 
--- a step that is refused decides
-pub walk_refused : (s : List ℕ) (left : ℕ) (c : ProofCursor) (e : ProtocolError) → 0 < left → proof_step s c ≡ Err e
-    → decide (Ok tt) (proofs_layout_rows s left c.offset c.least) ≡ Err e
-walk_refused s left c e l h =
-    walk_more s left c.offset c.least l ∙ rw (proof-step-refused s c e h) (decide-failed _ e)
+-- so it is after i of n steps,
+pub walk_step : (s : List ℕ) (n i : ℕ) (c : ProofCursor) → i < n
+    → decide (Ok tt) (proofs_layout_rows s (n - i) c.offset c.least) ≡ after_step s (n - (i + 1)) (proof_step s c)
+walk_step s n i c l =
+    let e : n - (i + 1) ≡ n - i - 1 = omega arith in
+    rw e (step_by s (n - i) c (proof_step s c) (omega arith) refl)
 
--- behind the last proof the end is left
-pub walk_none : (s : List ℕ) (left off least : ℕ) → left ≡ 0
-    → decide (Ok tt) (proofs_layout_rows s left off least) ≡ Ok tt ▷ row (eqb off (length s)) InvalidWitness
+-- and behind the last proof the end is left
+pub walk_none : (s : List ℕ) (n i off least : ℕ) → n ≤ i
+    → decide (Ok tt) (proofs_layout_rows s (n - i) off least) ≡ Ok tt ▷ row (eqb off (length s)) InvalidWitness
 unfolding proofs_layout_rows decide
-walk_none s left off least e = rw e
+walk_none s n i off least h = let e : n - i ≡ 0 = omega arith in rw e

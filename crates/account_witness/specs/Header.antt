@@ -1,11 +1,10 @@
 -- 01, Witness lock: "16 to 131,072 bytes; `CKAW`, version 1, operation 1 to 3, proof count, 0, sequence (u64). Every fault is
 -- 22, version too."
-use Rattle.std.specs.Prelude.{ℕ, List, [], ◌∷◌, leb, eqb, length, Err, Ok, Result}
+use Rattle.std.specs.Prelude.{ℕ, List, [], ◌∷◌, leb, eqb, length, Ok, Result}
 use Rattle.protocol.specs.declared.error.ProtocolError.{ProtocolError}
 use Rattle.octets.specs.Layout.{Field}
-use Rattle.protocol.specs.Errors.{error_number}
 use Rattle.protocol.specs.Policy.{is_operation}
-use Rattle.protocol.specs.Rows.{Row, row, decide, Check}
+use Rattle.protocol.specs.Rows.{Row, row, ◌then◌, decide}
 use Rattle.protocol.specs.declared.error.ProtocolError.TheVariants.{InvalidWitness}
 use Rattle.account_witness.specs.Fields.{witness_magic_of, witness_version_of, operation_of, proof_count_of, witness_reserved_of, witness_sequence_of, witness_header_length}
 use Rattle.account_witness.specs.declared.header.AccountWitnessHeader.{AccountWitnessHeader}
@@ -27,13 +26,9 @@ witness_header_rows s =
 unfoldable pub witness_header_of : List ℕ → AccountWitnessHeader
 witness_header_of s = record { operation = operation_of s; proof_count = proof_count_of s; state_sequence = witness_sequence_of s }
 
-unfoldable pub witness_header_answer : Check → AccountWitnessHeader → Result AccountWitnessHeader ProtocolError
-witness_header_answer (Ok _) h = Ok h
-witness_header_answer (Err e) h = Err e
-
 -- 01: "Counts 17 to 255 pass `parse_witness_header`"
 unfoldable pub read_witness_header : List ℕ → Result AccountWitnessHeader ProtocolError
-read_witness_header s = witness_header_answer (decide (Ok tt) (witness_header_rows s)) (witness_header_of s)
+read_witness_header s = decide (Ok tt) (witness_header_rows s) then Ok (witness_header_of s)
 
 -- the layout
 unfoldable pub witness_header_fields : ℕ → ℕ → ℕ → List Field
@@ -45,8 +40,3 @@ witness_header_fields operation count sequence =
     ∷ record { width = 1; value = 0 }
     ∷ record { width = 8; value = sequence }
     ∷ []
-
--- document 01's number of the answer
-abbrev pub witness_header_number : Result AccountWitnessHeader ProtocolError → ℕ
-witness_header_number (Ok h) = 0
-witness_header_number (Err e) = error_number e

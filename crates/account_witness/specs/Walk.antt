@@ -1,8 +1,7 @@
 -- 01, Proof: "slot (u16), two zero bytes, length (u32, not 0), bytes; slots rise strictly; no byte follows the last; faults are 22."
-use Rattle.std.specs.Prelude.{ℕ, zero, suc, ◌+◌, List, [], ◌∷◌, ◌++◌, leb, eqb, length, Err, Ok, Result}
+use Rattle.std.specs.Prelude.{ℕ, zero, suc, ◌+◌, List, [], ◌∷◌, ◌++◌, leb, eqb, length, Ok, Result}
 use Rattle.protocol.specs.declared.error.ProtocolError.{ProtocolError}
-use Rattle.protocol.specs.Errors.{error_number}
-use Rattle.protocol.specs.Rows.{Row, row, decide, Check}
+use Rattle.protocol.specs.Rows.{Row, row, ◌then◌, decide}
 use Rattle.protocol.specs.declared.error.ProtocolError.TheVariants.{InvalidWitness}
 use Rattle.account_witness.specs.Fields.{proof_count_of, witness_header_length, proof_slot_at, proof_reserved_at, proof_length_at, proof_header_length, proof_end_at}
 use Rattle.account_witness.specs.declared.walk.Proof.{Proof}
@@ -25,14 +24,10 @@ proof_at s off = record { slot = proof_slot_at s off; start = off + proof_header
 unfoldable pub proof_cursor_behind : List ℕ → ℕ → ProofCursor
 proof_cursor_behind s off = record { offset = proof_end_at s off; least = proof_slot_at s off + 1 }
 
-unfoldable pub proof_step_answer : Check → Proof → ProofCursor → Result (Proof × ProofCursor) ProtocolError
-proof_step_answer (Ok _) p c = Ok (p, c)
-proof_step_answer (Err e) p c = Err e
-
 -- one step of the walk
 unfoldable pub proof_step : List ℕ → ProofCursor → Result (Proof × ProofCursor) ProtocolError
 proof_step s c =
-    proof_step_answer (decide (Ok tt) (proof_layout_rows s c.offset c.least)) (proof_at s c.offset) (proof_cursor_behind s c.offset)
+    decide (Ok tt) (proof_layout_rows s c.offset c.least) then Ok (proof_at s c.offset, proof_cursor_behind s c.offset)
 
 -- the walk begins behind the header, where any slot may come
 abbrev pub first_proof : ProofCursor
@@ -52,8 +47,3 @@ proofs_layout_rows s (suc n) off least =
 -- the proofs of a witness lock: as many as its header says, behind it, the first with any slot
 abbrev pub witness_proof_rows : List ℕ → List Row
 witness_proof_rows s = proofs_layout_rows s (proof_count_of s) witness_header_length 0
-
--- document 01's number of a step
-abbrev pub proof_step_number : Result (Proof × ProofCursor) ProtocolError → ℕ
-proof_step_number (Ok (p, c)) = 0
-proof_step_number (Err e) = error_number e

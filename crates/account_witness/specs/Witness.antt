@@ -1,8 +1,7 @@
 -- The whole witness lock, of at most 16 proofs: one list of rows.
-use Rattle.std.specs.Prelude.{ℕ, List, ◌∷◌, ◌++◌, leb, Err, Ok, Result}
+use Rattle.std.specs.Prelude.{ℕ, List, ◌∷◌, ◌++◌, leb, Ok, Result}
 use Rattle.protocol.specs.declared.error.ProtocolError.{ProtocolError}
-use Rattle.protocol.specs.Errors.{error_number}
-use Rattle.protocol.specs.Rows.{Row, row, decide, Check}
+use Rattle.protocol.specs.Rows.{Row, row, ◌then◌, decide, Check}
 use Rattle.protocol.specs.declared.error.ProtocolError.TheVariants.{InvalidWitness}
 use Rattle.account_witness.specs.Fields.{proof_count_of}
 use Rattle.account_witness.specs.declared.header.AccountWitnessHeader.{AccountWitnessHeader}
@@ -20,14 +19,5 @@ witness_rows s = witness_header_rows s ++ (count_row s ∷ witness_proof_rows s)
 unfoldable pub witness_fault : List ℕ → Check
 witness_fault s = decide (Ok tt) (witness_rows s)
 
-unfoldable pub witness_answer : Check → AccountWitnessHeader → Result AccountWitnessHeader ProtocolError
-witness_answer (Ok _) h = Ok h
-witness_answer (Err e) h = Err e
-
 unfoldable pub read_witness : List ℕ → Result AccountWitnessHeader ProtocolError
-read_witness s = witness_answer (witness_fault s) (witness_header_of s)
-
--- document 01's number of the answer
-abbrev pub witness_number : Result AccountWitnessHeader ProtocolError → ℕ
-witness_number (Ok h) = 0
-witness_number (Err e) = error_number e
+read_witness s = witness_fault s then Ok (witness_header_of s)

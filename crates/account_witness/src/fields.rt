@@ -2,7 +2,11 @@
 ghost use Rattle.std.specs.Prelude.{◌≡◌, ◌+◌, ◌≤◌, length};
 ghost use Rattle.account_witness.specs.Fields.{witness_magic_of, witness_version_of, operation_of, proof_count_of, witness_reserved_of, witness_sequence_of, proof_slot_at, proof_reserved_at, proof_length_at, proof_header_length};
 
-use crate::offsets::{PROOF_COUNT_OFFSET, PROOF_LENGTH_OFFSET, PROOF_RESERVED_OFFSET, WITNESS_MAGIC_OFFSET, WITNESS_OPERATION_OFFSET, WITNESS_RESERVED_OFFSET, WITNESS_SEQUENCE_OFFSET, WITNESS_VERSION_OFFSET};
+use crate::offsets::{
+    PROOF_COUNT_OFFSET, PROOF_LENGTH_OFFSET, PROOF_RESERVED_OFFSET, WITNESS_MAGIC_OFFSET,
+    WITNESS_OPERATION_OFFSET, WITNESS_RESERVED_OFFSET, WITNESS_SEQUENCE_OFFSET,
+    WITNESS_VERSION_OFFSET,
+};
 use octets::{u8_at, u16_at, u32_at, u64_at};
 
 pub(crate) fn witness_magic_of(witness: &[u8]) -> u32

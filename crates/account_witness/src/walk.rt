@@ -1,8 +1,8 @@
 // The walk over the proofs of a witness lock, a step for each.
-ghost use Rattle.std.specs.Prelude.{◌≡◌, ◌+◌, ◌≤◌, length, Ok};
+ghost use Rattle.std.specs.Prelude.{◌≡◌, Ok};
 ghost use Rattle.protocol.specs.Rows.{decide};
-ghost use Rattle.account_witness.specs.Fields.{witness_header_length, proof_header_length};
-ghost use Rattle.account_witness.specs.Walk.{proof_layout_rows, proof_step, first_proof, proofs_layout_rows};
+ghost use Rattle.account_witness.specs.Fields.{witness_header_length};
+ghost use Rattle.account_witness.specs.Walk.{proof_step, first_proof, proofs_layout_rows};
 
 use crate::fields::{proof_length_at, proof_reserved_at, proof_slot_at};
 use crate::offsets::PROOF_HEADER_LEN;
@@ -34,63 +34,42 @@ pub fn first_proof() -> ProofCursor
     }
 }
 
-// The checks of a proof whose first 8 bytes are present.
-fn check_proof(witness: &[u8], offset: usize, least: u32) -> Result<(), ProtocolError>
-    requires { offset + proof_header_length ≤ length witness.now }
-    ensures { result ≡ decide (Ok tt) (proof_layout_rows witness.now offset least) }
-{
-    let invalid = ProtocolError::InvalidWitness;
-    let slot = proof_slot_at(witness, offset) as u32;
-    let len = proof_length_at(witness, offset) as usize;
-    require(proof_reserved_at(witness, offset) == 0, invalid)?;
-    require(fits(witness.len(), offset + PROOF_HEADER_LEN, len), invalid)?;
-    require(1 <= len, invalid)?;
-    require(least <= slot, invalid)
-}
-
-// The step at an offset where 8 bytes are present.
-fn step_at(witness: &[u8], offset: usize, least: u32) -> Result<(Proof, ProofCursor), ProtocolError>
-    requires { offset + proof_header_length ≤ length witness.now }
-    ensures { result ≡ proof_step witness.now (record { offset = offset; least = least }) }
-{
-    check_proof(witness, offset, least)?;
-    let slot = proof_slot_at(witness, offset);
-            let start = offset + PROOF_HEADER_LEN;
-            let len = proof_length_at(witness, offset) as usize;
-            let proof = Proof { slot, start, len };
-            let next = ProofCursor {
-                offset: start + len,
-                least: slot as u32 + 1,
-            };
-            Ok((proof, next))
-}
-
-// The proof at the cursor.
-pub fn next_proof(witness: &[u8], cursor: ProofCursor) -> Result<(Proof, ProofCursor), ProtocolError>
+// The proof at the cursor, and the cursor behind it.
+#[tactic(auto, unfolding(protocol::specs::Rows::decide, crate::specs::Walk::proof_layout_rows, crate::specs::Walk::proof_at, crate::specs::Walk::proof_cursor_behind, crate::specs::Walk::proof_step))]
+pub fn next_proof(
+    witness: &[u8],
+    cursor: ProofCursor,
+) -> Result<(Proof, ProofCursor), ProtocolError>
     ensures { result ≡ proof_step witness.now cursor }
 {
-    if fits(witness.len(), cursor.offset, PROOF_HEADER_LEN) {
-        step_at(witness, cursor.offset, cursor.least)
-    } else {
-        Err(ProtocolError::InvalidWitness)
-    }
+    let ProofCursor { offset, least } = cursor;
+    let invalid = ProtocolError::InvalidWitness;
+    require(fits(witness.len(), offset, PROOF_HEADER_LEN), invalid)?;
+    let slot = proof_slot_at(witness, offset);
+    let start = offset + PROOF_HEADER_LEN;
+    let len = proof_length_at(witness, offset) as usize;
+    require(proof_reserved_at(witness, offset) == 0, invalid)?;
+    require(fits(witness.len(), start, len), invalid)?;
+    require(1 <= len, invalid)?;
+    require(least <= slot as u32, invalid)?;
+    let next = ProofCursor {
+        offset: start + len,
+        least: slot as u32 + 1,
+    };
+    Ok((Proof { slot, start, len }, next))
 }
 
 // The checks of `count` proofs behind the header, and that no byte follows the last.
+#[tactic(auto, using(crate::proofs::WalkLaws::walk_step, crate::proofs::WalkLaws::walk_none))]
 pub(crate) fn check_proofs(witness: &[u8], count: u8) -> Result<(), ProtocolError>
     ensures { result ≡ decide (Ok tt) (proofs_layout_rows witness.now count witness_header_length 0) }
 {
     let mut cursor = first_proof();
-    let mut left = count;
-    while 0 < left {
-        match next_proof(witness, cursor) {
-            Err(error) => return Err(error),
-            Ok((_, next)) => {
-                cursor = next;
-            }
-        }
-        left -= 1;
+    for _ in 0..count {
+        (_, cursor) = next_proof(witness, cursor)?;
     }
-    require(cursor.offset == witness.len(),
-        ProtocolError::InvalidWitness)
+    require(
+        cursor.offset == witness.len(),
+        ProtocolError::InvalidWitness,
+    )
 }

@@ -1,8 +1,8 @@
 -- Public-key proofs: accepted exactly where every check passes, and then exactly one reading has them as its written form,
 -- which is the one that the reader gives and which the writer writes back; and what the writer writes is accepted.
 -- Assumes nothing.
-use Rattle.std.specs.Prelude.{Err, Ok, Result}
-use mathlib.Core.Path.{◌≡◌, refl, sym, ap, ◌∙◌}
+use Rattle.std.specs.Prelude.{Err, Ok}
+use mathlib.Core.Path.{◌≡◌, sym, ap, ◌∙◌}
 use mathlib.Core.List.{List}
 use mathlib.Core.Logic.{◌↔◌}
 use Prim.Native.Nat.{ℕ, ◌≤◌, ◌<◌}
@@ -10,38 +10,27 @@ use native.Mathlib.Omega.{arith}
 use borrow.Author.Tests.{leb-true}
 use lib.ListN.{length}
 use Rattle.octets.specs.Le.{Bytes}
-use Rattle.protocol.specs.Rows.{decide, AllPass, FirstFailed, Check}
+use Rattle.protocol.specs.Rows.{decide, AllPass, FirstFailed}
 use Rattle.protocol.specs.Reading.{OneReading, WritesBack}
 use Rattle.protocol.specs.declared.error.ProtocolError.{ProtocolError}
 use Rattle.protocol.proofs.AllPass.{passed-all-pass}
-use Rattle.protocol.proofs.Answers.{answer-given, answer-accepts, answer-refuses}
+use Rattle.protocol.proofs.Answers.{then-given, then-accepts, then-refuses}
 use Rattle.protocol.proofs.Back.{writes-back}
 use Rattle.public_key_proof.specs.declared.reader.PublicKeyProof.{PublicKeyProof}
-use Rattle.public_key_proof.specs.Reader.{public_key_proof_rows, public_key_proof_fault, public_key_proof_places, public_key_proof_answer, read_public_key_proof}
+use Rattle.public_key_proof.specs.Reader.{public_key_proof_rows, public_key_proof_fault, public_key_proof_places, read_public_key_proof}
 use Rattle.public_key_proof.specs.Reading.{PublicKeyProofReading, PublicKeyProofTyped, public_key_proof_given, public_key_proof_reading, public_key_proof_bytes}
 use Rattle.public_key_proof.specs.Writer.{public_key_proof_writer_rows, public_key_proof_total, public_key_proof_writer_fault, public_key_proof_written, public_key_proof_stored}
 use Rattle.public_key_proof.proofs.Inverse.{public-key-proof-passes, public-key-proof-passes-hold, public-key-proof-back, public-key-proof-reading-limits, public-key-proof-reading-total, public-key-proof-written-read, public-key-proof-written-passes, lengths-fit}
 
--- what the checks found, by the answer
-abbrev proof_found : Result PublicKeyProof ProtocolError → Check
-proof_found (Ok p) = (Ok tt)
-proof_found (Err e) = Err e
-
--- which is what it was made from
-proof-back : (g : PublicKeyProof) (k : Check) → proof_found (public_key_proof_answer k g) ≡ k
-unfolding public_key_proof_answer
-proof-back g (Ok _) = refl
-proof-back g (Err e) = refl
-
 -- accepted exactly where every check passes
 pub public-key-proof-accepts : (s : List ℕ) → (read_public_key_proof s ≡ Ok (public_key_proof_places s)) ↔ AllPass (public_key_proof_rows s)
-unfolding read_public_key_proof public_key_proof_fault public_key_proof_answer
-public-key-proof-accepts s = answer-accepts (λ k. public_key_proof_answer k (public_key_proof_places s)) proof_found (proof-back (public_key_proof_places s)) (public_key_proof_rows s)
+unfolding read_public_key_proof public_key_proof_fault
+public-key-proof-accepts s = then-accepts (public_key_proof_places s) (public_key_proof_rows s)
 
 -- refused exactly with the first check that fails
 pub public-key-proof-refuses : (s : List ℕ) (e : ProtocolError) → (read_public_key_proof s ≡ Err e) ↔ FirstFailed (public_key_proof_rows s) e
-unfolding read_public_key_proof public_key_proof_fault public_key_proof_answer
-public-key-proof-refuses s e = answer-refuses (λ k. public_key_proof_answer k (public_key_proof_places s)) proof_found (proof-back (public_key_proof_places s)) (public_key_proof_rows s) e
+unfolding read_public_key_proof public_key_proof_fault
+public-key-proof-refuses s e = then-refuses (public_key_proof_places s) (public_key_proof_rows s) e
 
 -- what the writer writes is accepted, and read as what was written
 pub public-key-proof-accepted : (r : PublicKeyProofReading) → AllPass (public_key_proof_writer_rows r) → AllPass (public_key_proof_rows (public_key_proof_bytes r)) × (public_key_proof_reading (public_key_proof_bytes r) ≡ r)
@@ -65,12 +54,10 @@ public-key-proof-one s b h =
 
 -- is the one that the reader gives,
 pub public-key-proof-given : (s : List ℕ) (p : PublicKeyProof) → read_public_key_proof s ≡ Ok p → AllPass (public_key_proof_rows s) × (public_key_proof_given s p ≡ public_key_proof_reading s)
-unfolding read_public_key_proof public_key_proof_fault public_key_proof_reading public_key_proof_answer
+unfolding read_public_key_proof public_key_proof_fault public_key_proof_reading
 public-key-proof-given s p h =
-    let z = answer-given (λ k. public_key_proof_answer k (public_key_proof_places s)) proof_found (proof-back (public_key_proof_places s)) (decide (Ok tt) (public_key_proof_rows s)) (Ok p) h refl in
-    let e : Ok (public_key_proof_places s) ≡ Ok p = z.1 in
-    let same : p ≡ public_key_proof_places s = cc in
-    (passed-all-pass (public_key_proof_rows s) z.0, ap (public_key_proof_given s) same)
+    let z = then-given (public_key_proof_places s) (decide (Ok tt) (public_key_proof_rows s)) p h in
+    (passed-all-pass (public_key_proof_rows s) z.0, ap (public_key_proof_given s) (sym z.1))
 
 -- and the writer writes it back
 pub public-key-proof-writes-back : (s : List ℕ) → Bytes s → AllPass (public_key_proof_rows s) → WritesBack (public_key_proof_written (public_key_proof_reading s)) (public_key_proof_stored (public_key_proof_reading s)) s

@@ -1,10 +1,9 @@
 -- 01, Public-key proof: "1, key length, signature length (u16), both not 0, both parts, no more (36)." Its checks, and what
 -- its reader answers.
-use Rattle.std.specs.Prelude.{ℕ, ◌+◌, List, [], ◌∷◌, eqb, leb, ltb, length, Err, Ok, Result}
+use Rattle.std.specs.Prelude.{ℕ, ◌+◌, List, [], ◌∷◌, eqb, leb, ltb, length, Ok, Result}
 use Rattle.protocol.specs.declared.error.ProtocolError.{ProtocolError}
 use Rattle.octets.specs.Le.{number_at}
-use Rattle.protocol.specs.Errors.{error_number}
-use Rattle.protocol.specs.Rows.{Row, row, decide, Check}
+use Rattle.protocol.specs.Rows.{Row, row, ◌then◌, decide, Check}
 use Rattle.protocol.specs.declared.error.ProtocolError.TheVariants.{InvalidProof}
 use Rattle.public_key_proof.specs.declared.reader.PublicKeyProof.{PublicKeyProof}
 
@@ -44,14 +43,5 @@ public_key_proof_places s =
       signature_len = signature_length_of s;
     }
 
-unfoldable pub public_key_proof_answer : Check → PublicKeyProof → Result PublicKeyProof ProtocolError
-public_key_proof_answer (Ok _) p = Ok p
-public_key_proof_answer (Err e) p = Err e
-
 unfoldable pub read_public_key_proof : List ℕ → Result PublicKeyProof ProtocolError
-read_public_key_proof s = public_key_proof_answer (public_key_proof_fault s) (public_key_proof_places s)
-
--- document 01's number of the answer
-abbrev pub public_key_proof_number : Result PublicKeyProof ProtocolError → ℕ
-public_key_proof_number (Ok p) = 0
-public_key_proof_number (Err e) = error_number e
+read_public_key_proof s = public_key_proof_fault s then Ok (public_key_proof_places s)
