@@ -1,6 +1,7 @@
 -- What is handed out of a request, by what its reader found.
 -- Assumes nothing.
 use Rattle.std.specs.Prelude.{Err, Ok, Result}
+use Rattle.protocol.specs.Rows.{check_number}
 use Rattle.verifier_request.specs.declared.reader.RequestFields.{RequestFields}
 use Rattle.protocol.specs.declared.error.ProtocolError.{ProtocolError}
 use mathlib.Core.Path.{◌≡◌, refl, sym, ap, subst, ◌∙◌}
@@ -11,7 +12,7 @@ use lib.ListN.{length}
 use lib.Seq.{take_all}
 use Rattle.octets.proofs.Stores.{sets_over}
 use Rattle.protocol.proofs.ErrorNumbers.{not-0}
-use Rattle.verifier_request.specs.Reader.{request_number, read_request}
+use Rattle.verifier_request.specs.Reader.{read_request}
 use Rattle.verifier_request.specs.Reading.{RequestReading, request_reading}
 use Rattle.held_request.specs.Held.{request_places_of, held_reading}
 use Rattle.held_request.proofs.HeldTheorem.{held-accepts, held-reading}
@@ -21,7 +22,7 @@ use Rattle.export_answers.proofs.Table64.{length-words, words-fit}
 use Rattle.export_answers.proofs.Fits.{part-refused}
 
 -- the struct's refusal is the reader's number
-refusal-number : (k : Result RequestFields ProtocolError) → (request_places_of k).refusal ≡ request_number k
+refusal-number : (k : Result RequestFields ProtocolError) → (request_places_of k).refusal ≡ check_number k
 unfolding request_places_of
 refusal-number (Ok f) = refl
 refusal-number (Err e) = refl
@@ -37,21 +38,21 @@ other-bytes number ne bytes others out len r after len_after h =
 -- what the struct's functions hand out is the reading's, where it is handed out at all
 pub handed : (s out : List ℕ) (len : ℕ) (of : RequestReading → List ℕ) (r : ℕ) (after : List ℕ) (len_after : ℕ)
     → StoresPart (request_places_of (read_request s)).refusal (of (held_reading s (request_places_of (read_request s)))) out len r after len_after
-    → StoresPart (request_number (read_request s)) (of (request_reading s)) out len r after len_after
+    → StoresPart (check_number (read_request s)) (of (request_reading s)) out len r after len_after
 handed s out len of r after len_after h = by_answer (read_request s) refl
   where
     held : List ℕ
     held = of (held_reading s (request_places_of (read_request s)))
 
-    numbered : StoresPart (request_number (read_request s)) held out len r after len_after
+    numbered : StoresPart (check_number (read_request s)) held out len r after len_after
     numbered = subst (λ (n : ℕ). StoresPart n (of (held_reading s (request_places_of (read_request s)))) out len r after len_after) (refusal-number (read_request s)) h
 
-    by_answer : (k : Result RequestFields ProtocolError) → read_request s ≡ k → StoresPart (request_number (read_request s)) (of (request_reading s)) out len r after len_after
+    by_answer : (k : Result RequestFields ProtocolError) → read_request s ≡ k → StoresPart (check_number (read_request s)) (of (request_reading s)) out len r after len_after
     by_answer (Ok f) e =
-        let accepted = (held-accepts s).0 (refusal-number (read_request s) ∙ ap request_number e) in
-        subst (λ (bytes : List ℕ). StoresPart (request_number (read_request s)) bytes out len r after len_after) (ap of (held-reading s accepted)) numbered
+        let accepted = (held-accepts s).0 (refusal-number (read_request s) ∙ ap check_number e) in
+        subst (λ (bytes : List ℕ). StoresPart (check_number (read_request s)) bytes out len r after len_after) (ap of (held-reading s accepted)) numbered
     by_answer (Err x) e =
-        other-bytes (request_number (read_request s)) (λ q. not-0 x (sym (ap request_number e) ∙ q)) held (of (request_reading s)) out len r after len_after numbered
+        other-bytes (check_number (read_request s)) (λ q. not-0 x (sym (ap check_number e) ∙ q)) held (of (request_reading s)) out len r after len_after numbered
 
 -- words stored where there is room for them and for no more
 pub words-fill : (vs out : List ℕ) → length out ≡ 8 * length vs → stored_after 0 (word_bytes vs) out ≡ word_bytes vs

@@ -18,7 +18,7 @@ use Rattle.protocol.specs.Rows.{AllPass, check_number, Check}
 use Rattle.protocol.specs.Reading.{OneReading, WritesBack}
 use Rattle.protocol.proofs.ErrorNumbers.{not-0}
 use Rattle.verifier_request.specs.declared.reader.RequestFields.{RequestFields}
-use Rattle.verifier_request.specs.Reader.{request_rows, request_fault, request_fields_of, request_answer, read_request}
+use Rattle.verifier_request.specs.Reader.{request_rows, request_fault, request_fields_of, read_request}
 use Rattle.verifier_request.specs.Reading.{RequestReading, RequestTyped, request_given, request_reading, request_bytes}
 use Rattle.verifier_request.specs.Writer.{request_written, request_stored}
 use Rattle.verifier_request.proofs.RequestTheorem.{request-accepts, request-given, request-theorem}
@@ -47,7 +47,7 @@ held-accepts s = (λ z. (request-accepts s).0 (accepted s (read_request s) refl 
 
 -- the number of what the checks find
 pub held-refusal : (s : List ℕ) → (found s).refusal ≡ check_number (request_fault s)
-unfolding request_places_of read_request request_answer
+unfolding request_places_of read_request
 held-refusal s = by-check (request_fault s)
   where
     by-check : (k : Check) → (request_places_of (request_answer k (request_fields_of s))).refusal ≡ check_number k

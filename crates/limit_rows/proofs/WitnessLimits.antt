@@ -4,14 +4,14 @@ use Rattle.octets.specs.Le.{from_le, number_at}
 use Rattle.octets.specs.Lists.{tabulate}
 use Rattle.protocol.specs.Rows.{◌▷◌, decide}
 use Rattle.protocol.specs.Policy.{is_operation}
-use Rattle.account_witness.specs.Header.{witness_header_rows, witness_header_of, witness_header_answer, read_witness_header}
+use Rattle.account_witness.specs.Header.{witness_header_rows, witness_header_of, read_witness_header}
 use Rattle.account_witness.specs.Reading.{proof_given, proofs_of, witness_reading}
 use Rattle.account_witness.specs.Walk.{proof_layout_rows, proof_at, proofs_layout_rows}
-use Rattle.account_witness.specs.Witness.{witness_rows, witness_fault, witness_answer, read_witness}
+use Rattle.account_witness.specs.Witness.{witness_rows, witness_fault, read_witness}
 use Rattle.limit_rows.specs.WitnessLimits.{WitnessLimits, witness_front, proof_with, proofs_up_to, witness_places}
 
 pub witness-limits : WitnessLimits
-unfolding from_le number_at tabulate ◌▷◌ decide is_operation witness_header_rows witness_header_of witness_header_answer read_witness_header proof_given proofs_of witness_reading proof_layout_rows proof_at proofs_layout_rows witness_rows witness_fault witness_answer read_witness witness_front proof_with proofs_up_to witness_places
+unfolding from_le number_at tabulate ◌▷◌ decide is_operation witness_header_rows witness_header_of read_witness_header proof_given proofs_of witness_reading proof_layout_rows proof_at proofs_layout_rows witness_rows witness_fault read_witness witness_front proof_with proofs_up_to witness_places
 witness-limits =
     record {
       of-15 = λ s h. rw h;

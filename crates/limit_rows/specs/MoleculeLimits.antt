@@ -4,7 +4,7 @@ use Rattle.octets.specs.Le.{to_le}
 use Rattle.protocol.specs.Rows.{decide, check_number}
 use Rattle.protocol.specs.declared.error.ProtocolError.TheVariants.{InvalidWitness}
 use Rattle.molecule.specs.Table3.{table_rows, read_table, field1, field2, field3}
-use Rattle.molecule.specs.Bytes.{read_witness_lock, read_script_args, bytes_in, place_number}
+use Rattle.molecule.specs.Bytes.{read_witness_lock, read_script_args, bytes_in}
 use Rattle.molecule.specs.Canonical.{canonical_of}
 
 -- a table: its total, its three offsets, and the bytes behind them
@@ -31,10 +31,10 @@ three_fields =
 
 -- a witness whose first field has these bytes, and a script whose third has
 abbrev lock_field_number : List ℕ → ℕ
-lock_field_number field = place_number (read_witness_lock (table_with (16 + length field) 16 (16 + length field) (16 + length field) field))
+lock_field_number field = check_number (read_witness_lock (table_with (16 + length field) 16 (16 + length field) (16 + length field) field))
 
 abbrev args_field_number : List ℕ → ℕ
-args_field_number field = place_number (read_script_args (table_with (16 + length field) 16 16 16 field))
+args_field_number field = check_number (read_script_args (table_with (16 + length field) 16 16 16 field))
 
 pub record MoleculeLimits : Type 0 where
   -- "the total is the length, at least 16"

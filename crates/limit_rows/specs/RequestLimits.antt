@@ -3,10 +3,10 @@ use Rattle.std.specs.Prelude.{ℕ, ◌+◌, ◌≡◌, List, [], ◌∷◌, ◌+
 use Rattle.octets.specs.Le.{to_le}
 use Rattle.octets.specs.Lists.{tabulate}
 use Rattle.protocol.specs.Rows.{decide, check_number}
-use Rattle.verifier_request.specs.Reader.{read_request, request_number}
+use Rattle.verifier_request.specs.Reader.{read_request}
 use Rattle.verifier_request.specs.Reading.{request_reading}
 use Rattle.verifier_request.specs.Writer.{request_writer_limit_rows}
-use Rattle.public_key_proof.specs.Reader.{read_public_key_proof, public_key_proof_number}
+use Rattle.public_key_proof.specs.Reader.{read_public_key_proof}
 use Rattle.public_key_proof.specs.Reading.{public_key_proof_with, public_key_proof_reading}
 use Rattle.public_key_proof.specs.Writer.{public_key_proof_writer_rows}
 
@@ -23,7 +23,7 @@ request_front letter abi reserved len operation zero14 zero15 aux proof zero88 z
     ++ (zero95 ∷ [])
 
 abbrev read_number : List ℕ → ℕ
-read_number s = request_number (read_request s)
+read_number s = check_number (read_request s)
 
 -- by the lengths of aux and proof, which stand in the rest
 abbrev by_lengths : ℕ → ℕ → List ℕ → ℕ
@@ -62,7 +62,7 @@ request_places =
     ++ (73 ∷ 74 ∷ 75 ∷ 76 ∷ 77 ∷ [])
 
 abbrev key_proof_number : List ℕ → ℕ
-key_proof_number s = public_key_proof_number (read_public_key_proof s)
+key_proof_number s = check_number (read_public_key_proof s)
 
 abbrev key_writer_number : List ℕ → List ℕ → ℕ
 key_writer_number key signature = check_number (decide (Ok tt) (public_key_proof_writer_rows (public_key_proof_with key signature)))

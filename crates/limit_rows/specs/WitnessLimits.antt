@@ -1,9 +1,10 @@
 -- The witness lock and its proofs: 01, "Witness lock" and "Proof", computed from the definitions.
 use Rattle.std.specs.Prelude.{ℕ, zero, suc, ◌+◌, ◌≡◌, List, [], ◌∷◌, ◌++◌, map, length, replicate}
+use Rattle.protocol.specs.Rows.{check_number}
 use Rattle.octets.specs.Lists.{tabulate}
-use Rattle.account_witness.specs.Header.{read_witness_header, witness_header_number}
+use Rattle.account_witness.specs.Header.{read_witness_header}
 use Rattle.account_witness.specs.Reading.{witness_reading}
-use Rattle.account_witness.specs.Witness.{read_witness, witness_number}
+use Rattle.account_witness.specs.Witness.{read_witness}
 
 -- a header of 16 bytes, `CKA` and a letter: version, operation, count, byte 7
 unfoldable pub witness_front : ℕ → ℕ → ℕ → ℕ → ℕ → List ℕ
@@ -21,10 +22,10 @@ proofs_up_to (suc n) = proofs_up_to n ++ proof_with n 0 0 1
 
 -- the numbers of the two readers
 abbrev head_number : List ℕ → ℕ
-head_number s = witness_header_number (read_witness_header s)
+head_number s = check_number (read_witness_header s)
 
 abbrev read_number : List ℕ → ℕ
-read_number s = witness_number (read_witness s)
+read_number s = check_number (read_witness s)
 
 abbrev by_letter : ℕ → ℕ
 by_letter letter = head_number (witness_front letter 1 1 0 0)

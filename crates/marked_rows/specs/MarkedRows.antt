@@ -1,11 +1,12 @@
 -- 01, "Marked rows": those marked P, as rows of one theorem about the definitions. A row that names a length is for every list of
 -- that length.
 use Rattle.std.specs.Prelude.{ℕ, ◌≡◌, List, [], ◌∷◌, ◌++◌, length, replicate, Ok}
+use Rattle.protocol.specs.Rows.{check_number}
 use Rattle.molecule.specs.Canonical.{canonical_written, canonical_stored}
 use Rattle.protocol.specs.Args.{read_args, args_number}
 use Rattle.account_state.specs.State.{read_state, state_number}
-use Rattle.account_witness.specs.Witness.{read_witness, witness_number}
-use Rattle.public_key_proof.specs.Reader.{read_public_key_proof, public_key_proof_number}
+use Rattle.account_witness.specs.Witness.{read_witness}
+use Rattle.public_key_proof.specs.Reader.{read_public_key_proof}
 
 -- the smallest state, of 113 bytes: thresholds spend, 1, 0, and one entry of weight 1 and capabilities 3 whose aux is one byte
 unfoldable pub smallest_state : ℕ → ℕ → ℕ → ℕ → List ℕ
@@ -49,10 +50,10 @@ pub record MarkedRows : Type 0 where
   pub flags-4 : state_number (read_state (smallest_state 1 4 1 0)) ≡ 21
   -- "proof `01 01 00 01 00 aa bb` read, without `bb` 36"
   pub proof-read : read_public_key_proof (0x01 ∷ 0x01 ∷ 0x00 ∷ 0x01 ∷ 0x00 ∷ 0xaa ∷ 0xbb ∷ []) ≡ Ok (record { public_key = 5; public_key_len = 1; signature = 6; signature_len = 1 })
-  pub proof-short : public_key_proof_number (read_public_key_proof (0x01 ∷ 0x01 ∷ 0x00 ∷ 0x01 ∷ 0x00 ∷ 0xaa ∷ [])) ≡ 36
+  pub proof-short : check_number (read_public_key_proof (0x01 ∷ 0x01 ∷ 0x00 ∷ 0x01 ∷ 0x00 ∷ 0xaa ∷ [])) ≡ 36
   -- "16-byte witness lock with count 0 read, operation 4 22"
-  pub witness-empty : witness_number (read_witness (empty_witness 1)) ≡ 0
-  pub witness-operation : witness_number (read_witness (empty_witness 4)) ≡ 22
+  pub witness-empty : check_number (read_witness (empty_witness 1)) ≡ 0
+  pub witness-operation : check_number (read_witness (empty_witness 4)) ≡ 22
   -- "witness `15 00 00 00 10 00 00 00 15 00 00 00 15 00 00 00 01 00 00 00 aa` becomes
   -- `14 00 00 00 10 00 00 00 14 00 00 00 14 00 00 00 00 00 00 00`"
   pub canonical : canonical_written lock_of_one (replicate 20 0xff) ≡ Ok 20
