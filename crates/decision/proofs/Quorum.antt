@@ -16,7 +16,7 @@ use borrow.Author.Tests.{eq-eqb, ne_eqb, eqb-true, eqb-false, leb-true, le-leb, 
 use Rattle.octets.specs.Lists.{Rising}
 use Rattle.octets.proofs.RisingLaws.{rising-less}
 use Rattle.protocol.specs.Errors.{error_number}
-use Rattle.protocol.specs.Rows.{◌▷◌, decide, check_number, Check}
+use Rattle.protocol.specs.Rows.{decide, check_number, Check}
 use Rattle.protocol.specs.declared.error.ProtocolError.{ProtocolError}
 use Rattle.protocol.specs.declared.error.ProtocolError.TheVariants.{BufferTooShort, InvalidWitness, InvalidCapability, InvalidVerifierRef, VerifierFailure, InvalidRequest, LengthOverflow}
 use Rattle.protocol.proofs.ErrorNumbers.{not-0}
@@ -90,7 +90,7 @@ turn_last (Ok _) v onward i j m l r h = go (eqb v 2) refl h
     go false q h = (refl, eqb-false v 2 q, h)
 
 end-last : (clean : Bool) (weight threshold : ℕ) → ZeroOr28 (check_number (decide (Ok tt) (last_rows clean weight threshold))) → clean ≡ true
-unfolding last_rows decide ◌▷◌
+unfolding last_rows decide
 end-last true weight threshold h = refl
 end-last false weight threshold h = absurd (earlier InvalidWitness (λ z. omega arith) h)
 
@@ -107,7 +107,7 @@ module _ (c : Context) (clean : Bool) where
 
 -- Behind the last proof, with nothing that follows it, only 28 refuses,
 end-number : (weight threshold : ℕ) → ZeroOr28 (check_number (decide (Ok tt) (last_rows true weight threshold)))
-unfolding last_rows decide ◌▷◌
+unfolding last_rows decide
 end-number weight threshold =
     let later = drop 1 (last_rows true weight threshold) in
     go (decide (Ok tt) later) (each-refuses (λ e. error_number e ≡ 28) later (refl, (refl, tt)))
