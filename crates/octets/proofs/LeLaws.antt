@@ -144,3 +144,5 @@ to_none k n e = rw e
 -- a number whose bytes run past the end, stored as far as there is room
 pub sets-to-clip : (l : List ℕ) (at k w n : ℕ) → length l ≤ at + k → k ≤ w → sets l at (to_le k n) ≡ sets l at (to_le w n)
 sets-to-clip l at k w n h le = rw (← take-to k w n le) (sets-clip (to_le w n) l at k h)
+
+pub ruleset number_stores = (sets-to-clip)

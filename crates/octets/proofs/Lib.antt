@@ -7,6 +7,5 @@ pub mod Parts
 pub mod Arrays
 pub mod Filled
 pub mod Same
-pub mod ZeroLoop
 pub mod RisingLaws
 pub mod Sums

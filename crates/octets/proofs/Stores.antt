@@ -44,9 +44,16 @@ sets_over l bs h =
     sym (sets-clip bs l 0 (length l) (omega arith))
     ∙ (sets-front l (take (length l) bs) (omega arith) ∙ rw (drop_of_length-le l m, append-nil))
 
+-- a part of a list was lent, and came back as a run that fills it
+pub lent_run : (l bs : List ℕ) (at n : ℕ) → length bs ≡ n → at + n ≤ length l → put_mid at n l bs ≡ sets l at bs
+lent_run l bs at n e h = rw (sets-eq bs l at (omega arith), e, drop-drop n at l, append_assoc)
+
 -- a part of a list was lent, and a run that fills it was stored there
 pub sets-lent : (l bs ys : List ℕ) (at n : ℕ) → length bs ≡ n → at + n ≤ length l → ys ≡ sets (mid_of at n l) 0 bs → put_mid at n l ys ≡ sets l at bs
 sets-lent l bs ys at n e h k =
     let m : length (take n (drop at l)) ≡ n = part_length l at n h in
     let stored : sets (take n (drop at l)) 0 bs ≡ bs = sets_over (take n (drop at l)) bs (omega arith) ∙ take_all (length (take n (drop at l))) bs (omega arith) in
     rw (k, stored, sets-eq bs l at (omega arith), e, drop-drop n at l, append_assoc)
+
+-- what a store past the end, or past it in part, leaves
+pub ruleset store_laws = (sets-out, sets-clip)

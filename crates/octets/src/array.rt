@@ -5,6 +5,7 @@ ghost use Rattle.octets.specs.Lists.{array_of};
 use crate::store::store_bytes;
 
 // The first 32 bytes of a slice, and zeros where it has fewer.
+#[tactic(auto, unfolding(crate::specs::Lists::array_of))]
 pub fn array_32(s: &[u8]) -> [u8; 32]
     ensures { result ≡ array_of 32 s.now }
 {

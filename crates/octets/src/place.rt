@@ -12,6 +12,7 @@ pub struct Place {
 }
 
 // The bytes at a place, as far as they are there.
+#[tactic(auto, unfolding(crate::specs::Places::bytes_at))]
 pub fn part_at(s: &[u8], place: Place) -> &[u8]
     ensures { result.now ≡ bytes_at s.now place }
 {

@@ -6,10 +6,7 @@ ghost use Rattle.octets.specs.Le.{number_at};
 pub fn fits(len: usize, at: usize, n: usize) -> bool
     ensures { result ≡ leb (at + n) len }
 {
-    if len < at {
-        return false;
-    }
-    n <= len - at
+    at <= len && n <= len - at
 }
 
 // The number in `width` bytes that the slice has, from the last one down.
@@ -17,11 +14,9 @@ fn read_le(s: &[u8], at: usize, width: usize) -> u64
     requires { (width ≤ 8) × (width ≤ length s.now - at) }
     ensures { result ≡ number_at s.now at width }
 {
-    let mut left = width;
     let mut value: u64 = 0;
-    while 0 < left {
-        left -= 1;
-        value = s[at + left] as u64 + 256 * value;
+    for i in (0..width).rev() {
+        value = u64::from(s[at + i]) + 256 * value;
     }
     value
 }
@@ -71,23 +66,13 @@ pub fn u64_at(s: &[u8], at: usize) -> u64
 pub fn part(s: &[u8], at: usize, n: usize) -> &[u8]
     ensures { result.now ≡ take n (drop at s.now) }
 {
-    if s.len() <= at {
-        return &s[0..0];
-    }
-    if n <= s.len() - at {
-        let end = at + n;
-        &s[at..end]
-    } else {
-        &s[at..]
-    }
+    let found = rest(s, at);
+    found.get(..n).unwrap_or(found)
 }
 
 // The bytes from `at` on.
 pub fn rest(s: &[u8], at: usize) -> &[u8]
     ensures { result.now ≡ drop at s.now }
 {
-    if s.len() <= at {
-        return &s[0..0];
-    }
-    &s[at..]
+    s.get(at..).unwrap_or(&[])
 }

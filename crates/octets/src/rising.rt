@@ -7,14 +7,12 @@ pub fn is_rising(numbers: &[u16]) -> bool
     ensures { result ≡ is_rising 0 numbers.now }
 {
     let mut least: u32 = 0;
-    let mut i: usize = 0;
-    while i < numbers.len() {
-        let number = numbers[i] as u32;
+    for &number in numbers {
+        let number = u32::from(number);
         if number < least {
             return false;
         }
         least = number + 1;
-        i += 1;
     }
     true
 }
