@@ -3,11 +3,12 @@
 use mathlib.Core.Path.{◌≡◌, refl, sym, ap, ◌∙◌}
 use mathlib.Core.List.{List, [], ◌∷◌, ◌++◌}
 use Prim.Native.Nat.{ℕ, zero, suc, ◌+◌, ◌-◌, ◌*◌, ◌/◌, ◌%◌, ◌^◌, ◌≤◌, ◌<◌}
-use native.Mathlib.Nat.{pow-suc, one-le-pow, pow-le-pow_right, lt_of_lt_of_le, zero-lt-suc, mod-eq_of_lt, mod-lt, mod-add-div, mul_comm, mul_assoc, add-mul-mod_self_left, le_of_suc-le-suc, not-suc-le-zero}
+use native.Mathlib.Nat.{pow-suc, one-le-pow, pow-le-pow_right, lt_of_lt_of_le, zero-lt-suc, mod-eq_of_lt, mod-lt, mod-add-div, div-one, div-div-eq-div-mul, mul_comm, mul_assoc, add-mul-mod_self_left, le_of_suc-le-suc, not-suc-le-zero}
 use native.Mathlib.Omega.{arith}
 use lib.Dec.{lit<}
 use lib.ListN.{length, take, drop, get_or, length-drop}
 use lib.Seq.{drop-cons, get_or-drop, take_all, sets}
+use Rattle.std.specs.Int.{w64, byte_at, bytes_low_first, to_le_bytes}
 use Rattle.octets.specs.Le.{to_le, from_le, number_at, Bytes}
 use Rattle.octets.proofs.Stores.{sets-clip}
 
@@ -15,6 +16,21 @@ pub length_to : (k n : ℕ) → length (to_le k n) ≡ k
 unfolding to_le
 length_to zero n = refl
 length_to (suc k) n = ap suc (length_to k (n / 256))
+
+-- the library's bytes of a number, from byte i up
+byte-low : (i n : ℕ) → byte_at i n ≡ n / 256 ^ i % 256
+byte-low zero n = rw div-one
+byte-low (suc i) n = refl
+
+bytes-low : (k i n : ℕ) → bytes_low_first i k n ≡ to_le k (n / 256 ^ i)
+unfolding to_le
+bytes-low zero i n = refl
+bytes-low (suc k) i n =
+    let e : n / 256 ^ suc i ≡ n / 256 ^ i / 256 = rw pow-suc (sym (div-div-eq-div-mul n (256 ^ i) 256)) in
+    rw (byte-low i n, bytes-low k (suc i) n, e)
+
+pub le_bytes_of_u64 : (n : ℕ) → to_le 8 n ≡ to_le_bytes w64 n
+le_bytes_of_u64 n = sym (bytes-low 8 0 n ∙ ap (to_le 8) (div-one n))
 
 -- the lowest byte, and the remainder of the rest
 mod-digit : (n m : ℕ) → 0 < m → n % 256 + 256 * (n / 256 % m) ≡ n % (m * 256)
