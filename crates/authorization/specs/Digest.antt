@@ -1,10 +1,10 @@
 -- 01, main.rs: "Digest input: `CKB_ACCOUNT_LOCK_V1`, operation, account id, sequence (u64), hash of the state, sighash."
-use Rattle.std.specs.Prelude.{ℕ, List, [], ◌∷◌, ◌++◌, replicate, Err, Ok}
+use Rattle.std.specs.Prelude.{ℕ, List, [], ◌∷◌, ◌++◌, Ok, Result}
 use Rattle.octets.specs.Le.{to_le}
 use Rattle.blake2b.specs.State.{ckb_hash}
 use Rattle.protocol.specs.Policy.{operation_rows}
-use Rattle.protocol.specs.Rows.{decide, Check}
-use Rattle.authorization.specs.declared.digest.AuthorizationDigest.{AuthorizationDigest}
+use Rattle.protocol.specs.Rows.{◌then◌, decide}
+use Rattle.protocol.specs.declared.error.ProtocolError.{ProtocolError}
 
 -- `CKB_ACCOUNT_LOCK_V1`
 unfoldable pub auth_domain : List ℕ
@@ -21,11 +21,7 @@ digest_input operation account sequence state sighash = digest_head operation ac
 unfoldable pub digest_of : ℕ → List ℕ → ℕ → List ℕ → List ℕ → List ℕ
 digest_of operation account sequence state sighash = ckb_hash (digest_input operation account sequence state sighash)
 
--- a digest, or a refusal beside 32 zeros
-unfoldable pub digest_answer : Check → List ℕ → AuthorizationDigest
-digest_answer (Ok _) digest = record { found = (Ok tt); digest = digest }
-digest_answer (Err e) digest = record { found = Err e; digest = replicate 32 0 }
-
-unfoldable pub authorization_of : ℕ → List ℕ → ℕ → List ℕ → List ℕ → AuthorizationDigest
+-- a digest, or the refusal of the operation
+unfoldable pub authorization_of : ℕ → List ℕ → ℕ → List ℕ → List ℕ → Result (List ℕ) ProtocolError
 authorization_of operation account sequence state sighash =
-    digest_answer (decide (Ok tt) (operation_rows operation)) (digest_of operation account sequence state sighash)
+    decide (Ok tt) (operation_rows operation) then Ok (digest_of operation account sequence state sighash)
