@@ -4,11 +4,11 @@ use mathlib.Core.Path.{◌≡◌, refl, ap}
 use mathlib.Core.Logic.{◌⊎◌, inl, inr, ◌↔◌}
 use mathlib.Core.Bool.{Bool, true, false, ◌&&◌, ◌||◌, cond, false≢true}
 use Prim.Native.Nat.{ℕ, ◌+◌, ◌*◌, ◌^◌, ◌≤◌, ◌<◌}
-use native.Mathlib.Nat.{mul-le-mul, mul-le-mul_right, mul-lt-mul_of_pos_right, le_of_mul-le-mul_right, mod-lt}
+use native.Mathlib.Nat.{mul-le-mul, mul-le-mul_right, mul-lt-mul_of_pos_right, le_of_mul-le-mul_right}
 use native.Mathlib.Omega.{arith}
 use lib.Dec.{eqb, leb, ltb}
 use borrow.Author.Tests.{le-leb, leb-true, leb-false, ltb-true, ltb-false, eqb-true, eqb-false}
-use Rattle.since.specs.Epoch.{Epoch, epoch_of, epoch_well_formed, divisor, parts, epoch_leb}
+use Rattle.since.specs.Epoch.{Epoch, epoch_well_formed, divisor, parts, epoch_leb}
 use Rattle.since.specs.EpochOrder.{SameFraction, EpochLe, EpochOrder}
 
 -- ---- whole numbers: n epochs and i parts of which d make one, against n', i' and d'
@@ -113,34 +113,29 @@ epoch-order = record {
   equal = λ a b p q h k. equal a b (pairs-there a b q (by-products a b h)) (pairs-there b a p (by-products b a k));
 }
 
--- ---- the products of a value's own epochs
+-- ---- the products of epochs whose parts have 32, 16 and 16 bits
 
-module _ (value : ℕ) where
-  number_bound : (epoch_of value).number < 2 ^ 24
-  unfolding epoch_of
-  number_bound = mod-lt value (omega arith)
+product : (a b n m : ℕ) → a ≤ n → b ≤ m → a * b ≤ n * m
+product a b n m p q = mul-le-mul {n₁ = a} {m₁ = b} {n₂ = n} {m₂ = m} p q
 
-  index-bound : (epoch_of value).index < 2 ^ 16
-  unfolding epoch_of
-  index-bound = mod-lt _ (omega arith)
+divisor-bound : (e : Epoch) → e.length < 2 ^ 16 → divisor e < 2 ^ 16
+unfolding divisor
+divisor-bound e h = go (eqb e.length 0)
+  where
+    go : (b : Bool) → cond b 1 e.length < 2 ^ 16
+    go true = omega arith
+    go false = h
 
-  length-bound : (epoch_of value).length < 2 ^ 16
-  unfolding epoch_of
-  length-bound = mod-lt _ (omega arith)
+-- no sum of parts leaves 64 bits,
+pub parts-bound : (e : Epoch) → e.number < 2 ^ 32 → e.index < 2 ^ 16 → e.length < 2 ^ 16 → e.number * divisor e + e.index ≤ 281470681743360
+parts-bound e n i l = omega (arith, product e.number (divisor e) 4294967295 65535 (omega arith) (omega (arith, divisor-bound e l)))
 
-  pub divisor-bound : divisor (epoch_of value) < 2 ^ 16
-  unfolding divisor
-  divisor-bound = go (eqb (epoch_of value).length 0)
-    where
-      go : (b : Bool) → cond b 1 (epoch_of value).length < 2 ^ 16
-      go true = omega arith
-      go false = length-bound
+-- and no product of them with a divisor
+pub epoch-products : (a b : Epoch) → a.number < 2 ^ 32 → a.index < 2 ^ 16 → a.length < 2 ^ 16 → b.length < 2 ^ 16
+    → parts a * divisor b < 2 ^ 64
+unfolding parts
+epoch-products a b n i l m =
+    omega (arith, product (a.number * divisor a + a.index) (divisor b) 281470681743360 65535 (parts-bound a n i l) (omega (arith, divisor-bound b m)))
 
-  pub parts-bound : parts (epoch_of value) < 2 ^ 40
-  unfolding parts
-  parts-bound = omega (arith, mul-le-mul {n₁ = (epoch_of value).number} {m₁ = divisor (epoch_of value)} {n₂ = 16777215} {m₂ = 65535} (omega (arith, number_bound)) (omega (arith, divisor-bound)), index-bound)
-
--- no product leaves 64 bits: each has at most 56
-pub epoch-products : (value other : ℕ) → parts (epoch_of value) * divisor (epoch_of other) < 2 ^ 56
-epoch-products value other =
-    omega (arith, mul-le-mul {n₁ = parts (epoch_of value)} {m₁ = divisor (epoch_of other)} {n₂ = 1099511627775} {m₂ = 65535} (omega (arith, parts-bound value)) (omega (arith, divisor-bound other)))
+-- for the check's own search
+pub ruleset bounds = (parts-bound, epoch-products)

@@ -1,12 +1,8 @@
 -- A value in epochs, by CKB's RFC 0017: N + I / L, where N has the lowest 24 bits of the value, I the 16 bits above them and L the
 -- highest 16 of its 56.
 use Rattle.std.specs.Prelude.{ℕ, ◌+◌, ◌*◌, ◌/◌, ◌%◌, ◌^◌, Bool, ◌&&◌, ◌||◌, cond, eqb, leb, ltb}
-
-pub record Epoch : Type 0 where
-  -- N, I and L
-  pub number : ℕ
-  pub index : ℕ
-  pub length : ℕ
+-- N is `number`, I `index` and L `length`
+pub use Rattle.since.specs.declared.epoch.Epoch.{Epoch}
 
 unfoldable pub epoch_of : ℕ → Epoch
 epoch_of value = record { number = value % 2 ^ 24; index = value / 2 ^ 24 % 2 ^ 16; length = value / 2 ^ 40 % 2 ^ 16 }

@@ -2,16 +2,11 @@
 use Rattle.std.specs.Prelude.{ℕ, ◌/◌, ◌%◌, ◌^◌, ◌≤◌, ◌≡◌, ◌≢◌, Bool, not, ◌&&◌, ◌||◌, cond, eqb, leb}
 use Rattle.since.specs.Epoch.{epoch_of, epoch_well_formed, epoch_leb}
 use Rattle.since.specs.EpochOrder.{EpochLe}
-
-pub record Since : Type 0 where
-  -- relative_flag, the highest bit: at 1 the value counts from the block that has the input's cell, at 0 it is absolute
-  pub relative : ℕ
-  -- metric_flag, the two bits below it: 0 blocks, 1 epochs, 2 seconds; 3 is invalid
-  pub metric : ℕ
-  -- the other five flags, kept for other use
-  pub reserved : ℕ
-  -- the other 56 bits
-  pub value : ℕ
+-- relative: relative_flag, the highest bit: at 1 the value counts from the block that has the input's cell, at 0 it is absolute
+-- metric: metric_flag, the two bits below it: 0 blocks, 1 epochs, 2 seconds; 3 is invalid
+-- reserved: the other five flags, kept for other use
+-- value: the other 56 bits
+pub use Rattle.since.specs.declared.since.Since.{Since}
 
 unfoldable pub since_fields : ℕ → Since
 since_fields n = record { relative = n / 2 ^ 63; metric = n / 2 ^ 61 % 4; reserved = n / 2 ^ 56 % 32; value = n % 2 ^ 56 }

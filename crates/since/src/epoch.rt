@@ -9,50 +9,56 @@ const LENGTH: u64 = 0x100_0000_0000;
 
 const BOUND: u64 = 0x1_0000;
 
-fn number_of(value: u64) -> u64
-    ensures { result ≡ (epoch_of value).number }
-{
-    value % INDEX
+// N, I and L of N + I / L.
+#[derive(Clone, Copy)]
+pub(crate) struct Epoch {
+    pub number: u32,
+    pub index: u16,
+    pub length: u16,
 }
 
-fn index_of(value: u64) -> u64
-    ensures { result ≡ (epoch_of value).index }
-{
-    value / INDEX % BOUND
+impl From<u64> for Epoch {
+    ghost from_gives = { λ value e. e ≡ epoch_of value };
+
+    #[tactic(auto, unfolding(crate::specs::Epoch::epoch_of))]
+    fn from(value: u64) -> Epoch {
+        Epoch {
+            number: (value % INDEX) as u32,
+            index: (value / INDEX % BOUND) as u16,
+            length: (value / LENGTH % BOUND) as u16,
+        }
+    }
 }
 
-fn length_of(value: u64) -> u64
-    ensures { result ≡ (epoch_of value).length }
-{
-    value / LENGTH % BOUND
-}
+impl Epoch {
+    #[tactic(auto, unfolding(crate::specs::Epoch::epoch_well_formed))]
+    pub fn is_well_formed(self) -> bool
+        ensures { result ≡ epoch_well_formed self }
+    {
+        self.index < self.length || self.index == 0 && self.length == 0
+    }
 
-pub(crate) fn epoch_well_formed(value: u64) -> bool
-    ensures { result ≡ epoch_well_formed (epoch_of value) }
-{
-    let index = index_of(value);
-    let length = length_of(value);
-    index < length || index == 0 && length == 0
-}
+    // What the fraction is over, where 0 over 0 counts as 0 over 1.
+    #[tactic(auto, unfolding(crate::specs::Epoch::divisor))]
+    fn divisor(self) -> u64
+        ensures { result ≡ divisor self }
+    {
+        self.length.max(1) as u64
+    }
 
-// What the fraction is over, where 0 over 0 counts as 0 over 1.
-fn divisor_of(value: u64) -> u64
-    ensures { result ≡ divisor (epoch_of value) }
-{
-    let length = length_of(value);
-    if length == 0 { 1 } else { length }
-}
+    // All of the value, in parts of which the divisor makes an epoch.
+    #[tactic(auto, using(crate::proofs::EpochOrder::bounds), unfolding(crate::specs::Epoch::parts))]
+    fn parts(self) -> u64
+        ensures { result ≡ parts self }
+    {
+        self.number as u64 * self.divisor() + self.index as u64
+    }
 
-// All of the value, in parts of which the divisor makes an epoch.
-fn parts_of(value: u64) -> u64
-    ensures { result ≡ parts (epoch_of value) }
-{
-    number_of(value) * divisor_of(value) + index_of(value)
-}
-
-// Whether a value in epochs is not later than another.
-pub(crate) fn epoch_leb(value: u64, other: u64) -> bool
-    ensures { result ≡ epoch_leb (epoch_of value) (epoch_of other) }
-{
-    parts_of(value) * divisor_of(other) <= parts_of(other) * divisor_of(value)
+    // Whether it is not later than another.
+    #[tactic(auto, using(crate::proofs::EpochOrder::bounds), unfolding(crate::specs::Epoch::epoch_leb))]
+    pub fn leb(self, other: Epoch) -> bool
+        ensures { result ≡ epoch_leb self other }
+    {
+        self.parts() * other.divisor() <= other.parts() * self.divisor()
+    }
 }

@@ -1,8 +1,0 @@
--- `since::epoch::number_of` meets its contract. Assumes nothing.
-use mathlib.Core.Path.{refl}
-use Rattle.since.specs.Epoch.{epoch_of}
-use Rattle.since.proofs.epoch.number_of.Goals as goal
-
-pub returns : goal.returns
-unfolding epoch_of
-returns c = refl
