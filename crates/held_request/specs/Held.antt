@@ -6,7 +6,7 @@ use Rattle.std.specs.Borrow.{Bor}
 use Rattle.octets.specs.declared.place.Place.{Place}
 use Rattle.octets.specs.Lists.{same}
 use Rattle.octets.specs.Places.{bytes_at}
-use Rattle.protocol.specs.Errors.{error_number}
+use Rattle.protocol.specs.Rows.{check_number}
 use Rattle.verifier_request.specs.declared.reader.RequestFields.{RequestFields}
 use Rattle.verifier_request.specs.Reader.{read_request}
 use Rattle.verifier_request.specs.Reading.{RequestReading, request_with}
@@ -17,7 +17,6 @@ use Rattle.held_request.specs.declared.VerifierRequest.{VerifierRequest}
 abbrev pub read_places : RequestFields → RequestPlaces
 read_places f =
     record {
-      refusal = 0;
       algorithm_id = f.algorithm_id;
       slot = f.slot;
       operation = f.operation;
@@ -28,14 +27,22 @@ read_places f =
       proof = record { start = f.proof; len = f.proof_len };
     }
 
+unfoldable pub request_places_of : Result RequestFields ProtocolError → Result RequestPlaces ProtocolError
+request_places_of (Ok f) = Ok (read_places f)
+request_places_of (Err e) = Err e
+
+-- the struct that the reader hands out for these bytes
+abbrev pub parsed : Bor (List ℕ) → VerifierRequest
+parsed s = record { request = s; places = request_places_of (read_request s.now) }
+
 abbrev pub nowhere : Place
 nowhere = record { start = 0; len = 0 }
 
--- of a request that was refused with this number
-abbrev pub refused_places : ℕ → RequestPlaces
-refused_places number =
+-- the numbers and places that its functions hand out of: 0, and no byte, where the request was refused
+unfoldable pub places_or_none : Result RequestPlaces ProtocolError → RequestPlaces
+places_or_none (Ok p) = p
+places_or_none (Err e) =
     record {
-      refusal = number;
       algorithm_id = 0;
       slot = 0;
       operation = 0;
@@ -46,13 +53,9 @@ refused_places number =
       proof = nowhere;
     }
 
-unfoldable pub request_places_of : Result RequestFields ProtocolError → RequestPlaces
-request_places_of (Ok f) = read_places f
-request_places_of (Err e) = refused_places (error_number e)
-
--- the struct that the reader hands out for these bytes
-abbrev pub parsed : Bor (List ℕ) → VerifierRequest
-parsed s = record { request = s; places = request_places_of (read_request s.now) }
+-- those of these bytes
+abbrev pub places_in : List ℕ → RequestPlaces
+places_in s = places_or_none (request_places_of (read_request s))
 
 -- what its functions hand out, together
 unfoldable pub held_reading : List ℕ → RequestPlaces → RequestReading
@@ -70,5 +73,4 @@ held_reading s p =
 -- the bytes are a request for this digest: nothing was refused, and the digest found is this one
 unfoldable pub is_for : List ℕ → List ℕ → Bool
 is_for s digest =
-    let found = request_places_of (read_request s) in
-    eqb found.refusal 0 && same (bytes_at s found.authorization_digest) digest
+    eqb (check_number (request_places_of (read_request s))) 0 && same (bytes_at s (places_in s).authorization_digest) digest

@@ -6,16 +6,19 @@ mod places; // places.rt
 
 ghost use Rattle.std.specs.Prelude.{◌≡◌};
 ghost use Rattle.octets.specs.Places.{bytes_at};
+ghost use Rattle.protocol.specs.Rows.{check_number};
 ghost use Rattle.verifier_request.specs.Reader.{read_request};
-ghost use Rattle.held_request.specs.Held.{request_places_of, parsed, is_for};
+ghost use Rattle.held_request.specs.Held.{request_places_of, places_or_none, places_in, parsed, is_for};
 
 pub use self::places::{RequestPlaces, read_places};
 use octets::{part_at, same_bytes};
+use protocol::{ProtocolError, check_number};
 
-#[derive(Drop)]
+// A request's bytes, and what was read in them.
+#[derive(Clone, Copy)]
 pub struct VerifierRequest<'a> {
     pub request: &'a [u8],
-    pub places: RequestPlaces,
+    pub places: Result<RequestPlaces, ProtocolError>,
 }
 
 impl<'a> VerifierRequest<'a> {
@@ -30,119 +33,136 @@ impl<'a> VerifierRequest<'a> {
     }
 
     // 0 where the request was read, else the refusal's number.
-    pub fn refusal(self) -> u8
-        ensures { result ≡ self.entry.places.refusal }
+    pub fn refusal(&self) -> u8
+        ensures { result ≡ check_number self.now.places }
     {
-        self.places.refusal
+        check_number(self.places)
     }
 
-    pub fn algorithm_id(self) -> u16
-        ensures { result ≡ self.entry.places.algorithm_id }
+    // Its numbers; 0 where it was refused.
+    #[tactic(auto, unfolding(crate::specs::Held::places_or_none))]
+    pub fn algorithm_id(&self) -> u16
+        ensures { result ≡ (places_or_none self.now.places).algorithm_id }
     {
-        self.places.algorithm_id
+        self.places.map_or(0, |places| places.algorithm_id)
     }
 
-    pub fn slot(self) -> u16
-        ensures { result ≡ self.entry.places.slot }
+    #[tactic(auto, unfolding(crate::specs::Held::places_or_none))]
+    pub fn slot(&self) -> u16
+        ensures { result ≡ (places_or_none self.now.places).slot }
     {
-        self.places.slot
+        self.places.map_or(0, |places| places.slot)
     }
 
-    pub fn operation(self) -> u8
-        ensures { result ≡ self.entry.places.operation }
+    #[tactic(auto, unfolding(crate::specs::Held::places_or_none))]
+    pub fn operation(&self) -> u8
+        ensures { result ≡ (places_or_none self.now.places).operation }
     {
-        self.places.operation
+        self.places.map_or(0, |places| places.operation)
     }
 
-    pub fn verifier_profile(self) -> u8
-        ensures { result ≡ self.entry.places.verifier_profile }
+    #[tactic(auto, unfolding(crate::specs::Held::places_or_none))]
+    pub fn verifier_profile(&self) -> u8
+        ensures { result ≡ (places_or_none self.now.places).verifier_profile }
     {
-        self.places.verifier_profile
+        self.places.map_or(0, |places| places.verifier_profile)
     }
 
-    pub fn authorization_digest(self) -> &'a [u8]
-        ensures { result.now ≡ bytes_at self.entry.request.now self.entry.places.authorization_digest }
+    // Its parts; no byte where it was refused.
+    #[tactic(auto, unfolding(crate::specs::Held::places_or_none, octets::specs::Places::bytes_at))]
+    pub fn authorization_digest(&self) -> &'a [u8]
+        ensures { result.now ≡ bytes_at self.now.request.now (places_or_none self.now.places).authorization_digest }
     {
-        part_at(self.request, self.places.authorization_digest)
+        self.places.map_or(
+            &[],
+            |places| part_at(self.request, places.authorization_digest),
+        )
     }
 
-    pub fn key_id(self) -> &'a [u8]
-        ensures { result.now ≡ bytes_at self.entry.request.now self.entry.places.key_id }
+    #[tactic(auto, unfolding(crate::specs::Held::places_or_none, octets::specs::Places::bytes_at))]
+    pub fn key_id(&self) -> &'a [u8]
+        ensures { result.now ≡ bytes_at self.now.request.now (places_or_none self.now.places).key_id }
     {
-        part_at(self.request, self.places.key_id)
+        self.places
+            .map_or(&[], |places| part_at(self.request, places.key_id))
     }
 
-    pub fn aux(self) -> &'a [u8]
-        ensures { result.now ≡ bytes_at self.entry.request.now self.entry.places.aux }
+    #[tactic(auto, unfolding(crate::specs::Held::places_or_none, octets::specs::Places::bytes_at))]
+    pub fn aux(&self) -> &'a [u8]
+        ensures { result.now ≡ bytes_at self.now.request.now (places_or_none self.now.places).aux }
     {
-        part_at(self.request, self.places.aux)
+        self.places
+            .map_or(&[], |places| part_at(self.request, places.aux))
     }
 
-    pub fn proof(self) -> &'a [u8]
-        ensures { result.now ≡ bytes_at self.entry.request.now self.entry.places.proof }
+    #[tactic(auto, unfolding(crate::specs::Held::places_or_none, octets::specs::Places::bytes_at))]
+    pub fn proof(&self) -> &'a [u8]
+        ensures { result.now ≡ bytes_at self.now.request.now (places_or_none self.now.places).proof }
     {
-        part_at(self.request, self.places.proof)
+        self.places
+            .map_or(&[], |places| part_at(self.request, places.proof))
     }
 }
 
 // 0 where these bytes are a request, else the refusal's number.
 pub fn request_refusal_of(request: &[u8]) -> u8
-    ensures { result ≡ (request_places_of (read_request request.now)).refusal }
+    ensures { result ≡ check_number (request_places_of (read_request request.now)) }
 {
     VerifierRequest::parse(request).refusal()
 }
 
 // The numbers of the request in these bytes; 0 where it is refused.
 pub fn request_algorithm_id_of(request: &[u8]) -> u16
-    ensures { result ≡ (request_places_of (read_request request.now)).algorithm_id }
+    ensures { result ≡ (places_in request.now).algorithm_id }
 {
     VerifierRequest::parse(request).algorithm_id()
 }
 
 pub fn request_slot_of(request: &[u8]) -> u16
-    ensures { result ≡ (request_places_of (read_request request.now)).slot }
+    ensures { result ≡ (places_in request.now).slot }
 {
     VerifierRequest::parse(request).slot()
 }
 
 pub fn request_operation_of(request: &[u8]) -> u8
-    ensures { result ≡ (request_places_of (read_request request.now)).operation }
+    ensures { result ≡ (places_in request.now).operation }
 {
     VerifierRequest::parse(request).operation()
 }
 
 pub fn request_verifier_profile_of(request: &[u8]) -> u8
-    ensures { result ≡ (request_places_of (read_request request.now)).verifier_profile }
+    ensures { result ≡ (places_in request.now).verifier_profile }
 {
     VerifierRequest::parse(request).verifier_profile()
 }
 
 // Its parts; no byte where it is refused.
 pub fn request_authorization_digest_of(request: &[u8]) -> &[u8]
-    ensures { result.now ≡ bytes_at request.now (request_places_of (read_request request.now)).authorization_digest }
+    ensures { result.now ≡ bytes_at request.now (places_in request.now).authorization_digest }
 {
     VerifierRequest::parse(request).authorization_digest()
 }
 
 pub fn request_key_id_of(request: &[u8]) -> &[u8]
-    ensures { result.now ≡ bytes_at request.now (request_places_of (read_request request.now)).key_id }
+    ensures { result.now ≡ bytes_at request.now (places_in request.now).key_id }
 {
     VerifierRequest::parse(request).key_id()
 }
 
 pub fn request_aux_of(request: &[u8]) -> &[u8]
-    ensures { result.now ≡ bytes_at request.now (request_places_of (read_request request.now)).aux }
+    ensures { result.now ≡ bytes_at request.now (places_in request.now).aux }
 {
     VerifierRequest::parse(request).aux()
 }
 
 pub fn request_proof_of(request: &[u8]) -> &[u8]
-    ensures { result.now ≡ bytes_at request.now (request_places_of (read_request request.now)).proof }
+    ensures { result.now ≡ bytes_at request.now (places_in request.now).proof }
 {
     VerifierRequest::parse(request).proof()
 }
 
 // Whether these bytes are a request for this digest.
+#[tactic(auto, unfolding(crate::specs::Held::is_for))]
 pub fn is_for(request: &[u8], digest: &[u8]) -> bool
     ensures { result ≡ is_for request.now digest.now }
 {
