@@ -14,7 +14,7 @@ use Rattle.octets.proofs.Stores.{sets_over}
 use Rattle.protocol.proofs.ErrorNumbers.{not-0}
 use Rattle.verifier_request.specs.Reader.{read_request}
 use Rattle.verifier_request.specs.Reading.{RequestReading, request_reading}
-use Rattle.held_request.specs.Held.{request_places_of, held_reading}
+use Rattle.held_request.specs.Held.{request_places_of, places_in, held_reading}
 use Rattle.held_request.proofs.HeldTheorem.{held-accepts, held-reading}
 use Rattle.export_answers.specs.Words.{word_bytes}
 use Rattle.export_answers.specs.Stored.{stored_after, StoresPart}
@@ -22,7 +22,7 @@ use Rattle.export_answers.proofs.Table64.{length-words, words-fit}
 use Rattle.export_answers.proofs.Fits.{part-refused}
 
 -- the struct's refusal is the reader's number
-refusal-number : (k : Result RequestFields ProtocolError) → (request_places_of k).refusal ≡ check_number k
+refusal-number : (k : Result RequestFields ProtocolError) → check_number (request_places_of k) ≡ check_number k
 unfolding request_places_of
 refusal-number (Ok f) = refl
 refusal-number (Err e) = refl
@@ -37,15 +37,15 @@ other-bytes number ne bytes others out len r after len_after h =
 
 -- what the struct's functions hand out is the reading's, where it is handed out at all
 pub handed : (s out : List ℕ) (len : ℕ) (of : RequestReading → List ℕ) (r : ℕ) (after : List ℕ) (len_after : ℕ)
-    → StoresPart (request_places_of (read_request s)).refusal (of (held_reading s (request_places_of (read_request s)))) out len r after len_after
+    → StoresPart (check_number (request_places_of (read_request s))) (of (held_reading s (places_in s))) out len r after len_after
     → StoresPart (check_number (read_request s)) (of (request_reading s)) out len r after len_after
 handed s out len of r after len_after h = by_answer (read_request s) refl
   where
     held : List ℕ
-    held = of (held_reading s (request_places_of (read_request s)))
+    held = of (held_reading s (places_in s))
 
     numbered : StoresPart (check_number (read_request s)) held out len r after len_after
-    numbered = subst (λ (n : ℕ). StoresPart n (of (held_reading s (request_places_of (read_request s)))) out len r after len_after) (refusal-number (read_request s)) h
+    numbered = subst (λ (n : ℕ). StoresPart n (of (held_reading s (places_in s))) out len r after len_after) (refusal-number (read_request s)) h
 
     by_answer : (k : Result RequestFields ProtocolError) → read_request s ≡ k → StoresPart (check_number (read_request s)) (of (request_reading s)) out len r after len_after
     by_answer (Ok f) e =

@@ -3,9 +3,8 @@
 #![tactic(auto)]
 
 ghost use Rattle.std.specs.Prelude.{◌≡◌};
-ghost use Rattle.verifier_request.specs.Reader.{read_request};
 ghost use Rattle.verifier_request.specs.Reading.{RequestReading};
-ghost use Rattle.held_request.specs.Held.{request_places_of, held_reading};
+ghost use Rattle.held_request.specs.Held.{places_in, held_reading};
 ghost use Rattle.exports_request.specs.Parts.{number_words, StoresNumbers, StoresField};
 
 use export_answers::{store_part, store_words};
@@ -13,7 +12,7 @@ use held_request::{request_algorithm_id_of, request_authorization_digest_of, req
 
 // The request's four numbers, as 64-bit words.
 fn number_words(request: &[u8]) -> [u8; 32]
-    ensures { result ≡ number_words (held_reading request.now (request_places_of (read_request request.now))) }
+    ensures { result ≡ number_words (held_reading request.now (places_in request.now)) }
 {
     let words = [
         request_algorithm_id_of(request) as u64,
