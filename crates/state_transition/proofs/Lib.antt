@@ -1,2 +1,3 @@
+pub mod ResolveLaws
 pub mod SessionLaws
 pub mod WaitLaws

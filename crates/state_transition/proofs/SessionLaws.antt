@@ -5,7 +5,7 @@ use mathlib.Core.Path.{◌≡◌, refl, sym, ◌∙◌}
 use mathlib.Core.Logic.{◌↔◌}
 use mathlib.Core.Bool.{Bool, true, false, not, false≢true}
 use mathlib.Core.List.{List, [], ◌∷◌, ◌++◌}
-use Prim.Native.Nat.{ℕ, ◌+◌, ◌-◌, ◌<◌}
+use Prim.Native.Nat.{ℕ, suc, ◌+◌, ◌<◌}
 use lib.Dec.{eqb}
 use lib.ListN.{drop}
 use borrow.Author.Tests.{not-true}
@@ -57,7 +57,7 @@ session-carried r = (λ h f. false≢true (sym h ∙ (session-free r).1 f), go (
 pub successor-original : (current successor : List ℕ) → SessionFree (state_reading successor)
     → decide (Ok tt) (successor_rows current successor)
     ≡ decide (Ok tt) (state_rows successor ++ (row (eqb (sequence_of successor) (sequence_of current + 1)) InvalidSequence ∷ []))
-unfolding successor_rows decide ◌▷◌
+unfolding successor_rows decide
 successor-original current successor h =
     decide-append (Ok tt) (state_rows successor) _
     ∙ (rw ((session-free (state_reading successor)).1 h) (go (decide (Ok tt) (state_rows successor))) ∙ sym (decide-append (Ok tt) (state_rows successor) _))
@@ -73,25 +73,29 @@ unfolding session_free state_reading
 free-flag s h = rw h
 
 -- with the flag clear, `left` entries from the bytes e on say what all say
-abbrev pub Looking : List ℕ → ℕ → List ℕ → Type 0
-Looking s left e = session_free (state_reading s) ≡ none_issues (entries_of left e)
+pub record Looking (s : List ℕ) (left : ℕ) (e : List ℕ) : Type 0 where
+  pub says : session_free (state_reading s) ≡ none_issues (entries_of left e)
 
 pub look-first : (s : List ℕ) → session_enabled (flags_of s) ≡ false → Looking s (entry_count_of s) (entry_bytes_of s)
 unfolding session_free state_reading
-look-first s h = rw h
+look-first s h = record { says = rw h }
 
-module _ (s : List ℕ) (left : ℕ) (e : List ℕ) (l : Looking s left e) where
-  -- an entry with the capability decides,
-  pub look_hit : 0 < left → issues_session (entry_of e) ≡ true → session_free (state_reading s) ≡ false
-  unfolding every
-  look_hit h p = l ∙ rw (entries-first e left h, p)
+-- an entry with the capability decides,
+pub look_hit : (s : List ℕ) (left : ℕ) (e : List ℕ) → Looking s left e → 0 < left → issues_session (entry_of e) ≡ true
+    → session_free (state_reading s) ≡ false
+unfolding every
+look_hit s left e l h p = l.says ∙ rw (entries-first e left h, p)
 
-  -- one without it leaves the rest,
-  pub look-next : 0 < left → issues_session (entry_of e) ≡ false → Looking s (left - 1) (drop (entry_length_of e) e)
-  unfolding every
-  look-next h p = l ∙ rw (entries-first e left h, p)
+-- one without it leaves the rest,
+pub look-next : (s : List ℕ) (left next : ℕ) (e : List ℕ) → Looking s left e → left ≡ suc next → issues_session (entry_of e) ≡ false
+    → Looking s next (drop (entry_length_of e) e)
+unfolding every entries_of
+look-next s left next e l one p = record { says = l.says ∙ rw (one, p) }
 
-  -- and none is left
-  pub look-end : left ≡ 0 → session_free (state_reading s) ≡ true
-  unfolding every entries_of
-  look-end z = l ∙ rw z
+-- and none is left
+pub look-end : (s : List ℕ) (left : ℕ) (e : List ℕ) → Looking s left e → left ≡ 0 → session_free (state_reading s) ≡ true
+unfolding every entries_of
+look-end s left e l z = l.says ∙ rw z
+
+-- for the check's own search
+pub ruleset looks = (free-flag, look-first, look_hit, look-next, look-end)

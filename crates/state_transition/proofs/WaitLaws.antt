@@ -9,7 +9,7 @@ use Prim.Native.Nat.{ℕ}
 use native.Mathlib.Omega.{arith}
 use lib.Dec.{eqb, leb}
 use borrow.Author.Tests.{eq-eqb, ne_eqb, eqb-true, eqb-false, le-leb}
-use Rattle.protocol.specs.Rows.{row, decide, ◌▷◌, check_number, Check}
+use Rattle.protocol.specs.Rows.{row, decide, check_number, Check}
 use Rattle.protocol.specs.declared.error.ProtocolError.TheVariants.{InvalidCapability, RecoveryLocked, InvalidSince}
 use Rattle.protocol.proofs.AllPass.{decide-failed}
 use Rattle.account_state.specs.Fields.{flags_of, recovery_enabled, recovery_since_of}
@@ -60,7 +60,7 @@ module _ (wait since : ℕ) where
   no-wait z = rw (eq-eqb wait 0 z)
 
   a-wait : wait ≢ 0 → decide (Ok tt) (wait_rows wait since) ≡ found state input over
-  unfolding wait_rows decide ◌▷◌
+  unfolding wait_rows decide
   a-wait n = rw (ne_eqb wait 0 n) (go state input over)
     where
       go : (f g r : Bool) → decide (Ok tt) (row f InvalidSince ∷ row g InvalidSince ∷ row r RecoveryLocked ∷ []) ≡ found f g r
@@ -130,7 +130,7 @@ module _ (wait since : ℕ) where
 
 plain-wait : (wait since : ℕ) → AbsoluteBlocks (since_fields wait) → AbsoluteBlocks (since_fields since) → (c : Check)
     → decide c (wait_rows wait since) ≡ decide c (row (leb wait since) RecoveryLocked ∷ [])
-unfolding decide ◌▷◌
+unfolding decide
 plain-wait wait since a b (Err e) = decide-failed (wait_rows wait since) e ∙ sym (decide-failed (row (leb wait since) RecoveryLocked ∷ []) e)
 plain-wait wait since a b (Ok _) = go (eqb wait 0) refl
   where

@@ -1,8 +1,9 @@
 -- The cells of an account's state in a transaction: the current one, and its successor where the state changes.
-use Rattle.std.specs.Prelude.{ℕ, cond, List, [], ◌∷◌, ◌++◌, length, get_or, eqb, leb, Ok}
+use Rattle.std.specs.Prelude.{ℕ, cond, List, [], ◌∷◌, ◌++◌, length, get_or, eqb, leb, Ok, Result}
 use Rattle.octets.specs.Lists.{same}
 use Rattle.protocol.specs.Policy.{operation_rows}
-use Rattle.protocol.specs.Rows.{Row, row, decide}
+use Rattle.protocol.specs.Rows.{Row, row, ◌then◌, decide}
+use Rattle.protocol.specs.declared.error.ProtocolError.{ProtocolError}
 use Rattle.protocol.specs.declared.error.ProtocolError.TheVariants.{InvalidState, StateNotFound, DuplicateState, StateConsumedOnSpend, InvalidTransition}
 use Rattle.scene_table.specs.Scene.{Cell, Input, Scene}
 use Rattle.cell_search.specs.declared.cells.Source.{Source}
@@ -76,13 +77,14 @@ since_at index s = (get_or s.inputs index no_input).since
 unfoldable pub state_since : ℕ → List ℕ → Scene → ℕ
 state_since operation id s = since_at (state_index (state_source operation) id s) s
 
--- what the search for the account's state answers: what its rows find, and the indices of the two cells; a spend has no successor.
+-- what the search for the account's state answers: what its rows find, else the indices of the two cells; a spend has no successor.
 -- main.rs, `resolve_state`: 37 for an operation other than spend, rotate and recovery. The lock's list has no such row: there the
 -- witness lock's header has refused it with 22
-unfoldable pub resolved_of : ℕ → List ℕ → Scene → ResolvedState
+unfoldable pub resolved_of : ℕ → List ℕ → Scene → Result ResolvedState ProtocolError
 resolved_of operation id s =
-    record {
-      found = decide (Ok tt) (operation_rows operation ++ resolve_rows operation id s);
+    decide (Ok tt) (operation_rows operation ++ resolve_rows operation id s)
+    then Ok
+    (record {
       current = state_index (state_source operation) id s;
       successor = cond (eqb operation 1) 0 (state_index source.Output id s);
-    }
+    })

@@ -8,6 +8,7 @@ use octets::rest;
 use protocol::{ACCOUNT_STATE_HEADER_LEN, CAP_SESSION_ISSUE};
 
 // Neither the flag nor the capability, in any bytes.
+#[tactic(auto, using(crate::proofs::SessionLaws::looks), unfolding(protocol::specs::Policy::has_capability, account_state::specs::Reading::entry_of))]
 pub(crate) fn session_free(state: &[u8]) -> bool
     ensures { result ≡ session_free (state_reading state.now) }
 {
@@ -15,14 +16,11 @@ pub(crate) fn session_free(state: &[u8]) -> bool
         return false;
     }
     let mut entry = rest(state, ACCOUNT_STATE_HEADER_LEN);
-    let mut left = entry_count_of(state);
-    while 0 < left {
+    for _ in 0..entry_count_of(state) {
         if capabilities_of(entry) / CAP_SESSION_ISSUE % 2 == 1 {
             return false;
         }
-        let next = rest(entry, entry_length_of(entry) as usize);
-        entry = next;
-        left -= 1;
+        entry = rest(entry, entry_length_of(entry) as usize);
     }
     true
 }
