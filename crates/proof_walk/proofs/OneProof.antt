@@ -2,33 +2,33 @@
 -- Assumes nothing.
 use Rattle.std.specs.Prelude.{Err, Ok}
 use mathlib.Core.Path.{◌≡◌, refl, sym, ◌∙◌}
-use mathlib.Core.Logic.{◌⊎◌, inl, inr, ⊎_elim}
+use mathlib.Core.Logic.{◌≢◌, ◌⊎◌, inl, inr, ⊎_elim}
 use mathlib.Core.Bool.{Bool, true, false, cond}
 use mathlib.Core.List.{List, [], ◌∷◌}
 use Prim.Native.Nat.{ℕ}
 use lib.Dec.{eqb}
-use lib.ListN.{take, drop}
+use lib.ListN.{length}
+use native.Mathlib.Omega.{arith}
 use borrow.Author.Tests.{eqb-true, eqb-false}
 use Rattle.protocol.specs.Rows.{Row, ◌then◌, decide, FirstFailed, Check}
 use Rattle.protocol.specs.declared.error.ProtocolError.{ProtocolError}
 use Rattle.protocol.specs.declared.error.ProtocolError.TheVariants.{InvalidWitness}
 use Rattle.protocol.proofs.AllPass.{then-passed, failed-first}
-use Rattle.account_witness.specs.Reading.{proof_given, proof_of}
+use Rattle.protocol.proofs.Answers.{then-given, then-refused}
+use Rattle.account_witness.specs.Reading.{ProofReading, proof_of}
 use Rattle.account_witness.specs.Walk as witness
-use Rattle.account_witness.specs.declared.walk.Proof.{Proof}
 use Rattle.account_witness.specs.declared.walk.ProofCursor.{ProofCursor}
-use Rattle.account_witness.proofs.WalkLaws.{proof-step-next, proof-step-refused}
 use Rattle.quorum.specs.Slots.{entry_for}
-use Rattle.decision.specs.Proofs.{Context, proof_rows}
+use Rattle.decision.specs.Proofs.{Context, proof_rows, request_of}
 use Rattle.decision.specs.Walk.{verdict, approved_weight}
-use Rattle.proof_walk.specs.Steps.{proof_with, RequestStepIs, proof_check, verdict_outcome, ProofWalked, ProofOutcomeIs}
+use Rattle.proof_walk.specs.Steps.{proof_check, verdict_outcome, proof_outcome}
+use Rattle.proof_walk.specs.declared.walk.ProofOutcome.{ProofOutcome}
 use Rattle.proof_walk.specs.declared.walk.ProofOutcome.TheVariants as outcome
 
 -- ---- one turn
 
 -- what two checks one after another find
 then-failed : (a b : Check) (e : ProtocolError) → a then b ≡ Err e → (a ≡ Err e) ⊎ ((a ≡ Ok tt) × (b ≡ Err e))
-unfolding ◌then◌
 then-failed (Ok _) b e h = inr (refl, h)
 then-failed (Err x) b e h = inl h
 
@@ -48,51 +48,49 @@ layout-error lock at least e h =
     only-first InvalidWitness e (witness.proof_layout_rows lock at least) (refl, (refl, (refl, (refl, (refl, tt)))))
     (failed-first (witness.proof_layout_rows lock at least) e h)
 
--- the turn by the verdict on its request
-pub outcome-by-verdict : (c : Context) (lock : List ℕ) (cursor : ProofCursor) (i : ℕ) (out after : List ℕ) (v len weight : ℕ) (next : ProofCursor)
-    → v ≡ verdict c i → ProofWalked c lock cursor out after len
-    → weight ≡ (entry_for (proof_of lock cursor.offset).slot c.entries).weight
-    → next ≡ witness.proof_cursor_behind lock cursor.offset
-    → ProofOutcomeIs c lock cursor i out after (verdict_outcome v len weight next)
-unfolding verdict_outcome approved_weight
-outcome-by-verdict c lock cursor i out after v len weight next k w wt n = go (eqb v 2) refl
-  where
-    go : (b : Bool) → eqb v 2 ≡ b
-        → ProofOutcomeIs c lock cursor i out after (cond b (outcome.Failed len) (outcome.Onward len (cond (eqb v 0) weight 0) next))
-    go true e = (w, sym k ∙ eqb-true v 2 e)
-    go false e = (w, (λ z. eqb-false v 2 e (k ∙ z)), rw (k, wt), n)
+-- an outcome, by its refusal, or by the verdict on its request
+module _ (c : Context) (lock : List ℕ) (cursor : ProofCursor) (i : ℕ) where
+  abbrev P : ProofReading
+  P = proof_of lock cursor.offset
 
-module _ (c : Context) (lock : List ℕ) (cursor : ProofCursor) where
-  pub turn-faulty : (e : ProtocolError) → witness.proof_step lock cursor ≡ Err e → proof_check c lock cursor ≡ Err e
-  unfolding proof_check ◌then◌
-  turn-faulty e h = rw (proof-step-refused lock cursor e h)
+  pub outcome-refused : (e : ProtocolError) → proof_outcome c lock cursor i ≡ Err e → proof_check c lock cursor ≡ Err e
+  unfolding proof_outcome
+  outcome-refused e h = then-refused _ (proof_check c lock cursor) e h
 
-  -- a proof was read
-  module _ (p : Proof) (next : ProofCursor) (h : witness.proof_step lock cursor ≡ Ok (p, next)) where
-    pub turn-proof : proof_of lock cursor.offset ≡ proof_with p.slot (take p.len (drop p.start lock))
-    unfolding proof_given
-    turn-proof = rw (proof-step-next lock cursor p next h).1
+  given : (o : ProofOutcome) → proof_outcome c lock cursor i ≡ Ok o → (proof_check c lock cursor ≡ Ok tt)
+      × (verdict_outcome (verdict c i) (length (request_of c P)) (entry_for P.slot c.entries).weight (witness.proof_cursor_behind lock cursor.offset) ≡ o)
+  unfolding proof_outcome
+  given o h = then-given _ (proof_check c lock cursor) o h
 
-    pub turn-next : next ≡ witness.proof_cursor_behind lock cursor.offset
-    turn-next = sym (proof-step-next lock cursor p next h).2
+  pub outcome-failed : (len : ℕ) → proof_outcome c lock cursor i ≡ Ok (outcome.Failed len)
+      → (proof_check c lock cursor ≡ Ok tt) × (len ≡ length (request_of c P)) × (verdict c i ≡ 2)
+  unfolding verdict_outcome
+  outcome-failed len h = go (eqb (verdict c i) 2) refl (given (outcome.Failed len) h)
+    where
+      go : (b : Bool) → eqb (verdict c i) 2 ≡ b → (proof_check c lock cursor ≡ Ok tt)
+          × (cond b (outcome.Failed (length (request_of c P))) (outcome.Onward (length (request_of c P)) (cond (eqb (verdict c i) 0) (entry_for P.slot c.entries).weight 0) (witness.proof_cursor_behind lock cursor.offset)) ≡ outcome.Failed len)
+          → (proof_check c lock cursor ≡ Ok tt) × (len ≡ length (request_of c P)) × (verdict c i ≡ 2)
+      go true e g = let z = g.1 in (g.0, cc, eqb-true (verdict c i) 2 e)
+      go false e g = absurd (let z = g.1 in let y : ◌≡◌ {A = ℕ} 0 1 = cc in omega arith)
 
-    pub turn-rows : proof_check c lock cursor ≡ decide (Ok tt) (proof_rows c 0 (proof_of lock cursor.offset))
-    unfolding proof_check ◌then◌
-    turn-rows = rw (proof-step-next lock cursor p next h).0
-
-    -- and its step was made from these bytes
-    module _ (i : ℕ) (bytes : List ℕ) (b : bytes ≡ take p.len (drop p.start lock)) (out after : List ℕ) where
-      pub turn-refused : (e : ProtocolError) → RequestStepIs c (proof_with p.slot bytes) out after (Err e)
-          → ProofOutcomeIs c lock cursor i out after (outcome.Refused e)
-      turn-refused e s = (turn-rows ∙ rw (turn-proof, ← b) s.0, s.1)
-
-      pub turn-made : (v len weight : ℕ) → v ≡ verdict c i → RequestStepIs c (proof_with p.slot bytes) out after (Ok (len, weight))
-          → ProofOutcomeIs c lock cursor i out after (verdict_outcome v len weight next)
-      turn-made v len weight k s =
-          outcome-by-verdict c lock cursor i out after v len weight next k
-          (record { passed = turn-rows ∙ rw (turn-proof, ← b) s.0.passed; made = rw (turn-proof, ← b) s.0 })
-          (rw turn-proof s.1)
-          turn-next
+  pub outcome-onward : (len weight : ℕ) (next : ProofCursor) → proof_outcome c lock cursor i ≡ Ok (outcome.Onward len weight next)
+      → (proof_check c lock cursor ≡ Ok tt)
+      × (len ≡ length (request_of c P))
+      × (verdict c i ≢ 2)
+      × (weight ≡ approved_weight c i P)
+      × (next ≡ witness.proof_cursor_behind lock cursor.offset)
+  unfolding verdict_outcome approved_weight
+  outcome-onward len weight next h = go (eqb (verdict c i) 2) refl (given (outcome.Onward len weight next) h)
+    where
+      go : (b : Bool) → eqb (verdict c i) 2 ≡ b → (proof_check c lock cursor ≡ Ok tt)
+          × (cond b (outcome.Failed (length (request_of c P))) (outcome.Onward (length (request_of c P)) (cond (eqb (verdict c i) 0) (entry_for P.slot c.entries).weight 0) (witness.proof_cursor_behind lock cursor.offset)) ≡ outcome.Onward len weight next)
+          → (proof_check c lock cursor ≡ Ok tt)
+          × (len ≡ length (request_of c P))
+          × (verdict c i ≢ 2)
+          × (weight ≡ cond (eqb (verdict c i) 0) (entry_for P.slot c.entries).weight 0)
+          × (next ≡ witness.proof_cursor_behind lock cursor.offset)
+      go true e g = absurd (let z = g.1 in let y : ◌≡◌ {A = ℕ} 0 1 = cc in omega arith)
+      go false e g = let z = g.1 in (g.0, cc, eqb-false (verdict c i) 2 e, cc, cc)
 
 -- what a turn's check says of the layout and of the rows
 pub turn-split : (c : Context) (lock : List ℕ) (cursor : ProofCursor) (e : ProtocolError) → proof_check c lock cursor ≡ Err e

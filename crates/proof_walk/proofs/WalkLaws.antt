@@ -13,7 +13,7 @@ use lib.ListN.{length, length-append}
 use borrow.Author.Tests.{ne_eqb}
 use borrow.Rule.Slice.PartMut.{mid_len}
 use Rattle.protocol.specs.Policy.{is_operation}
-use Rattle.protocol.specs.Rows.{row, ◌▷◌, decide, Check}
+use Rattle.protocol.specs.Rows.{row, decide, Check}
 use Rattle.protocol.specs.declared.error.ProtocolError.{ProtocolError}
 use Rattle.protocol.specs.declared.error.ProtocolError.TheVariants.{InvalidWitness, VerifierFailure, InvalidOperation}
 use Rattle.account_witness.specs.Fields.{proof_count_of}
@@ -27,11 +27,12 @@ use Rattle.quorum.specs.Operation.{threshold_of}
 use Rattle.decision.specs.Proofs.{Context, context_for, authenticator_rows, proof_rows, request_of}
 use Rattle.decision.specs.Walk.{WalkOutcome, walk_outcome, verdict, approved_weight, last_rows, unless_failed, walk_from, unless_faulty, proofs_until_fault, walk_list, walk_lock, answered}
 use Rattle.proof_walk.specs.Answer.{scene_deps, walk_context, walk_proofs, proof_walk_answer}
-use Rattle.proof_walk.specs.Steps.{ProofWalked, ProofOutcomeIs}
+use Rattle.proof_walk.specs.Steps.{request_left, proof_check, proof_outcome}
 use Rattle.proof_walk.specs.declared.walk.ProofOutcome.TheVariants as outcome
 use Rattle.proof_walk.specs.declared.walk.ProofWalkAnswer.{ProofWalkAnswer}
-use Rattle.proof_walk.proofs.Answered.{answered-length, part-put, lent_of, back_in}
-use Rattle.proof_walk.proofs.OneProof.{layout-error, turn-split, turn-both}
+use Rattle.proof_walk.proofs.Answered.{answered-length, part-put, lent_of, back_in, unwritten}
+use Rattle.proof_walk.proofs.RequestLaws.{request_room}
+use Rattle.proof_walk.proofs.OneProof.{layout-error, outcome-refused, outcome-failed, outcome-onward, turn-split, turn-both}
 
 -- ---- the settings of one walk, which differ only in the room of the answer buffer
 
@@ -40,9 +41,9 @@ module _ (table store state : List ℕ) (operation : ℕ) (digest : List ℕ) wh
   S room = walk_context table store state operation digest room
 
   -- the table's digit is the verdict
-  pub verdict-lent : (room i : ℕ) → verdict_of table i ≡ verdict (S room) i
+  pub verdict_lent : (room i : ℕ) → verdict (S room) i ≡ verdict_of table i
   unfolding verdict_of verdict_at blank_scene scene_in scene_from verdict walk_context context_for
-  verdict-lent room i = refl
+  verdict_lent room i = refl
 
   -- rows go by what is left of it, and request, verdict and weight not by it
   rows_alike : (a b used : ℕ) (p : ProofReading) → a - 0 ≡ b - used → proof_rows (S a) 0 p ≡ proof_rows (S b) used p
@@ -77,6 +78,8 @@ module _ (table store state : List ℕ) (operation : ℕ) (digest : List ℕ) wh
     unfolding walk_proofs walk_context context_for
     walk-unknown h = rw h
 
+pub ruleset operations = (walk-known, walk-unknown)
+
 -- ---- the head of the loop
 
 -- the walk from a cursor on, n proofs being left
@@ -106,7 +109,7 @@ invariant-first c lock answer₀ count e =
 walk-faulty : (c : Context) (lock : List ℕ) (n : ℕ) (cursor : ProofCursor) (i weight : ℕ) (made : List ℕ) (e : ProtocolError)
     → decide (Ok tt) (witness.proof_layout_rows lock cursor.offset cursor.least) ≡ Err e
     → walk_from_cursor c lock (suc n) cursor i weight made ≡ walk_outcome (Err e) i made
-unfolding proofs_until_fault unless_faulty walk_from last_rows decide ◌▷◌
+unfolding proofs_until_fault unless_faulty walk_from last_rows decide
 walk-faulty c lock n cursor i weight made e h =
     rw h (ap (λ (x : ProtocolError). walk_outcome (Err x) i made) (layout-error lock cursor.offset cursor.least e h))
 
@@ -140,7 +143,7 @@ pub record RequestWritten (c : Context) (answer₀ answer made : List ℕ) (tota
   pub fits : total + len ≤ length answer₀
   pub kept : length (back_in total answer after) ≡ length answer₀
 
-module _ (table store state : List ℕ) (operation : ℕ) (digest : List ℕ) {lock answer₀ answer : List ℕ} {count : ℕ}
+module _ (table store state : List ℕ) (operation : ℕ) (digest : List ℕ) (d : length digest ≡ 32) {lock answer₀ answer : List ℕ} {count : ℕ}
     {cursor : ProofCursor} {weight total i : ℕ}
     (h : WalkInvariant (S table store state operation digest (length answer₀)) lock count answer₀ answer cursor weight total i) where
   -- the walk's setting, the one of the lent part, and the proof
@@ -170,34 +173,41 @@ module _ (table store state : List ℕ) (operation : ℕ) (digest : List ℕ) {l
       let n = lent_length in
       rows_alike table store state operation digest (length (lent_of total answer)) (length answer₀) (length h.made) P (omega arith)
 
-  module _ (m : i < count) (after : List ℕ) where
+  module _ (m : i < count) {after : List ℕ} (left : after ≡ request_left (proof_check L lock cursor) (request_of L P) (lent_of total answer)) where
     from-here : walk_lock C lock ≡ walk_from_cursor C lock (suc (count - (i + 1))) cursor i weight h.made
     from-here =
         let z : count - i ≡ suc (count - (i + 1)) = omega arith in
         h.goes ∙ ap (λ (n : ℕ). walk_from_cursor C lock n cursor i weight h.made) z
 
     -- it was refused
-    pub turn_stopped : (e : ProtocolError) → ProofOutcomeIs L lock cursor i (lent_of total answer) after (outcome.Refused e)
-        → walk_lock C lock ≡ walk_outcome (Err e) i h.made
-    unfolding unless_failed
-    turn_stopped e t =
-        from-here
-        ∙ ⊎_elim
-        (λ l. walk-faulty C lock _ cursor i weight h.made e l)
-        (λ r. walk-read C lock _ cursor i weight h.made r.0 ∙ rw (← lent_rows, r.1))
-        (turn-split L lock cursor e t.0)
+    module _ (e : ProtocolError) (o : proof_outcome L lock cursor i ≡ Err e) where
+      pub turn_stopped : walk_lock C lock ≡ walk_outcome (Err e) i h.made
+      unfolding unless_failed
+      turn_stopped =
+          from-here
+          ∙ ⊎_elim
+          (λ l. walk-faulty C lock _ cursor i weight h.made e l)
+          (λ r. walk-read C lock _ cursor i weight h.made r.0 ∙ rw (← lent_rows, r.1))
+          (turn-split L lock cursor e (outcome-refused L lock cursor i e o))
+
+      pub turn-unwritten : back_in total answer after ≡ answer
+      turn-unwritten = unwritten total answer after (left ∙ rw (outcome-refused L lock cursor i e o))
 
     -- a request was made
-    module _ (len : ℕ) (w : ProofWalked L lock cursor (lent_of total answer) after len) where
+    module _ (len : ℕ) (passed : proof_check L lock cursor ≡ Ok tt) (long : len ≡ length (request_of L P)) where
       same-request : request_of L P ≡ request_of C P
       same-request = request-alike table store state operation digest (length (lent_of total answer)) (length answer₀) P
 
-      pub turn-written : RequestWritten C answer₀ answer h.made total P after len
+      turn-written : RequestWritten C answer₀ answer h.made total P after len
       turn-written =
           let n = lent_length in
-          let b : back_in total answer after ≡ answered answer₀ (h.made ++ request_of C P) = part-put answer₀ h.made (request_of C P) total h.long h.fits h.wrote (w.made.wrote ∙ ap (answered (lent_of total answer)) same-request) in
-          let l : length (h.made ++ request_of C P) ≡ total + len = omega (arith, length-append h.made (request_of C P), w.made.long ∙ ap length same-request) in
-          let f : total + len ≤ length answer₀ = omega (arith, w.made.fits) in
+          let w : after ≡ answered (lent_of total answer) (request_of C P) = left ∙ rw passed (ap (answered (lent_of total answer)) same-request) in
+          let b : back_in total answer after ≡ answered answer₀ (h.made ++ request_of C P) = part-put answer₀ h.made (request_of C P) total h.long h.fits h.wrote w in
+          let l : length (h.made ++ request_of C P) ≡ total + len = omega (arith, length-append h.made (request_of C P), long ∙ ap length same-request) in
+          let k : length (request_of L P) ≤ length (lent_of total answer) =
+          request_room table store state operation digest (length (lent_of total answer)) P.slot P.bytes d (turn-both L lock cursor passed).1
+          in
+          let f : total + len ≤ length answer₀ = omega arith in
           record { wrote = b; long = l; fits = f; kept = ap length b ∙ answered-length answer₀ (h.made ++ request_of C P) (omega arith) }
 
       gone : walk_lock C lock
@@ -205,21 +215,31 @@ module _ (table store state : List ℕ) (operation : ℕ) (digest : List ℕ) {l
           (walk_from_cursor C lock (count - (i + 1)) (witness.proof_cursor_behind lock cursor.offset) (i + 1) (weight + approved_weight C i P) (h.made ++ request_of C P))
       unfolding unless_failed
       gone =
-          let b = turn-both L lock cursor w.passed in
+          let b = turn-both L lock cursor passed in
           from-here ∙ (walk-read C lock _ cursor i weight h.made b.0 ∙ rw (← lent_rows, b.1))
 
-      pub turn-failed : verdict L i ≡ 2 → walk_lock C lock ≡ walk_outcome (Err VerifierFailure) (i + 1) (h.made ++ request_of C P)
-      turn-failed v =
-          let v₀ : verdict C i ≡ 2 = verdict-alike table store state operation digest (length answer₀) (length (lent_of total answer)) i ∙ v in
-          gone ∙ rw v₀
+    -- its verdict is 2
+    module _ (len : ℕ) (o : proof_outcome L lock cursor i ≡ Ok (outcome.Failed len)) where
+      pub failed-written : RequestWritten C answer₀ answer h.made total P after len
+      failed-written = let z = outcome-failed L lock cursor i len o in turn-written len z.0 z.1
 
-      pub turn-onward : (added : ℕ) (next : ProofCursor) → added ≤ 65535
-          → ProofOutcomeIs L lock cursor i (lent_of total answer) after (outcome.Onward len added next)
-          → WalkInvariant C lock count answer₀ (back_in total answer after) next (weight + added) (total + len) (i + 1)
-      turn-onward added next small t =
-          let r = turn-written in
-          let v : verdict C i ≢ 2 = λ z. t.1 (verdict-alike table store state operation digest (length (lent_of total answer)) (length answer₀) i ∙ z) in
-          let a : added ≡ approved_weight C i P = t.2 ∙ earned-alike table store state operation digest (length (lent_of total answer)) (length answer₀) i P in
+      pub turn-failed : walk_lock C lock ≡ walk_outcome (Err VerifierFailure) (i + 1) (h.made ++ request_of C P)
+      turn-failed =
+          let z = outcome-failed L lock cursor i len o in
+          let v : verdict C i ≡ 2 = verdict-alike table store state operation digest (length answer₀) (length (lent_of total answer)) i ∙ z.2 in
+          gone len z.0 z.1 ∙ rw v
+
+    -- it is another
+    module _ (len added : ℕ) (next : ProofCursor) (o : proof_outcome L lock cursor i ≡ Ok (outcome.Onward len added next)) where
+      pub onward-written : RequestWritten C answer₀ answer h.made total P after len
+      onward-written = let z = outcome-onward L lock cursor i len added next o in turn-written len z.0 z.1
+
+      pub turn-onward : added ≤ 65535 → WalkInvariant C lock count answer₀ (back_in total answer after) next (weight + added) (total + len) (i + 1)
+      turn-onward small =
+          let r = onward-written in
+          let z = outcome-onward L lock cursor i len added next o in
+          let v : verdict C i ≢ 2 = λ y. z.2 (verdict-alike table store state operation digest (length (lent_of total answer)) (length answer₀) i ∙ y) in
+          let a : added ≡ approved_weight C i P = z.3 ∙ earned-alike table store state operation digest (length (lent_of total answer)) (length answer₀) i P in
           record {
             made = h.made ++ request_of C P;
             wrote = r.wrote;
@@ -227,5 +247,7 @@ module _ (table store state : List ℕ) (operation : ℕ) (digest : List ℕ) {l
             fits = r.fits;
             kept = r.kept;
             bounded = omega (arith, h.bounded);
-            goes = gone ∙ rw (ne_eqb (verdict C i) 2 v, a, t.3);
+            goes = gone len z.0 z.1 ∙ rw (ne_eqb (verdict C i) 2 v, a, z.4);
           }
+
+pub ruleset walks = (invariant-first, walk_ends, turn_stopped, turn-unwritten, failed-written, turn-failed, onward-written, turn-onward)

@@ -3,19 +3,25 @@ ghost use Rattle.std.specs.Prelude.{◌≡◌, eqb, length, Ok};
 ghost use Rattle.protocol.specs.Rows.{decide};
 ghost use Rattle.account_state.specs.Reading.{entry_of};
 ghost use Rattle.verifier_request.specs.Writer.{request_written, request_stored};
-ghost use Rattle.decision.specs.Proofs.{verifier_field, verifiers, request_content};
+ghost use Rattle.decision.specs.Proofs.{verifier_field, verifiers, proof_rows, request_content, request_of};
 ghost use Rattle.proof_walk.specs.Answer.{walk_context, scene_deps};
-ghost use Rattle.proof_walk.specs.Steps.{found_rows, proof_with, RequestStepIs};
+ghost use Rattle.proof_walk.specs.Steps.{found_rows, proof_with, request_step, request_left};
 
 use crate::Authorization;
-use account_state::{algorithm_of, aux_of, capabilities_of, code_hash_of, hash_type_of, key_of, weight_of};
+use account_state::{
+    algorithm_of, aux_of, capabilities_of, code_hash_of, hash_type_of, key_of, weight_of,
+};
 use cell_search::{CellField, Source, search_cells};
 use octets::{array_32, fits, u8_at};
-use protocol::{ProtocolError, VERIFIER_MAX_AUX_LEN, VERIFIER_MAX_PROOF_LEN, VERIFIER_MAX_REQUEST_LEN, VERIFIER_REQUEST_HEADER_LEN, require};
-use quorum::{entry_in, find_authenticator, is_capable, is_known};
+use protocol::{
+    ProtocolError, VERIFIER_MAX_AUX_LEN, VERIFIER_MAX_PROOF_LEN, VERIFIER_MAX_REQUEST_LEN,
+    VERIFIER_REQUEST_HEADER_LEN, require,
+};
+use quorum::{entry_in, find_authenticator, is_capable};
 use verifier_request::{RequestContent, encode_verifier_request};
 
 // Which hash of a dep names the verifier.
+#[tactic(auto, unfolding(decision::specs::Proofs::verifier_field))]
 fn verifier_field(hash_type: u8) -> CellField
     ensures { result ≡ verifier_field hash_type }
 {
@@ -26,6 +32,7 @@ fn verifier_field(hash_type: u8) -> CellField
 }
 
 // Whether just one dep is the verifier of the entry at the front of the bytes.
+#[tactic(auto, using(crate::proofs::RequestLaws::verifier_resolved))]
 fn resolve_verifier(table: &[u32], store: &[u8], entry: &[u8]) -> bool
     ensures { result ≡ eqb (length (verifiers (entry_of entry.now) (scene_deps table.now store.now))) 1 }
 {
@@ -35,6 +42,7 @@ fn resolve_verifier(table: &[u32], store: &[u8], entry: &[u8]) -> bool
 }
 
 // The rows of a proof of `proof` bytes by what was found of its entry, where `left` bytes of the answer buffer are left.
+#[tactic(auto, unfolding(protocol::specs::Rows::decide, account_state::specs::Reading::entry_of, decision::specs::Proofs::request_limit_rows, decision::specs::Proofs::authenticator_rows, crate::specs::Steps::found_rows))]
 fn check_found(
     table: &[u32],
     store: &[u8],
@@ -51,23 +59,30 @@ fn check_found(
     let invalid = ProtocolError::InvalidRequest;
     let head = VERIFIER_REQUEST_HEADER_LEN + aux;
     require(known, ProtocolError::InvalidWitness)?;
-    require(is_capable(operation, capabilities_of(entry)),
-            ProtocolError::InvalidCapability)?;
-    require(resolve_verifier(table, store, entry),
-            ProtocolError::InvalidVerifierRef)?;
+    require(
+        is_capable(operation, capabilities_of(entry)),
+        ProtocolError::InvalidCapability,
+    )?;
+    require(
+        resolve_verifier(table, store, entry),
+        ProtocolError::InvalidVerifierRef,
+    )?;
     require(proof <= VERIFIER_MAX_PROOF_LEN, invalid)?;
-    require(fits(VERIFIER_MAX_REQUEST_LEN, head, proof),
-            ProtocolError::LengthOverflow)?;
+    require(
+        fits(VERIFIER_MAX_REQUEST_LEN, head, proof),
+        ProtocolError::LengthOverflow,
+    )?;
     require(aux <= VERIFIER_MAX_AUX_LEN, invalid)?;
     require(fits(left, head, proof), ProtocolError::BufferTooShort)
 }
 
 // Writes the request of a proof and its entry to the front of `out`.
-fn encode_request(
-    entry: &[u8],
+#[tactic(auto, using(crate::proofs::RequestLaws::numbers), unfolding(account_state::specs::Reading::entry_of, decision::specs::Proofs::request_content))]
+fn encode_request<'a>(
+    entry: &'a [u8],
     slot: u16,
     authorization: Authorization,
-    proof: &[u8],
+    proof: &'a [u8],
     out: &mut [u8],
 ) -> Result<usize, ProtocolError>
     ensures value { result ≡ request_written
@@ -78,13 +93,15 @@ fn encode_request(
         out.old }
 {
     let aux = aux_of(entry);
+    let digest = authorization.digest;
+    let key = array_32(key_of(entry));
     let request = RequestContent {
         algorithm: algorithm_of(entry),
         slot,
         operation: authorization.operation,
         profile: u8_at(aux, 0),
-        digest: authorization.digest,
-        key: array_32(key_of(entry)),
+        digest,
+        key,
         aux,
         proof,
     };
@@ -92,6 +109,7 @@ fn encode_request(
 }
 
 // The rows of a proof, and its request at the front of `out`.
+#[tactic(auto, using(crate::proofs::RequestLaws::requests), unfolding(crate::specs::Steps::request_step))]
 pub(crate) fn make_request(
     table: &[u32],
     store: &[u8],
@@ -101,25 +119,26 @@ pub(crate) fn make_request(
     proof: &[u8],
     out: &mut [u8],
 ) -> Result<(usize, u16), ProtocolError>
-    ensures { RequestStepIs
+    ensures value { result ≡ request_step
         (walk_context table.now store.now state.now
         authorization.operation authorization.digest (length out.old))
-        (proof_with slot proof.now) out.old out.new result }
+        (proof_with slot proof.now) }
+    ensures out_after { let c = walk_context table.now store.now state.now
+        authorization.operation authorization.digest (length out.old) in
+        let p = proof_with slot proof.now in
+        out.new ≡ request_left (decide (Ok tt) (proof_rows c 0 p)) (request_of c p) out.old }
 {
     let place = find_authenticator(state, slot);
     let entry = entry_in(state, place);
-    let known = is_known(place);
     check_found(
         table,
         store,
-        known,
+        place.is_some(),
         entry,
         authorization.operation,
         proof.len(),
         out.len(),
     )?;
-    match encode_request(entry, slot, authorization, proof, out) {
-            Err(error) => Err(error),
-            Ok(len) => Ok((len, weight_of(entry))),
-        }
+    let len = encode_request(entry, slot, authorization, proof, out)?;
+    Ok((len, weight_of(entry)))
 }

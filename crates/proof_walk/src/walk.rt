@@ -1,10 +1,12 @@
 // The walk over the proofs, one by one.
 ghost use Rattle.std.specs.Prelude.{◌≡◌, eqb, length, Ok};
 ghost use Rattle.protocol.specs.Rows.{decide};
+ghost use Rattle.account_witness.specs.Reading.{proof_of};
 ghost use Rattle.quorum.specs.Operation.{threshold_of};
+ghost use Rattle.decision.specs.Proofs.{request_of};
 ghost use Rattle.decision.specs.Walk.{walk_lock, answered, last_rows};
 ghost use Rattle.proof_walk.specs.Answer.{walk_context, walk_proofs, proof_walk_answer};
-ghost use Rattle.proof_walk.specs.Steps.{verdict_outcome, ProofOutcomeIs};
+ghost use Rattle.proof_walk.specs.Steps.{verdict_outcome, request_left, proof_check, proof_outcome};
 
 use crate::Authorization;
 use crate::request::make_request;
@@ -22,16 +24,16 @@ pub struct ProofWalkAnswer {
     pub length: usize,
 }
 
-// What a proof comes to: a refusal; a request that the verifier failed on; or a request, the weight that it adds, and the
-// cursor behind its proof.
+// What a proof comes to whose request was made: the verifier failed on it; or the weight that it adds, and the cursor behind
+// the proof. The length of the request stands first.
 #[derive(Drop)]
 enum ProofOutcome {
-    Refused(ProtocolError),
     Failed(usize),
     Onward(usize, u16, ProofCursor),
 }
 
 // The outcome by the verdict on its request: 0 approved, 1 refused, 2 failed.
+#[tactic(auto, unfolding(crate::specs::Steps::verdict_outcome))]
 fn apply_verdict(verdict: u32, len: usize, weight: u16, next: ProofCursor) -> ProofOutcome
     ensures { result ≡ verdict_outcome verdict len weight next }
 {
@@ -43,6 +45,7 @@ fn apply_verdict(verdict: u32, len: usize, weight: u16, next: ProofCursor) -> Pr
 }
 
 // One proof: its layout, its rows, its request at the front of `out`, and its verdict.
+#[tactic(auto, using(crate::proofs::WalkLaws::verdict_lent), unfolding(account_witness::specs::Walk::proof_step, account_witness::specs::Reading::proof_given, crate::specs::Steps::request_step, crate::specs::Steps::proof_check, crate::specs::Steps::proof_outcome))]
 fn walk_proof(
     table: &[u32],
     store: &[u8],
@@ -52,32 +55,30 @@ fn walk_proof(
     index: u8,
     authorization: Authorization,
     out: &mut [u8],
-) -> ProofOutcome
-    ensures { ProofOutcomeIs
+) -> Result<ProofOutcome, ProtocolError>
+    ensures value { result ≡ proof_outcome
         (walk_context table.now store.now state.now
         authorization.operation authorization.digest (length out.old))
-        lock.now cursor index out.old out.new result }
+        lock.now cursor index }
+    ensures out_after { let c = walk_context table.now store.now state.now
+        authorization.operation authorization.digest (length out.old) in
+        out.new ≡ request_left (proof_check c lock.now cursor) (request_of c (proof_of lock.now cursor.offset)) out.old }
 {
-    match next_proof(lock, cursor) {
-        Err(error) => ProofOutcome::Refused(error),
-        Ok((proof, next)) => {
-            let slot = proof.slot;
-            let bytes = part(lock, proof.start, proof.len);
-            match make_request(table, store, state, authorization, slot, bytes, out) {
-                Err(error) => ProofOutcome::Refused(error),
-                Ok((len, weight)) => apply_verdict(
-                    verdict(table, index as u32),
-                    len,
-                    weight,
-                    next,
-                ),
-            }
-        }
-    }
+    let (proof, next) = next_proof(lock, cursor)?;
+    let bytes = part(lock, proof.start, proof.len);
+    let (len, weight) = make_request(table, store, state, authorization, proof.slot, bytes, out)?;
+    Ok(apply_verdict(verdict(table, index as u32), len, weight, next))
 }
 
 // The checks behind the last proof, where the walk stands at `offset`.
-fn check_last(state: &[u8], lock: &[u8], operation: u8, offset: usize, weight: u32) -> Result<(), ProtocolError>
+#[tactic(auto, unfolding(protocol::specs::Rows::decide, decision::specs::Walk::last_rows))]
+fn check_last(
+    state: &[u8],
+    lock: &[u8],
+    operation: u8,
+    offset: usize,
+    weight: u32,
+) -> Result<(), ProtocolError>
     ensures { result ≡ decide (Ok tt) (last_rows (eqb offset (length lock.now)) weight (threshold_of operation state.now)) }
 {
     let threshold = threshold_of(state, operation) as u32;
@@ -98,6 +99,7 @@ fn answer_of(found: Result<(), ProtocolError>, count: u8, length: usize) -> Proo
 }
 
 // The proofs, one by one.
+#[tactic(auto, using(crate::proofs::WalkLaws::walks), unfolding(crate::specs::Answer::proof_walk_answer))]
 fn walk_lock(
     table: &[u32],
     store: &[u8],
@@ -119,29 +121,28 @@ fn walk_lock(
     let mut cursor = first_proof();
     let mut weight: u32 = 0;
     let mut total: usize = 0;
-    let mut i: u8 = 0;
-    while i < count {
+    for i in 0..count {
         let out = &mut answer[total..];
         match walk_proof(table, store, state, lock, cursor, i, authorization, out) {
-            ProofOutcome::Refused(error) => return answer_of(Err(error), i, total),
-            ProofOutcome::Failed(len) => {
+            Err(error) => return answer_of(Err(error), i, total),
+            Ok(ProofOutcome::Failed(len)) => {
                 let failure = Err(ProtocolError::VerifierFailure);
                 return answer_of(failure, i + 1, total + len);
             }
-            ProofOutcome::Onward(len, added, next) => {
+            Ok(ProofOutcome::Onward(len, added, next)) => {
                 cursor = next;
                 weight += added as u32;
                 total += len;
             }
         }
-        i += 1;
     }
     let found = check_last(state, lock, authorization.operation, cursor.offset, weight);
-    answer_of(found, i, total)
+    answer_of(found, count, total)
 }
 
 // Walks the proofs of a witness lock, and writes each request into the rest of the answer buffer, behind the last one. An
 // operation outside 1 to 3 is 37, before the first proof.
+#[tactic(auto, using(crate::proofs::WalkLaws::operations), unfolding(crate::specs::Answer::proof_walk_answer, decision::specs::Walk::answered))]
 pub fn walk_proofs(
     table: &[u32],
     store: &[u8],
