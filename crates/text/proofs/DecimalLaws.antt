@@ -7,6 +7,7 @@ use native.Mathlib.Omega.{arith}
 use lib.ListN.{length, drop, get_or, drop_of_length-le}
 use lib.Seq.{drop-cons}
 use Rattle.text.specs.Text.{decimal}
+use Rattle.text.proofs.RangeLaws.{digit_low}
 
 pub decimal-on : (v : ℕ) (s : List ℕ) (i : ℕ) → i < length s → decimal v (drop i s) ≡ decimal (v * 10 + (get_or s i 0 - 48)) (drop (i + 1) s)
 unfolding decimal
@@ -25,3 +26,5 @@ decimal-grows v (x ∷ s) = let h = decimal-grows (v * 10 + (x - 48)) s in omega
 pub decimal-over : (n v : ℕ) (s : List ℕ) (i : ℕ) → i < length s → n ≤ v * 10 + (get_or s i 0 - 48) → n ≤ decimal v (drop i s)
 decimal-over n v s i h over =
     omega (arith, decimal-on v s i h, decimal-grows (v * 10 + (get_or s i 0 - 48)) (drop (i + 1) s))
+
+pub ruleset decimal_turns = (decimal-on, decimal-end, decimal-over, digit_low)

@@ -71,3 +71,9 @@ pub hex-text-length : (bs : List ℕ) → length (hex_text bs) ≡ 2 * length bs
 unfolding hex_text
 hex-text-length [] = refl
 hex-text-length (b ∷ bs) = let e = hex-text-length bs in omega arith
+
+pub ruleset hex_sums = (hex-sum, hex-small)
+
+pub ruleset hex_turns = (hex-pair, hex-end)
+
+pub ruleset hex_takes = (hex-take)

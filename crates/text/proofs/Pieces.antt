@@ -1,16 +1,19 @@
 -- Pieces of a text: where the first one ends, and how many there are. Assumes nothing.
-use Prim.Native.Nat.{ℕ, suc, ◌+◌, ◌≤◌, ◌<◌}
-use mathlib.Core.Bool.{Bool, true, false, cond}
-use mathlib.Core.Path.{◌≡◌, refl, sym, ap, ◌∙◌}
-use mathlib.Core.List.{List, [], ◌∷◌, ◌++◌, append_assoc, append-nil}
+use Prim.Native.Nat.{ℕ, suc, ◌+◌}
+use mathlib.Core.Bool.{Bool, true, false, cond, not}
+use mathlib.Core.Path.{◌≡◌, refl, sym, ap}
+use mathlib.Core.List.{List, [], ◌∷◌, ◌++◌, append_assoc}
 use mathlib.Core.Logic.{⊎_elim}
 use native.Mathlib.Numerals.{add-one}
-use native.Mathlib.Nat.{le_of_eq, eq-or-lt_of_le}
+use native.Mathlib.Nat.{eq-or-lt_of_le}
 use native.Mathlib.Omega.{arith}
-use borrow.Author.Tests.{eq-eqb, ne_eqb}
-use lib.ListN.{length, take, drop, get_or, drop_of_length-le}
-use lib.Seq.{drop-cons, take-suc, length-take-le}
-use lib.Dec.{eqb}
+use borrow.Author.Tests.{ltb-false}
+use lib.ListN.{length, take, drop, get_or}
+use lib.Seq.{length-take-le}
+use lib.Dec.{eqb, ltb}
+use Rattle.std.specs.Prelude.{Option, None, Some, position, unwrap_or}
+use Rattle.std.specs.List.{count_by, position_or_len}
+use Rattle.std.proofs.lemmas.List.Sums.{sum_by-cons}
 use Rattle.text.specs.Text.{pieces, before, Cut}
 
 pub before-before : (t u : List ℕ) (ps : List (List ℕ)) → before t (before u ps) ≡ before (t ++ u) ps
@@ -29,24 +32,35 @@ unfolding pieces before
 before-none c [] = refl
 before-none c (x ∷ s) = sym (before-some (eqb x c) x (pieces c s))
 
-module _ (c : ℕ) (s : List ℕ) (i : ℕ) (more : i < length s) where
-  first : pieces c (drop i s) ≡ cond (eqb (get_or s i 0) c) ([] ∷ pieces c (drop (i + 1) s)) (before (get_or s i 0 ∷ []) (pieces c (drop (i + 1) s)))
-  unfolding pieces
-  first = rw (add-one, drop-cons s i 0)
-
-  pub cut-here : get_or s i 0 ≡ c → before (take i s) (pieces c (drop i s)) ≡ take i s ∷ pieces c (drop (i + 1) s)
-  unfolding before
-  cut-here e = rw (first, eq-eqb (get_or s i 0) c e) (ap (λ (q : List ℕ). q ∷ pieces c (drop (i + 1) s)) (append-nil (take i s)))
-
-  pub cut_on : (get_or s i 0 ≡ c → ⊥) → before (take i s) (pieces c (drop i s)) ≡ before (take (i + 1) s) (pieces c (drop (i + 1) s))
-  unfolding before
-  cut_on e =
-      rw (first, ne_eqb (get_or s i 0) c e)
-      (before-before (take i s) (get_or s i 0 ∷ []) (pieces c (drop (i + 1) s)) ∙ rw (add-one, take-suc s i 0))
-
-pub cut-end : (c : ℕ) (s : List ℕ) (i : ℕ) → i ≡ length s → before (take i s) (pieces c (drop i s)) ≡ take i s ∷ []
+-- the first place of c, or the length where there is none
+pub cut_position : (c : ℕ) (s : List ℕ) → Cut c s (position_or_len (λ y. eqb y c) s)
 unfolding pieces before
-cut-end c s i e = rw (drop_of_length-le s (le_of_eq (sym e))) (ap (λ (q : List ℕ). q ∷ []) (append-nil (take i s)))
+cut_position c [] = record { within = omega arith; cut = λ h. absurd (omega arith); whole = λ e. refl }
+cut_position c (x ∷ s) = go (eqb x c) refl (position_or_len (λ y. eqb y c) s) (cut_position c s)
+  where
+    go : (b : Bool) → eqb x c ≡ b → (n : ℕ) → Cut c s n → Cut c (x ∷ s) (cond (not b) (1 + n) 0)
+    go true e n k = record { within = omega arith; cut = λ h. rw e; whole = λ q. absurd (omega arith) }
+    go false e n k =
+        let one : 1 + n ≡ suc n = omega arith in
+        rw one (record {
+          within = omega (arith, k.within);
+          cut = λ h. rw (e, k.cut (omega arith), add-one (suc n), add-one n);
+          whole = λ q. rw (e, k.whole (omega arith));
+        })
+
+-- that place, by what the library's search gives
+pub cut_found : (c : ℕ) (s : List ℕ) (o : Option ℕ) → o ≡ position (λ y. eqb y c) s → Cut c s (unwrap_or o (length s))
+cut_found c s o e = rw e (go (ltb n (length s)) refl)
+  where
+    n : ℕ
+    n = position_or_len (λ y. eqb y c) s
+
+    go : (b : Bool) → ltb n (length s) ≡ b → Cut c s (unwrap_or (cond b (Some n) None) (length s))
+    go true h = cut_position c s
+    go false h =
+        let k = cut_position c s in
+        let last : n ≡ length s = omega (arith, k.within, ltb-false n (length s) h) in
+        rw last at k
 
 -- whichever way a text is cut, its first piece is what stands before the cut
 pub cut-first : (c : ℕ) (s : List ℕ) (n : ℕ) → Cut c s n → (ps : List (List ℕ)) × (pieces c s ≡ take n s ∷ ps)
@@ -63,15 +77,12 @@ unfolding before
 length_before t [] e = let z : ◌≡◌ {A = ℕ} 0 1 = ap length e in absurd (omega arith)
 length_before t (p ∷ ps) e = refl
 
-module _ (c : ℕ) (s : List ℕ) (i : ℕ) (more : i < length s) where
-  pub more-pieces : get_or s i 0 ≡ c → length (pieces c (drop i s)) ≡ suc (length (pieces c (drop (i + 1) s)))
-  more-pieces e = rw (first c s i more, eq-eqb (get_or s i 0) c e)
-
-  pub same-pieces : (get_or s i 0 ≡ c → ⊥) → length (pieces c (drop i s)) ≡ length (pieces c (drop (i + 1) s))
-  same-pieces e =
-      rw (first c s i more, ne_eqb (get_or s i 0) c e)
-      (length_before (get_or s i 0 ∷ []) (pieces c (drop (i + 1) s)) (before-none c (drop (i + 1) s)))
-
-pub one_piece : (c : ℕ) (s : List ℕ) (i : ℕ) → length s ≤ i → length (pieces c (drop i s)) ≡ 1
+pub pieces_count : (c : ℕ) (s : List ℕ) → count_by (λ y. eqb y c) s + 1 ≡ length (pieces c s)
 unfolding pieces
-one_piece c s i h = rw (drop_of_length-le s h)
+pieces_count c [] = refl
+pieces_count c (x ∷ s) = rw (sum_by-cons (λ y. cond (eqb y c) 1 0) x s) (go (eqb x c) (pieces_count c s))
+  where
+    go : (b : Bool) → count_by (λ y. eqb y c) s + 1 ≡ length (pieces c s)
+        → cond b 1 0 + count_by (λ y. eqb y c) s + 1 ≡ length (cond b ([] ∷ pieces c s) (before (x ∷ []) (pieces c s)))
+    go true e = omega arith
+    go false e = omega (arith, length_before (x ∷ []) (pieces c s) (before-none c s))

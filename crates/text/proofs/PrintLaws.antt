@@ -1,6 +1,10 @@
 -- Digits put one by one: a decimal number from its first digit, and two hexadecimal digits for each byte.
 -- Assumes nothing.
-use Prim.Native.Nat.{ℕ, zero, suc, ◌+◌, ◌-◌, ◌*◌, ◌/◌, ◌%◌, ◌≤◌, ◌<◌}
+use mathlib.Core.Bool.{Bool, true, false}
+use borrow.Author.Tests.{leb-true, leb-false}
+use lib.Dec.{leb}
+use Rattle.std.proofs.Math.Nat.{min-eq_left, le-min}
+use Prim.Native.Nat.{min, ℕ, zero, suc, ◌+◌, ◌-◌, ◌*◌, ◌/◌, ◌%◌, ◌≤◌, ◌<◌}
 use mathlib.Core.Path.{◌≡◌, refl, sym, ◌∙◌}
 use mathlib.Core.List.{List, [], ◌∷◌, ◌++◌}
 use native.Mathlib.Nat.{le_refl}
@@ -10,6 +14,7 @@ use borrow.Author.Tests.{lt-ltb, le-ltb}
 use lib.ListN.{length, take, drop, get_or, set, drop_of_length-le}
 use lib.Seq.{sets, drop-cons, take-nil}
 use Rattle.octets.proofs.Stores.{sets-out}
+use Rattle.text.proofs.HexLaws.{hex-text-length}
 use Rattle.text.specs.Print.{digit_text, hex_text, decimal_text}
 
 -- no digit at all
@@ -58,5 +63,15 @@ hex-text-take (suc n) (b ∷ bs) =
     rw (two, hex-text-take n bs)
 
 -- from past the end as from the end nothing is stored
-pub sets_end : (l text : List ℕ) (at : ℕ) → length l ≤ at → sets l (length l) text ≡ sets l at text
-sets_end l text at h = sets-out text l (length l) (le_refl (length l)) ∙ sym (sets-out text l at h)
+pub sets_from : (l text : List ℕ) (at : ℕ) → sets l (min at (length l)) text ≡ sets l at text
+sets_from l text at = go (leb at (length l)) refl
+  where
+    go : (b : Bool) → leb at (length l) ≡ b → sets l (min at (length l)) text ≡ sets l at text
+    go true e = rw (min-eq_left (leb-true at (length l) e))
+    go false e =
+        let h : length l ≤ at = omega (arith, leb-false at (length l) e) in
+        sets-out text l (min at (length l)) (le-min h (le_refl (length l))) ∙ sym (sets-out text l at h)
+
+pub ruleset hex_text_turns = (sets-two, hex-turn, hex-text-end)
+
+pub ruleset hex_text_takes = (hex-text-take, hex-text-length)

@@ -13,14 +13,7 @@ pub const COMMA: u8 = b',';
 pub fn find(s: &[u8], c: u8) -> usize
     ensures { Cut c s.now result }
 {
-    let mut i = 0;
-    while i < s.len() {
-        if s[i] == c {
-            return i;
-        }
-        i += 1;
-    }
-    i
+    s.iter().position(|&byte| byte == c).unwrap_or(s.len())
 }
 
 // The piece of s before index e.
@@ -36,23 +29,13 @@ pub fn tail(s: &[u8], e: usize) -> &[u8]
     ensures result_value { result.now ≡ drop (e + 1) s.now }
     ensures result_len { length result.now ≡ length s.now - (e + 1) }
 {
-    if s.len() <= e {
-        return rest(s, s.len());
-    }
-    rest(s, e + 1)
+    rest(rest(s, e), 1)
 }
 
 // How many pieces c cuts s into.
+#[tactic(auto, using(crate::proofs::Pieces::pieces_count))]
 pub fn count(s: &[u8], c: u8) -> usize
     ensures { result ≡ length (pieces c s.now) }
 {
-    let mut n = 1;
-    let mut i = 0;
-    while i < s.len() {
-        if s[i] == c {
-            n += 1;
-        }
-        i += 1;
-    }
-    n
+    s.iter().filter(|&&byte| byte == c).count() + 1
 }

@@ -9,6 +9,7 @@ use crate::cut::head;
 const DECIMAL_MAX_DIGITS: usize = 20;
 
 // Puts one byte.
+#[tactic(auto, using(octets::proofs::Stores::store_laws))]
 pub fn put_byte(out: &mut [u8], at: usize, byte: u8)
     ensures { out.new ≡ sets out.old at (byte ∷ []) }
 {
@@ -28,52 +29,52 @@ fn put_digits(out: &mut [u8], at: usize, most: usize, value: u64) -> usize
         return 0;
     }
     if value < 10 {
-        put_byte(out, at, 48 + value as u8);
+        put_byte(out, at, b'0' + value as u8);
         return 1;
     }
     let n = put_digits(out, at, most - 1, value / 10);
-    put_byte(out, at + n, 48 + (value % 10) as u8);
+    put_byte(out, at + n, b'0' + (value % 10) as u8);
     n + 1
 }
 
 // Puts the decimal form of a value, and says how many digits it has.
+#[tactic(auto, unfolding(crate::specs::Print::number_text), using(crate::proofs::PrintLaws::sets_from))]
 pub fn put_decimal(out: &mut [u8], at: usize, value: u64) -> usize
     ensures value { result ≡ length (number_text value) }
     ensures upper_bound { result ≤ 20 }
     ensures out_after { out.new ≡ sets out.old at (number_text value) }
 {
-    let len = out.len();
-    if len <= at {
-        put_digits(out, len, DECIMAL_MAX_DIGITS, value)
-    } else {
-        put_digits(out, at, DECIMAL_MAX_DIGITS, value)
-    }
+    let start = at.min(out.len());
+    put_digits(out, start, DECIMAL_MAX_DIGITS, value)
 }
 
 // The hexadecimal digit of a value below 16.
+#[tactic(auto, unfolding(crate::specs::Print::digit_text))]
 fn hex_digit(value: u8) -> u8
     requires { value < 16 }
     ensures { result ≡ digit_text value }
 {
-    if value < 10 { 48 + value } else { 87 + value }
+    if value < 10 {
+        b'0' + value
+    } else {
+        b'a' - 10 + value
+    }
 }
 
 // Two digits for each byte, where twice the length of `out` is not passed.
+#[tactic(auto, using(crate::proofs::PrintLaws::hex_text_turns))]
 fn put_hex_within(out: &mut [u8], at: usize, bytes: &[u8])
     requires { at + 2 * length bytes.now ≤ 2 * length out.old }
     ensures { out.new ≡ sets out.old at (hex_text bytes.now) }
 {
-    let mut end = at;
-    let mut i = 0;
-    while i < bytes.len() {
-        put_byte(out, end, hex_digit(bytes[i] / 16));
-        put_byte(out, end + 1, hex_digit(bytes[i] % 16));
-        end += 2;
-        i += 1;
+    for (i, &byte) in bytes.iter().enumerate() {
+        put_byte(out, at + 2 * i, hex_digit(byte / 16));
+        put_byte(out, at + 2 * i + 1, hex_digit(byte % 16));
     }
 }
 
 // Puts two lower-case hexadecimal digits for each byte, and says how many digits those are.
+#[tactic(auto, using(octets::proofs::Stores::store_laws, crate::proofs::PrintLaws::hex_text_takes))]
 pub fn put_hex(out: &mut [u8], at: usize, bytes: &[u8]) -> usize
     ensures value { result ≡ length (hex_text bytes.now) }
     ensures out_after { out.new ≡ sets out.old at (hex_text bytes.now) }
