@@ -1,13 +1,13 @@
 -- 01, main.rs: "Sighash input: transaction hash; canonical first group witness; other group witnesses; witnesses whose index is
 -- at least the number of inputs." The sighash of a scene, and what its function answers.
-use Rattle.std.specs.Prelude.{ℕ, List, ◌∷◌, ◌++◌, length, replicate, leb, Err, Ok}
-use Rattle.protocol.specs.Rows.{Row, row, decide, Check}
+use Rattle.std.specs.Prelude.{ℕ, List, ◌∷◌, ◌++◌, length, leb, Ok, Result}
+use Rattle.protocol.specs.Rows.{Row, row, decide, ◌then◌}
+use Rattle.protocol.specs.declared.error.ProtocolError.{ProtocolError}
 use Rattle.protocol.specs.declared.error.ProtocolError.TheVariants.{InvalidWitness}
 use Rattle.molecule.specs.Table3.{table_rows}
 use Rattle.authorization.specs.Sighash.{sighash_of}
 use Rattle.scene_table.specs.Scene.{Scene}
 use Rattle.group_sighash.specs.Witnesses.{group_of, first_witness, other_witnesses, witness_fits, other_rows}
-use Rattle.group_sighash.specs.declared.transaction.Sighash.{Sighash}
 
 -- over a first witness that is handed in, and over the group's
 abbrev pub sighash_with : List ℕ → Scene → List ℕ
@@ -24,10 +24,6 @@ sighash_rows s =
     ∷ row (witness_fits (first_witness s)) InvalidWitness
     ∷ (table_rows InvalidWitness (first_witness s) ++ other_rows s)
 
--- a sighash, or a refusal beside 32 zeros
-unfoldable pub sighash_found : Check → List ℕ → Sighash
-sighash_found (Ok _) hash = record { found = (Ok tt); hash = hash }
-sighash_found (Err e) hash = record { found = Err e; hash = replicate 32 0 }
-
-unfoldable pub group_answer : Scene → Sighash
-group_answer s = sighash_found (decide (Ok tt) (sighash_rows s)) (group_sighash s)
+-- the sighash, or the refusal
+unfoldable pub group_answer : Scene → Result (List ℕ) ProtocolError
+group_answer s = decide (Ok tt) (sighash_rows s) then Ok (group_sighash s)

@@ -5,5 +5,5 @@ mod hashed; // hashed.rt
 mod witnesses; // witnesses.rt
 mod transaction; // transaction.rt
 
-pub use self::transaction::{Sighash, canonical_group_sighash, sighash_with};
+pub use self::transaction::{canonical_group_sighash, sighash_with};
 pub use self::witnesses::{check_first_witness, check_others, first_witness};

@@ -6,7 +6,7 @@ ghost use Rattle.scene_table.specs.Lent.{scene_in};
 ghost use Rattle.group_sighash.specs.Witnesses.{other_witnesses};
 ghost use Rattle.group_sighash.specs.GroupSighash.{sighash_with, group_answer};
 
-use crate::hashed::{first_other, next_hashed, witness_at};
+use crate::hashed::{first_other, is_hashed, witness_at};
 use crate::witnesses::{check_hashed, first_witness};
 use authorization::{feed_canonical_witness, feed_witness};
 use blake2b::Blake2b;
@@ -14,28 +14,22 @@ use octets::part_at;
 use protocol::ProtocolError;
 use scene_table::{transaction_hash, witness_count};
 
-// What was found, and the hash: zeros where a witness is refused.
-#[derive(Drop)]
-pub struct Sighash {
-    pub found: Result<(), ProtocolError>,
-    pub hash: [u8; 32],
-}
-
 // The hashed witnesses behind the first of the group are fed.
+#[tactic(auto, using(crate::proofs::HashedLaws::fed_others))]
 fn feed_others(hash: Blake2b, table: &[u32], store: &[u8]) -> Blake2b
     ensures { result ≡ fed_all hash (hashed_witnesses (other_witnesses (scene_in table.now store.now))) }
 {
-    let count = witness_count(table);
     let mut fed = hash;
-    let mut i = next_hashed(table, first_other(table));
-    while i < count {
-        fed = feed_witness(fed, witness_at(table, store, i));
-        i = next_hashed(table, i + 1);
+    for i in first_other(table)..witness_count(table) {
+        if is_hashed(table, i) {
+            fed = feed_witness(fed, witness_at(table, store, i));
+        }
     }
     fed
 }
 
 // The sighash over a first witness that is handed in: that of the transaction, where it is the group's.
+#[tactic(auto, using(crate::proofs::HashedLaws::sighash_parts))]
 pub fn sighash_with(table: &[u32], store: &[u8], first: &[u8]) -> [u8; 32]
     ensures { result ≡ sighash_with first.now (scene_in table.now store.now) }
 {
@@ -47,24 +41,11 @@ pub fn sighash_with(table: &[u32], store: &[u8], first: &[u8]) -> [u8; 32]
 
 // The sighash of the transaction, or 22: the first witness of the group is missing or no table, or a hashed witness is too
 // long.
-pub fn canonical_group_sighash(table: &[u32], store: &[u8]) -> Sighash
+#[tactic(auto, unfolding(crate::specs::GroupSighash::group_answer, crate::specs::GroupSighash::group_sighash))]
+pub fn canonical_group_sighash(table: &[u32], store: &[u8]) -> Result<[u8; 32], ProtocolError>
     ensures { result ≡ group_answer (scene_in table.now store.now) }
 {
     let first = first_witness(table, store);
-    match check_hashed(table, store, first) {
-        Err(error) => {
-            let none = [0u8; 32];
-            Sighash {
-                found: Err(error),
-                hash: none,
-            }
-        }
-        Ok(()) => {
-            let hash = sighash_with(table, store, first);
-            Sighash {
-                found: Ok(()),
-                hash: hash,
-            }
-        }
-    }
+    check_hashed(table, store, first)?;
+    Ok(sighash_with(table, store, first))
 }

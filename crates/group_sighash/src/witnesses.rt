@@ -5,10 +5,9 @@ ghost use Rattle.scene_table.specs.Lent.{scene_in};
 ghost use Rattle.group_sighash.specs.Witnesses.{first_witness, first_witness_rows, other_rows};
 ghost use Rattle.group_sighash.specs.GroupSighash.{sighash_rows};
 
-use crate::hashed::{first_other, is_input, next_hashed, witness_at};
+use crate::hashed::{first_other, group_begin, is_hashed, witness_at};
 use account_witness::{check_witness_header, proof_count_of};
 use molecule::{check_table, check_witness_lock, lock_of};
-use octets::part;
 use protocol::{AUTHENTICATOR_MAX_COUNT, ProtocolError, require};
 use scene_table::witness_count;
 
@@ -18,43 +17,47 @@ const MAX_WITNESS: usize = 132096;
 pub fn first_witness<'a>(table: &[u32], store: &'a [u8]) -> &'a [u8]
     ensures { result.now ≡ first_witness (scene_in table.now store.now) }
 {
-    let first = next_hashed(table, 0);
-    if is_input(table, first) {
-        witness_at(table, store, first)
-    } else {
-        part(store, 0, 0)
+    match group_begin(table) {
+        Some(first) => witness_at(table, store, first),
+        None => &[],
     }
 }
 
 // The rows of the group's first witness. A missing one is read as empty, and the table's first row refuses it with the same
 // number as the row for a missing one.
+#[tactic(auto, using(protocol::proofs::AllPass::deciding, crate::proofs::FirstRows::lock_found), unfolding(protocol::specs::Rows::decide, crate::specs::Witnesses::first_witness_rows, crate::specs::Witnesses::count_rows))]
 pub fn check_first_witness(witness: &[u8]) -> Result<(), ProtocolError>
     ensures { result ≡ decide (Ok tt) (first_witness_rows witness.now) }
 {
     let invalid = ProtocolError::InvalidWitness;
-    let lock = lock_of(witness);
     require(witness.len() <= MAX_WITNESS, invalid)?;
     check_witness_lock(witness)?;
+    let lock = lock_of(witness);
     check_witness_header(lock)?;
-    require(proof_count_of(lock) as usize <= AUTHENTICATOR_MAX_COUNT,
-            invalid)
+    require(
+        proof_count_of(lock) as usize <= AUTHENTICATOR_MAX_COUNT,
+        invalid,
+    )
 }
 
+// The other hashed witnesses, each of at most 132,096 bytes.
+#[tactic(auto, using(crate::proofs::HashedLaws::others_fit), unfolding(protocol::specs::Rows::decide, crate::specs::Witnesses::other_rows))]
 pub fn check_others(table: &[u32], store: &[u8]) -> Result<(), ProtocolError>
     ensures { result ≡ decide (Ok tt) (other_rows (scene_in table.now store.now)) }
 {
-    let count = witness_count(table);
-    let mut i = next_hashed(table, first_other(table));
-    while i < count {
-        if MAX_WITNESS < witness_at(table, store, i).len() {
-            return Err(ProtocolError::InvalidWitness);
+    for i in first_other(table)..witness_count(table) {
+        if is_hashed(table, i) {
+            require(
+                witness_at(table, store, i).len() <= MAX_WITNESS,
+                ProtocolError::InvalidWitness,
+            )?;
         }
-        i = next_hashed(table, i + 1);
     }
     Ok(())
 }
 
 // The witnesses that are hashed, as the sighash needs them; the first is tested as above.
+#[tactic(auto, using(protocol::proofs::AllPass::deciding, crate::proofs::FirstRows::sighash_first), unfolding(protocol::specs::Rows::decide, crate::specs::Witnesses::witness_fits))]
 pub(crate) fn check_hashed(table: &[u32], store: &[u8], first: &[u8]) -> Result<(), ProtocolError>
     requires { first.now ≡ first_witness (scene_in table.now store.now) }
     ensures { result ≡ decide (Ok tt) (sighash_rows (scene_in table.now store.now)) }
