@@ -4,21 +4,21 @@
 
 ghost use Rattle.std.specs.Prelude.{◌≡◌};
 ghost use Rattle.verifier_request.specs.Reading.{RequestReading};
-ghost use Rattle.held_request.specs.Held.{places_in, held_reading};
+ghost use Rattle.held_request.specs.Held.{places_or_none, held_reading};
 ghost use Rattle.exports_request.specs.Parts.{number_words, StoresNumbers, StoresField};
 
 use export_answers::{store_part, store_words};
-use held_request::{request_algorithm_id_of, request_authorization_digest_of, request_aux_of, request_key_id_of, request_operation_of, request_proof_of, request_refusal_of, request_slot_of, request_verifier_profile_of};
+use held_request::VerifierRequest;
 
 // The request's four numbers, as 64-bit words.
-fn number_words(request: &[u8]) -> [u8; 32]
-    ensures { result ≡ number_words (held_reading request.now (places_in request.now)) }
+fn number_words(held: &VerifierRequest) -> [u8; 32]
+    ensures { result ≡ number_words (held_reading held.now.request.now (places_or_none held.now.places)) }
 {
     let words = [
-        request_algorithm_id_of(request) as u64,
-        request_slot_of(request) as u64,
-        request_operation_of(request) as u64,
-        request_verifier_profile_of(request) as u64,
+        held.algorithm_id() as u64,
+        held.slot() as u64,
+        held.operation() as u64,
+        held.verifier_profile() as u64,
     ];
     let mut bytes = [0u8; 32];
     store_words(&words, &mut bytes);
@@ -31,12 +31,8 @@ pub extern "C" fn fowlcredenza_request_numbers(request: &[u8], out: &mut [u8]) -
     ensures { StoresNumbers request.now out.old result out.new }
 {
     let mut len: usize = 0;
-    store_part(
-        request_refusal_of(request),
-        &number_words(request),
-        out,
-        &mut len,
-    )
+    let held = VerifierRequest::parse(request);
+    store_part(held.refusal(), &number_words(&held), out, &mut len)
 }
 
 // Stores the digest that the request is for.
@@ -49,12 +45,8 @@ pub extern "C" fn fowlcredenza_request_authorization_digest(
     ensures { StoresField (λ (q : RequestReading). q.digest) request.now out.old len.old result
         out.new len.new }
 {
-    store_part(
-        request_refusal_of(request),
-        request_authorization_digest_of(request),
-        out,
-        len,
-    )
+    let held = VerifierRequest::parse(request);
+    store_part(held.refusal(), held.authorization_digest(), out, len)
 }
 
 // Stores the key.
@@ -67,12 +59,8 @@ pub extern "C" fn fowlcredenza_request_key_id(
     ensures { StoresField (λ (q : RequestReading). q.key) request.now out.old len.old result
         out.new len.new }
 {
-    store_part(
-        request_refusal_of(request),
-        request_key_id_of(request),
-        out,
-        len,
-    )
+    let held = VerifierRequest::parse(request);
+    store_part(held.refusal(), held.key_id(), out, len)
 }
 
 // Stores the aux.
@@ -81,12 +69,8 @@ pub extern "C" fn fowlcredenza_request_aux(request: &[u8], out: &mut [u8], len: 
     ensures { StoresField (λ (q : RequestReading). q.aux) request.now out.old len.old result
         out.new len.new }
 {
-    store_part(
-        request_refusal_of(request),
-        request_aux_of(request),
-        out,
-        len,
-    )
+    let held = VerifierRequest::parse(request);
+    store_part(held.refusal(), held.aux(), out, len)
 }
 
 // Stores the proof.
@@ -95,10 +79,6 @@ pub extern "C" fn fowlcredenza_request_proof(request: &[u8], out: &mut [u8], len
     ensures { StoresField (λ (q : RequestReading). q.proof) request.now out.old len.old result
         out.new len.new }
 {
-    store_part(
-        request_refusal_of(request),
-        request_proof_of(request),
-        out,
-        len,
-    )
+    let held = VerifierRequest::parse(request);
+    store_part(held.refusal(), held.proof(), out, len)
 }

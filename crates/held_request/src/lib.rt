@@ -1,5 +1,5 @@
 // The verifier request that holds its bytes: a struct of the request's slice and of what the reader found in it, with thin
-// functions over it. Functions with plain parameters stand above them, for every other caller.
+// functions over it.
 #![tactic(auto)]
 
 mod places; // places.rt
@@ -104,67 +104,11 @@ impl<'a> VerifierRequest<'a> {
     }
 }
 
-// 0 where these bytes are a request, else the refusal's number.
-pub fn request_refusal_of(request: &[u8]) -> u8
-    ensures { result ≡ check_number (request_places_of (read_request request.now)) }
-{
-    VerifierRequest::parse(request).refusal()
-}
-
-// The numbers of the request in these bytes; 0 where it is refused.
-pub fn request_algorithm_id_of(request: &[u8]) -> u16
-    ensures { result ≡ (places_in request.now).algorithm_id }
-{
-    VerifierRequest::parse(request).algorithm_id()
-}
-
-pub fn request_slot_of(request: &[u8]) -> u16
-    ensures { result ≡ (places_in request.now).slot }
-{
-    VerifierRequest::parse(request).slot()
-}
-
-pub fn request_operation_of(request: &[u8]) -> u8
-    ensures { result ≡ (places_in request.now).operation }
-{
-    VerifierRequest::parse(request).operation()
-}
-
-pub fn request_verifier_profile_of(request: &[u8]) -> u8
-    ensures { result ≡ (places_in request.now).verifier_profile }
-{
-    VerifierRequest::parse(request).verifier_profile()
-}
-
-// Its parts; no byte where it is refused.
-pub fn request_authorization_digest_of(request: &[u8]) -> &[u8]
-    ensures { result.now ≡ bytes_at request.now (places_in request.now).authorization_digest }
-{
-    VerifierRequest::parse(request).authorization_digest()
-}
-
-pub fn request_key_id_of(request: &[u8]) -> &[u8]
-    ensures { result.now ≡ bytes_at request.now (places_in request.now).key_id }
-{
-    VerifierRequest::parse(request).key_id()
-}
-
-pub fn request_aux_of(request: &[u8]) -> &[u8]
-    ensures { result.now ≡ bytes_at request.now (places_in request.now).aux }
-{
-    VerifierRequest::parse(request).aux()
-}
-
-pub fn request_proof_of(request: &[u8]) -> &[u8]
-    ensures { result.now ≡ bytes_at request.now (places_in request.now).proof }
-{
-    VerifierRequest::parse(request).proof()
-}
-
 // Whether these bytes are a request for this digest.
 #[tactic(auto, unfolding(crate::specs::Held::is_for))]
 pub fn is_for(request: &[u8], digest: &[u8]) -> bool
     ensures { result ≡ is_for request.now digest.now }
 {
-    request_refusal_of(request) == 0 && same_bytes(request_authorization_digest_of(request), digest)
+    let held = VerifierRequest::parse(request);
+    held.places.is_ok() && same_bytes(held.authorization_digest(), digest)
 }

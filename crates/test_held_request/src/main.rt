@@ -1,7 +1,7 @@
 // Runs the request that holds its bytes, through the functions with plain parameters above it.
 #![tactic(auto)]
 
-use held_request::{is_for, request_authorization_digest_of, request_refusal_of};
+use held_request::{VerifierRequest, is_for};
 use octets::{part, same_bytes};
 use protocol::check_number;
 use std::io;
@@ -13,12 +13,10 @@ fn print_answer(rt: &impl Print, answer: bool) -> io::Result<()> {
 
 // What the functions say of a request, and of this digest.
 fn print_request(rt: &impl Print, request: &[u8], digest: &[u8]) -> io::Result<()> {
-    println!(rt; "  refusal {}", request_refusal_of(request))?;
+    let held = VerifierRequest::parse(request);
+    println!(rt; "  refusal {}", held.refusal())?;
     print!(rt; "  the digest is the one ")?;
-    print_answer(
-        rt,
-        same_bytes(request_authorization_digest_of(request), digest),
-    )?;
+    print_answer(rt, same_bytes(held.authorization_digest(), digest))?;
     print!(rt; "  for this digest ")?;
     print_answer(rt, is_for(request, digest))
 }

@@ -10,4 +10,4 @@ unfolding held_reading
 returns c =
     let a = c.args in
     handed a.request.now a.out.now a.len.now (λ (q : RequestReading). q.digest) _ _ _
-    (rw (c.request_authorization_digest_of.ensures, c.request_refusal_of.ensures) at c.store_part.ensures)
+    (rw (c.authorization_digest.ensures, c.refusal.ensures, c.parse-held.ensures) at c.store_part.ensures)

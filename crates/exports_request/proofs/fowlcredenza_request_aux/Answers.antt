@@ -9,4 +9,4 @@ unfolding held_reading
 returns c =
     let a = c.args in
     handed a.request.now a.out.now a.len.now (λ (q : RequestReading). q.aux) _ _ _
-    (rw (c.request_aux_of.ensures, c.request_refusal_of.ensures) at c.store_part.ensures)
+    (rw (c.aux.ensures, c.refusal.ensures, c.parse-held.ensures) at c.store_part.ensures)

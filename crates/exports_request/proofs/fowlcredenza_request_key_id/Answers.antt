@@ -9,4 +9,4 @@ unfolding held_reading
 returns c =
     let a = c.args in
     handed a.request.now a.out.now a.len.now (λ (q : RequestReading). q.key) _ _ _
-    (rw (c.request_key_id_of.ensures, c.request_refusal_of.ensures) at c.store_part.ensures)
+    (rw (c.key_id.ensures, c.refusal.ensures, c.parse-held.ensures) at c.store_part.ensures)

@@ -7,4 +7,4 @@ pub returns : goal.returns
 returns c =
     let a = c.args in
     (handed a.request.now a.out.now 0 number_words _ _ _
-    (rw (c.number_words.ensures, c.request_refusal_of.ensures) at c.store_part.ensures)).0
+    (rw (c.number_words.ensures, c.refusal.ensures, c.parse-held.ensures) at c.store_part.ensures)).0

@@ -8,5 +8,5 @@ use Rattle.exports_request.proofs.number_words.Goals as goal
 pub returns : goal.returns
 unfolding number_words held_reading
 returns c =
-    rw (sym c.request_verifier_profile_of.ensures, sym c.request_operation_of.ensures, sym c.request_slot_of.ensures, sym c.request_algorithm_id_of.ensures)
+    rw (sym c.verifier_profile.ensures, sym c.operation.ensures, sym c.slot.ensures, sym c.algorithm_id.ensures)
     (c.store_words.ensures.1 ∙ words-fill _ _ refl)
