@@ -1,81 +1,70 @@
 -- The writer's laws: a turn of each of its loops, the lengths of what the slices lend, and the parts stored one behind another.
 -- Assumes nothing.
-use Rattle.std.specs.Prelude.{Ok}
+use Rattle.std.specs.Prelude.{Err, Ok}
+use Rattle.std.specs.List.{list_all}
 use mathlib.Core.Path.{◌≡◌, refl, sym, ap, ◌∙◌}
-use mathlib.Core.Bool.{Bool, true, false, ◌&&◌}
+use mathlib.Core.Bool.{Bool}
 use mathlib.Core.List.{List, [], ◌∷◌, ◌++◌}
 use Prim.Native.Nat.{ℕ, suc, ◌+◌, ◌*◌, ◌-◌, ◌≤◌, ◌<◌}
 use native.Mathlib.Nat.{add_assoc}
 use native.Mathlib.Numerals.{add-one}
 use native.Mathlib.Omega.{arith}
-use borrow.Author.Tests.{eq-eqb, ne_eqb, eqb-true, eqb-false, leb-true}
-use lib.Dec.{eqb, leb}
+use borrow.Author.Tests.{eqb-true, leb-true}
 use lib.ListN.{length, take, drop, get_or, length-append, length-drop, drop_of_length-le}
-use lib.Seq.{sets, drop-cons, drop-drop, length-take-le}
+use lib.Seq.{sets, drop-cons, length-take-le}
 use Rattle.octets.specs.Le.{to_le}
 use Rattle.octets.specs.Lists.{every, sum, joined}
 use Rattle.octets.specs.Layout.{layout_bytes}
-use Rattle.octets.proofs.Parts.{part_length}
+use Rattle.octets.proofs.Sums.{sum-turn, sum-end}
 use Rattle.octets.proofs.Stores.{sets-append, sets-front}
 use Rattle.octets.proofs.LayoutLaws.{store_numbers, numbers-stored, length-numbers}
-use Rattle.protocol.specs.Write.{after_write}
+use Rattle.protocol.specs.Rows.{Check}
+use Rattle.protocol.specs.Write.{write_answer, after_write}
 use Rattle.protocol.proofs.Back.{write-passed}
 use Rattle.account_witness.specs.Header.{witness_header_fields}
 use Rattle.account_witness.proofs.Unique.{length-proof}
 use Rattle.account_witness.specs.Reading.{ProofReading, proof_fields, proof_bytes, proofs_bytes, witness_bytes}
-use Rattle.account_witness_writer.specs.Writer.{lent_proofs, witness_from, witness_total, lent_proof_rows, witness_writer_rows, witness_writer_fault}
+use Rattle.account_witness_writer.specs.Writer.{lent_proofs, witness_from, witness_total, lent_proof_rows, witness_writer_rows, witness_writer_fault, witness_stored}
 
--- two tests that tell the same
-eqb-by : (a b c d : ℕ) (t : Bool) → eqb a b ≡ t → (a ≡ b → c ≡ d) → (c ≡ d → a ≡ b) → t ≡ eqb c d
-eqb-by a b c d true e f g = sym (eq-eqb c d (f (eqb-true a b e)))
-eqb-by a b c d false e f g = sym (ne_eqb c d (λ q. eqb-false a b e (g q)))
+-- a turn of the loop that adds, and its end
+pub sum_turn : (l : List ℕ) (i : ℕ) → i < length l → sum (drop i l) ≡ get_or l i 0 + sum (drop (i + 1) l)
+sum_turn l i h = sum-turn l i h
 
-pub eqb_same : (a b c d : ℕ) → (a ≡ b → c ≡ d) → (c ≡ d → a ≡ b) → eqb a b ≡ eqb c d
-eqb_same a b c d f g = eqb-by a b c d (eqb a b) refl f g
+pub sum_end : (l : List ℕ) (i : ℕ) → length l ≤ i → sum (drop i l) ≡ 0
+sum_end l i h = sum-end l i h
 
--- a turn of the loop that looks for an empty proof, and its end
-pub filled-turn : (l : List ℕ) (i : ℕ) → i < length l → every (leb 1) (drop i l) ≡ (leb 1 (get_or l i 0) && every (leb 1) (drop (i + 1) l))
+-- the library's test of every element
+pub every_is_all : (p : ℕ → Bool) (l : List ℕ) → every p l ≡ list_all p l
 unfolding every
-filled-turn l i h = rw (add-one, drop-cons l i 0)
-
-pub filled-end : (l : List ℕ) (i : ℕ) → length l ≤ i → every (leb 1) (drop i l) ≡ true
-unfolding every
-filled-end l i h = rw (drop_of_length-le l h)
+every_is_all p [] = refl
+every_is_all p (x ∷ l) = rw (every_is_all p l)
 
 -- a proof's numbers and bytes, stored one behind another
-pub proof-stored : (l : List ℕ) (at slot : ℕ) (bytes : List ℕ)
-    → sets (sets (sets (sets l at (to_le 2 slot)) (at + 2) (to_le 2 0)) (at + 4) (to_le 4 (length bytes))) (at + 8) bytes
-    ≡ sets l at (proof_bytes (record { slot = slot; bytes = bytes }))
+pub proof_stored : (l : List ℕ) (at slot : ℕ) (bytes : List ℕ)
+    → sets l at (proof_bytes (record { slot = slot; bytes = bytes }))
+    ≡ sets (sets (sets (sets l at (to_le 2 slot)) (at + 2) (to_le 2 0)) (at + 4) (to_le 4 (length bytes))) (at + 8) bytes
 unfolding proof_bytes proof_fields store_numbers
-proof-stored l at slot bytes =
+proof_stored l at slot bytes =
     let t = proof_fields slot (length bytes) in
     let n : sets (sets (sets l at (to_le 2 slot)) (at + 2) (to_le 2 0)) (at + 4) (to_le 4 (length bytes)) ≡ sets l at (layout_bytes t) = simp add_assoc at (numbers-stored l at t) in
-    rw n (sets-append l at (layout_bytes t) bytes (at + 8) (ap (λ (k : ℕ). at + k) (sym (length-numbers t))))
+    rw n (sym (sets-append l at (layout_bytes t) bytes (at + 8) (ap (λ (k : ℕ). at + k) (sym (length-numbers t)))))
 
--- the proofs that are left
-proofs-turn : (slots lengths bytes : List ℕ) (from i : ℕ) → i < length slots → i < length lengths
-    → lent_proofs (drop i slots) (drop i lengths) (drop from bytes)
-    ≡ record { slot = get_or slots i 0; bytes = take (get_or lengths i 0) (drop from bytes) }
-    ∷ lent_proofs (drop (i + 1) slots) (drop (i + 1) lengths) (drop (from + get_or lengths i 0) bytes)
-unfolding lent_proofs
-proofs-turn slots lengths bytes from i h k = rw (add-one i, drop-cons slots i 0 h, drop-cons lengths i 0 k, drop-drop)
-
--- a turn of the loop that stores them
-pub store-turn : (out slots lengths bytes : List ℕ) (at from i : ℕ) → i < length slots → i < length lengths → from + get_or lengths i 0 ≤ length bytes
-    → sets
-    (sets out at (proof_bytes (record { slot = get_or slots i 0; bytes = take (get_or lengths i 0) (drop from bytes) })))
+-- a turn of the loop that stores the proofs, with `rest` of the bytes left, and its end
+pub store_turn : (out slots lengths rest : List ℕ) (at i : ℕ) → i < length slots → i < length lengths → get_or lengths i 0 ≤ length rest
+    → sets out at (proofs_bytes (lent_proofs (drop i slots) (drop i lengths) rest))
+    ≡ sets
+    (sets out at (proof_bytes (record { slot = get_or slots i 0; bytes = take (get_or lengths i 0) rest })))
     (at + (8 + get_or lengths i 0))
-    (proofs_bytes (lent_proofs (drop (i + 1) slots) (drop (i + 1) lengths) (drop (from + get_or lengths i 0) bytes)))
-    ≡ sets out at (proofs_bytes (lent_proofs (drop i slots) (drop i lengths) (drop from bytes)))
-unfolding proofs_bytes joined
-store-turn out slots lengths bytes at from i h k l =
-    let p : ProofReading = record { slot = get_or slots i 0; bytes = take (get_or lengths i 0) (drop from bytes) } in
-    let n : length (proof_bytes p) ≡ 8 + get_or lengths i 0 = length-proof p ∙ ap (λ (x : ℕ). 8 + x) (part_length bytes from (get_or lengths i 0) l) in
-    rw (proofs-turn slots lengths bytes from i h k) (sets-append out at (proof_bytes p) _ (at + (8 + get_or lengths i 0)) (ap (λ (x : ℕ). at + x) (sym n)))
-
-pub store-end : (slots lengths bytes : List ℕ) (i : ℕ) → length slots ≤ i → proofs_bytes (lent_proofs (drop i slots) lengths bytes) ≡ []
+    (proofs_bytes (lent_proofs (drop (i + 1) slots) (drop (i + 1) lengths) (drop (get_or lengths i 0) rest)))
 unfolding lent_proofs proofs_bytes joined
-store-end slots lengths bytes i h = rw (drop_of_length-le slots h)
+store_turn out slots lengths rest at i h k l =
+    let p : ProofReading = record { slot = get_or slots i 0; bytes = take (get_or lengths i 0) rest } in
+    let n : length (proof_bytes p) ≡ 8 + get_or lengths i 0 = length-proof p ∙ ap (λ (x : ℕ). 8 + x) (length-take-le (get_or lengths i 0) rest l) in
+    rw (add-one i, drop-cons slots i 0 h, drop-cons lengths i 0 k) (sym (sets-append out at (proof_bytes p) _ (at + (8 + get_or lengths i 0)) (ap (λ (x : ℕ). at + x) (sym n))))
+
+pub store_end : (out slots lengths rest : List ℕ) (at i : ℕ) → length slots ≤ i → sets out at (proofs_bytes (lent_proofs (drop i slots) (drop i lengths) rest)) ≡ out
+unfolding lent_proofs proofs_bytes joined
+store_end out slots lengths rest at i h = rw (drop_of_length-le slots h)
 
 -- slices that agree lend as many proofs as there are slots, with all the bytes
 pub length_from : (slots lengths bytes : List ℕ) → length slots ≡ length lengths → length (lent_proofs slots lengths bytes) ≡ length slots
@@ -120,15 +109,26 @@ witness-writer-holds operation slots lengths bytes room h =
       fits = z.1;
     }
 
+-- so where it answers a length
+answered : (k : Check) (total n : ℕ) → write_answer k total ≡ Ok n → k ≡ Ok tt
+unfolding write_answer
+answered (Ok _) total n h = refl
+answered (Err e) total n h = absurd (let z : ◌≡◌ {A = ℕ} 0 1 = cc in omega arith)
+
+pub witness-answered-holds : (operation : ℕ) (slots lengths bytes : List ℕ) (room n : ℕ)
+    → write_answer (witness_writer_fault operation slots lengths bytes room) (witness_total slots bytes) ≡ Ok n → WitnessWriterHolds slots lengths bytes room
+witness-answered-holds operation slots lengths bytes room n h = witness-writer-holds operation slots lengths bytes room (answered _ _ n h)
+
 -- the header and the proofs, stored one behind another
-pub witness-stored : (operation sequence : ℕ) (slots lengths bytes out : List ℕ) → WitnessWriterHolds slots lengths bytes (length out)
-    → sets (sets out 0 (layout_bytes (witness_header_fields operation (length slots) sequence))) 16 (proofs_bytes (lent_proofs slots lengths bytes))
-    ≡ after_write (Ok tt) (witness_bytes (witness_from operation sequence slots lengths bytes)) out
-unfolding after_write witness_bytes witness_from witness_header_fields
-witness-stored operation sequence slots lengths bytes out z =
+pub witness_parts : (operation sequence : ℕ) (slots lengths bytes out : List ℕ) → witness_writer_fault operation slots lengths bytes (length out) ≡ Ok tt
+    → witness_stored operation sequence slots lengths bytes out
+    ≡ sets (sets out 0 (layout_bytes (witness_header_fields operation (length slots) sequence))) 16 (proofs_bytes (lent_proofs slots lengths bytes))
+unfolding witness_stored after_write witness_bytes witness_from witness_header_fields
+witness_parts operation sequence slots lengths bytes out passed =
+    let z = witness-writer-holds operation slots lengths bytes (length out) passed in
     let h = layout_bytes (witness_header_fields operation (length slots) sequence) in
     let b = proofs_bytes (lent_proofs slots lengths bytes) in
     let m : length h ≡ 16 = length-numbers (witness_header_fields operation (length slots) sequence) in
     let n : length b ≡ 8 * length slots + length bytes = length-lent slots lengths bytes z.counts z.sums in
     let r : length (h ++ b) ≤ length out = rw (length-append h b, m, n) z.fits in
-    rw (length_from slots lengths bytes z.counts) (sets-append out 0 h b 16 (omega arith) ∙ sets-front out (h ++ b) r)
+    rw (passed, length_from slots lengths bytes z.counts) (sym (sets-append out 0 h b 16 (omega arith) ∙ sets-front out (h ++ b) r))

@@ -1,91 +1,62 @@
 // The writer's refusals: slices that disagree, the operation, the proofs, a short buffer.
-ghost use Rattle.std.specs.Prelude.{◌≡◌, ◌+◌, ◌*◌, leb, eqb};
-ghost use Rattle.octets.specs.Lists.{every, sum};
-ghost use Rattle.protocol.specs.Rows.{decide};
-ghost use Rattle.account_witness.specs.Fields.{witness_header_length, proof_header_length};
-ghost use Rattle.account_witness_writer.specs.Writer.{lent_proof_rows, witness_writer_fault};
+ghost use Rattle.std.specs.Prelude.{◌≡◌, leb, eqb};
+ghost use Rattle.std.specs.List.{list_all};
+ghost use Rattle.octets.specs.Lists.{sum};
+ghost use Rattle.protocol.specs.Write.{write_answer};
+ghost use Rattle.account_witness_writer.specs.Writer.{witness_total, witness_writer_fault};
 
 use account_witness::PROOF_HEADER_LEN;
-use octets::{fits, is_rising};
-use protocol::{ACCOUNT_WITNESS_HEADER_LEN, ACCOUNT_WITNESS_MAX_LOCK_LEN, AUTHENTICATOR_MAX_COUNT, ProtocolError, is_operation, require};
+use octets::is_rising;
+use protocol::{
+    ACCOUNT_WITNESS_HEADER_LEN, ACCOUNT_WITNESS_MAX_LOCK_LEN, AUTHENTICATOR_MAX_COUNT,
+    ProtocolError, is_operation, require,
+};
 
 // Whether the lengths add up to `total`. What is left of it never falls below zero.
+#[tactic(auto, using(crate::proofs::WriterLaws::sum_turn, crate::proofs::WriterLaws::sum_end))]
 fn adds_up(lengths: &[u32], total: usize) -> bool
     ensures { result ≡ eqb (sum lengths.now) total }
 {
     let mut left = total;
-    let mut i: usize = 0;
-    while i < lengths.len() {
-        let len = lengths[i] as usize;
-        if left < len {
+    for &length in lengths {
+        let Some(rest) = left.checked_sub(length as usize) else {
             return false;
-        }
-        left -= len;
-        i += 1;
+        };
+        left = rest;
     }
     left == 0
 }
 
 // Whether no proof is empty.
 fn all_filled(lengths: &[u32]) -> bool
-    ensures { result ≡ every (leb 1) lengths.now }
+    ensures { result ≡ list_all (leb 1) lengths.now }
 {
-    let mut i: usize = 0;
-    while i < lengths.len() {
-        if lengths[i] == 0 {
-            return false;
-        }
-        i += 1;
-    }
-    true
+    lengths.iter().all(|&length| 1 <= length)
 }
 
-// Whether a witness lock of `count` proofs with `len` bytes in all is at most `limit` long.
-fn total_within(limit: usize, count: usize, len: usize) -> bool
-    ensures { result ≡ leb (witness_header_length + (proof_header_length * count + len)) limit }
-{
-    if limit < ACCOUNT_WITNESS_HEADER_LEN {
-        return false;
-    }
-    let room = limit - ACCOUNT_WITNESS_HEADER_LEN;
-    if room / PROOF_HEADER_LEN < count {
-        return false;
-    }
-    fits(room, PROOF_HEADER_LEN * count, len)
-}
-
-// The checks of the proofs, after what was found before them.
-fn check_lent(before: Result<(), ProtocolError>, slots: &[u16], lengths: &[u32], bytes: &[u8]) -> Result<(), ProtocolError>
-    ensures { result ≡ decide before (lent_proof_rows slots.now lengths.now bytes.now) }
-{
-    let invalid = ProtocolError::InvalidWitness;
-    before?;
-    require(all_filled(lengths), invalid)?;
-    require(total_within(ACCOUNT_WITNESS_MAX_LOCK_LEN, slots.len(), bytes.len()),
-            invalid)?;
-    require(is_rising(slots), invalid)
-}
-
-// The writer's refusals.
-pub(crate) fn check_encode(
+// The length of a witness lock, or the writer's refusal: that of a buffer of `room` bytes comes last.
+#[tactic(auto, using(crate::proofs::WriterLaws::every_is_all), unfolding(protocol::specs::Rows::decide, protocol::specs::Write::write_fault, protocol::specs::Write::write_answer, crate::specs::Writer::lent_proof_rows, crate::specs::Writer::witness_writer_rows, crate::specs::Writer::witness_writer_fault))]
+pub(crate) fn written_len(
     operation: u8,
     slots: &[u16],
     lengths: &[u32],
     bytes: &[u8],
     room: usize,
-) -> Result<(), ProtocolError>
-    ensures { result ≡ witness_writer_fault operation slots.now lengths.now bytes.now room }
+) -> Result<usize, ProtocolError>
+    ensures { result ≡ write_answer
+        (witness_writer_fault operation slots.now lengths.now bytes.now room)
+        (witness_total slots.now bytes.now) }
 {
     let disagree = ProtocolError::SlicesDisagree;
-    let first = Ok(())
-        .require(slots.len() == lengths.len(), disagree)
-        .require(adds_up(lengths, bytes.len()), disagree)
-        .require(is_operation(operation), ProtocolError::InvalidOperation)
-        .require(
-            slots.len() <= AUTHENTICATOR_MAX_COUNT,
-            ProtocolError::InvalidWitness,
-        );
-    check_lent(first, slots, lengths, bytes)?;
-    require(total_within(room, slots.len(), bytes.len()),
-        ProtocolError::BufferTooShort)
+    let invalid = ProtocolError::InvalidWitness;
+    require(slots.len() == lengths.len(), disagree)?;
+    require(adds_up(lengths, bytes.len()), disagree)?;
+    require(is_operation(operation), ProtocolError::InvalidOperation)?;
+    require(slots.len() <= AUTHENTICATOR_MAX_COUNT, invalid)?;
+    require(all_filled(lengths), invalid)?;
+    let len = ACCOUNT_WITNESS_HEADER_LEN + (PROOF_HEADER_LEN * slots.len() + bytes.len());
+    require(len <= ACCOUNT_WITNESS_MAX_LOCK_LEN, invalid)?;
+    require(is_rising(slots), invalid)?;
+    require(len <= room, ProtocolError::BufferTooShort)?;
+    Ok(len)
 }

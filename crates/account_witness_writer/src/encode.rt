@@ -2,12 +2,12 @@
 ghost use Rattle.std.specs.Prelude.{◌≡◌};
 ghost use Rattle.account_witness_writer.specs.Writer.{witness_written, witness_stored};
 
-use crate::check::check_encode;
+use crate::check::written_len;
 use crate::store::{store_header, store_proofs};
-use account_witness::PROOF_HEADER_LEN;
-use protocol::{ACCOUNT_WITNESS_HEADER_LEN, ProtocolError};
+use protocol::ProtocolError;
 
 // Writes a witness lock and answers its length. Proof i has the slot slots[i] and the next lengths[i] bytes of `bytes`.
+#[tactic(auto, using(crate::proofs::WriterLaws::witness_parts), unfolding(protocol::specs::Write::write_answer, protocol::specs::Write::after_write, crate::specs::Writer::witness_written, crate::specs::Writer::witness_stored))]
 pub fn encode_witness(
     operation: u8,
     sequence: u64,
@@ -19,10 +19,8 @@ pub fn encode_witness(
     ensures value { result ≡ witness_written operation slots.now lengths.now bytes.now out.old }
     ensures out_after { out.new ≡ witness_stored operation sequence slots.now lengths.now bytes.now out.old }
 {
-    check_encode(operation, slots, lengths, bytes, out.len())?;
+    let len = written_len(operation, slots, lengths, bytes, out.len())?;
     store_header(out, operation, slots.len(), sequence);
-            store_proofs(out, slots, lengths, bytes);
-            Ok(
-                ACCOUNT_WITNESS_HEADER_LEN + (PROOF_HEADER_LEN * slots.len() + bytes.len()),
-            )
+    store_proofs(out, slots, lengths, bytes);
+    Ok(len)
 }
