@@ -33,10 +33,10 @@ fn step(
 {
     let fields = tail(line, find(line, COMMA));
     match u8_at(line, 0) {
-        99 => begin(rt, case, fields),
-        97 => Ok(add(case, fields, b"", scene)),
-        108 => Ok(add(case, fields, b"\n", scene)),
-        114 => run(rt, case, scene, store, table),
+        b'c' => begin(rt, case, fields),
+        b'a' => Ok(add(case, fields, b"", scene)),
+        b'l' => Ok(add(case, fields, b"\n", scene)),
+        b'r' => run(rt, case, scene, store, table),
         _ => Ok(case),
     }
 }
