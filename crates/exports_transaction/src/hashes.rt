@@ -11,6 +11,7 @@ use protocol::{ProtocolError, require};
 use scene_table::table_valid;
 
 // The digest over an account and a sighash that are lent as slices. One of another length than 32 is 7.
+#[tactic(auto, unfolding(protocol::specs::Rows::decide, protocol::specs::Policy::operation_rows, authorization::specs::Digest::authorization_of, crate::specs::Answers::lent_digest))]
 fn digest_lent(
     operation: u8,
     account: &[u8],
@@ -50,10 +51,14 @@ pub extern "C" fn fowlcredenza_authorization_digest(
 }
 
 // The sighash of the transaction that table and store hold. A table that no scene, its length aside, leaves with a store this long is 7.
+#[tactic(auto, unfolding(crate::specs::Answers::lent_sighash))]
 fn sighash_lent(table: &[u32], store: &[u8]) -> Result<[u8; 32], ProtocolError>
     ensures { result ≡ lent_sighash table.now store.now }
 {
-    require(table_valid(table, store.len()), ProtocolError::SlicesDisagree)?;
+    require(
+        table_valid(table, store.len()),
+        ProtocolError::SlicesDisagree,
+    )?;
     canonical_group_sighash(table, store)
 }
 

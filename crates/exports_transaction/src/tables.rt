@@ -4,9 +4,11 @@ ghost use Rattle.exports_transaction.specs.Answers.{StoresPlace, WritesCanonical
 
 use export_answers::{store_words, written};
 use molecule::{canonical_witness, script_args, witness_lock};
-use protocol::error_number;
+use octets::Place;
+use protocol::{ProtocolError, error_number};
 
 // A place's number; its start and length are stored.
+#[tactic(auto, unfolding(export_answers::specs::Stored::answer_bytes, crate::specs::Answers::place_words))]
 fn place_stored(answer: Result<Place, ProtocolError>, out: &mut [u8]) -> u32
     ensures { StoresPlace answer out.old result out.new }
 {
