@@ -3,12 +3,12 @@ use Rattle.std.specs.Prelude.{refl}
 use Rattle.octets.specs.Le.{from_le, number_at}
 use Rattle.octets.specs.Lists.{tabulate}
 use Rattle.protocol.specs.Rows.{◌▷◌, decide}
-use Rattle.protocol.specs.Args.{args_rows, args_answer, read_args, account_of}
+use Rattle.protocol.specs.Args.{args_rows, read_args, account_of}
 use Rattle.protocol.specs.Policy.{is_operation, operation_rows, capability_for, has_capability}
 use Rattle.limit_rows.specs.ArgsLimits.{ArgsLimits}
 
 pub args-limits : ArgsLimits
-unfolding from_le number_at tabulate ◌▷◌ decide args_rows args_answer read_args account_of is_operation operation_rows capability_for has_capability
+unfolding from_le number_at tabulate decide args_rows read_args account_of is_operation operation_rows capability_for has_capability
 args-limits =
     record {
       of-33 = λ id h. rw h;

@@ -13,7 +13,7 @@ use Rattle.cell_hashes.specs.Hashes.{hash_agrees, cell_hash_rows}
 use Rattle.limit_rows.specs.HashLimits.{HashLimits, empty_hash}
 
 pub hash-limits : HashLimits
-unfolding to_le from_le number_at same tabulate joined ◌▷◌ decide rotr words_of bytes_of IV SIGMA add turn G mixed round row_of rounds xor_at flagged work_vector halves F start_words zero_padded block_of chained last_of hash_words hash_of ckb_parameters ckb_hash auth_domain digest_head digest_input hashed_witness hashed_witnesses sighash_input hash_agrees cell_hash_rows empty_hash
+unfolding to_le from_le number_at same tabulate joined decide rotr words_of bytes_of IV SIGMA add turn G mixed round row_of rounds xor_at flagged work_vector halves F start_words zero_padded block_of chained last_of hash_words hash_of ckb_parameters ckb_hash auth_domain digest_head digest_input hashed_witness hashed_witnesses sighash_input hash_agrees cell_hash_rows empty_hash
 hash-limits =
     record {
       ckb-empty = refl;

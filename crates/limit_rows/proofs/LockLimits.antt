@@ -14,7 +14,7 @@ use Rattle.limit_rows.specs.MoleculeLimits.{table_with}
 use Rattle.limit_rows.specs.LockLimits.{LockLimits, script_with}
 
 pub lock-limits : LockLimits
-unfolding to_le from_le number_at bytes_at ◌▷◌ decide args_rows account_of table_rows between field3 bytes_rows bytes_place_from script_args_rows read_script_args bytes_in parted_by line_text digit_text hex_text decimal_text args_in account_in script_rows answer_word number_text digest_text fee_text line_of program_decides table_with script_with
+unfolding to_le from_le number_at bytes_at decide args_rows account_of table_rows between field3 bytes_rows bytes_place_from script_args_rows read_script_args bytes_in parted_by line_text digit_text hex_text decimal_text args_in account_in script_rows answer_word number_text digest_text fee_text line_of program_decides table_with script_with
 lock-limits =
     record {
       scripts = refl;

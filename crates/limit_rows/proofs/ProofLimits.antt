@@ -24,7 +24,7 @@ use Rattle.limit_rows.specs.MoleculeLimits.{table_with}
 use Rattle.limit_rows.specs.ProofLimits.{ProofLimits}
 
 pub proof-limits : ProofLimits
-unfolding to_le from_le number_at same every tabulate bytes_at ◌▷◌ decide is_operation capability_for has_capability witness_header_rows table_rows between field1 bytes_rows bytes_place_from witness_lock_rows read_witness_lock bytes_in verdict_at cell_hash matching matches no_cell group_witnesses group_of head_of first_witness other_witnesses lock_in count_rows first_witness_rows witness_fits threshold_of has_bit capable verifier_field verifiers request_limit_rows authenticator_rows proof_rows request_content request_of known_slot no_entry entry_for verdict approved_weight unless_failed walk_from array_of layout_bytes request_head request_lengths request_bytes last_rows total_rows fee_for head_places witness_front table_with
+unfolding to_le from_le number_at same every tabulate bytes_at decide is_operation capability_for has_capability witness_header_rows table_rows between field1 bytes_rows bytes_place_from witness_lock_rows read_witness_lock bytes_in verdict_at cell_hash matching matches no_cell group_witnesses group_of head_of first_witness other_witnesses lock_in count_rows first_witness_rows witness_fits threshold_of has_bit capable verifier_field verifiers request_limit_rows authenticator_rows proof_rows request_content request_of known_slot no_entry entry_for verdict approved_weight unless_failed walk_from array_of layout_bytes request_head request_lengths request_bytes last_rows total_rows fee_for head_places witness_front table_with
 proof-limits =
     record {
       witness-132096 = λ rest h. rw h;

@@ -13,7 +13,7 @@ use Rattle.public_key_proof.specs.Writer.{public_key_proof_writer_rows}
 use Rattle.limit_rows.specs.RequestLimits.{RequestLimits, request_front, request_places}
 
 pub request-limits : RequestLimits
-unfolding to_le from_le number_at tabulate ◌▷◌ decide is_operation request_header_rows request_field_rows request_rows request_fault request_fields_of read_request request_given request_reading request_writer_limit_rows public_key_proof_rows public_key_proof_fault public_key_proof_places read_public_key_proof public_key_proof_given public_key_proof_reading public_key_proof_writer_rows request_front request_places
+unfolding to_le from_le number_at tabulate decide is_operation request_header_rows request_field_rows request_rows request_fault request_fields_of read_request request_given request_reading request_writer_limit_rows public_key_proof_rows public_key_proof_fault public_key_proof_places read_public_key_proof public_key_proof_given public_key_proof_reading public_key_proof_writer_rows request_front request_places
 request-limits =
     record {
       of-95 = λ s h. rw h;

@@ -12,7 +12,7 @@ use Rattle.scene_table.specs.Scene.{cell_bytes, cell_lengths, bytes_line, hash_l
 use Rattle.limit_rows.specs.SceneLimits.{SceneLimits, every_kind, every_scene}
 
 pub scene-limits : SceneLimits
-unfolding same every joined ◌▷◌ decide before pieces hex_val hex_ok hex_bytes decimal number_of decimal_of number_in kind_of follows line_kind line_fields forms_ok field_bytes line_bytes line_entries line_put_as line_rows rows_of_line line_put scene_end_rows lines_rows lines_put reader_start scene_limit_rows scene_rows read_of word_of kind_of_line fields_of_line cell_of decimal_field input_of output_of bytes_field fields_of_kind only_field scene_of cell_bytes cell_lengths bytes_line hash_line input_line output_line cell_line digits_line lines_of scene_bytes counts_of records_from scene_numbers every_kind every_scene
+unfolding same every joined decide before pieces hex_val hex_ok hex_bytes decimal number_of decimal_of number_in kind_of follows line_kind line_fields forms_ok field_bytes line_bytes line_entries line_put_as line_rows rows_of_line line_put scene_end_rows lines_rows lines_put reader_start scene_limit_rows scene_rows read_of word_of kind_of_line fields_of_line cell_of decimal_field input_of output_of bytes_field fields_of_kind only_field scene_of cell_bytes cell_lengths bytes_line hash_line input_line output_line cell_line digits_line lines_of scene_bytes counts_of records_from scene_numbers every_kind every_scene
 scene-limits =
     record {
       of-1048576 = λ scene h. rw h;

@@ -7,7 +7,7 @@ use Rattle.state_transition.specs.Transition.{wait_rows}
 use Rattle.limit_rows.specs.SinceLimits.{SinceLimits}
 
 pub since-limits : SinceLimits
-unfolding ◌▷◌ decide epoch_of epoch_well_formed divisor parts epoch_leb since_fields in_epochs well_formed value_leb reached wait_rows
+unfolding decide epoch_of epoch_well_formed divisor parts epoch_leb since_fields in_epochs well_formed value_leb reached wait_rows
 since-limits =
     record {
       fields = refl;

@@ -11,7 +11,7 @@ use Rattle.account_witness.specs.Witness.{witness_rows, witness_fault, read_witn
 use Rattle.limit_rows.specs.WitnessLimits.{WitnessLimits, witness_front, proof_with, proofs_up_to, witness_places}
 
 pub witness-limits : WitnessLimits
-unfolding from_le number_at tabulate ◌▷◌ decide is_operation witness_header_rows witness_header_of read_witness_header proof_given proofs_of witness_reading proof_layout_rows proof_at proofs_layout_rows witness_rows witness_fault read_witness witness_front proof_with proofs_up_to witness_places
+unfolding from_le number_at tabulate decide is_operation witness_header_rows witness_header_of read_witness_header proof_given proofs_of witness_reading proof_layout_rows proof_at proofs_layout_rows witness_rows witness_fault read_witness witness_front proof_with proofs_up_to witness_places
 witness-limits =
     record {
       of-15 = λ s h. rw h;

@@ -1,9 +1,10 @@
 -- The account state: 01, "State header" and "Each entry", 02, changes 6 and 10, computed from the definitions.
+use Rattle.protocol.specs.Rows.{check_number}
 use Rattle.std.specs.Prelude.{ℕ, ◌+◌, ◌≡◌, List, [], ◌∷◌, ◌++◌, map, length, replicate, Ok}
 use Rattle.octets.specs.Le.{to_le}
 use Rattle.octets.specs.Lists.{tabulate}
 use Rattle.account_state.specs.Reading.{entry_of, entries_of}
-use Rattle.account_state.specs.State.{read_state_header, read_state, state_header_number, state_number}
+use Rattle.account_state.specs.State.{read_state_header, read_state}
 
 -- a header of 32 bytes, `CKA` and a letter: version, flags, header length, spend, rotate and recovery thresholds, count, byte 23,
 -- recovery_since
@@ -31,10 +32,10 @@ entry_with len slot algorithm capabilities weight hash_type abi key aux =
 
 -- the numbers of the two readers
 abbrev head_number : List ℕ → ℕ
-head_number s = state_header_number (read_state_header s)
+head_number s = check_number (read_state_header s)
 
 abbrev read_number : List ℕ → ℕ
-read_number s = state_number (read_state s)
+read_number s = check_number (read_state s)
 
 -- a header by its letter, version, flags, header length, byte 23 or count, the others as in the smallest state
 abbrev by_letter : ℕ → ℕ

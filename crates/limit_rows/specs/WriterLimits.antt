@@ -2,7 +2,6 @@
 use Rattle.std.specs.Prelude.{ℕ, ◌+◌, ◌≡◌, List, [], ◌∷◌, ◌++◌, map, length, replicate, Ok}
 use Rattle.octets.specs.Lists.{tabulate}
 use Rattle.protocol.specs.Rows.{decide, check_number}
-use Rattle.protocol.specs.Write.{write_number}
 use Rattle.account_state_writer.specs.Writer.{slice_rows, state_from, state_written, state_stored}
 use Rattle.account_witness_writer.specs.Writer.{witness_writer_rows, witness_written, witness_stored}
 
@@ -27,7 +26,7 @@ sliced_state =
 -- the writer's number, by flags, capabilities, length of aux, and a buffer of `room` bytes
 abbrev state_writer_number : ℕ → ℕ → ℕ → ℕ → ℕ
 state_writer_number flags capabilities aux room =
-    write_number
+    check_number
     (state_written (state_from flags 0 1 1 0 0 (0 ∷ 1 ∷ capabilities ∷ 1 ∷ aux ∷ []) ((0 ∷ 1 ∷ []) ++ replicate (64 + aux) 0))
     (0 ∷ 1 ∷ capabilities ∷ 1 ∷ aux ∷ []) ((0 ∷ 1 ∷ []) ++ replicate (64 + aux) 0) (replicate room 0))
 
@@ -37,7 +36,7 @@ slices_number n bytes = check_number (decide (Ok tt) (slice_rows (0 ∷ 1 ∷ 3 
 
 -- the witness writer's number for n proofs of one byte, and a buffer of `room` bytes
 abbrev witness_writer_number : ℕ → ℕ → ℕ → ℕ
-witness_writer_number operation n room = write_number (witness_written operation (tabulate (λ i. i) n) (replicate n 1) (replicate n 0) (replicate room 0))
+witness_writer_number operation n room = check_number (witness_written operation (tabulate (λ i. i) n) (replicate n 1) (replicate n 0) (replicate room 0))
 
 abbrev long_number : ℕ → List ℕ → ℕ
 long_number n bytes = check_number (decide (Ok tt) (witness_writer_rows 1 (0 ∷ []) (n ∷ []) bytes))

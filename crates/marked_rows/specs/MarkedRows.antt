@@ -3,8 +3,8 @@
 use Rattle.std.specs.Prelude.{ℕ, ◌≡◌, List, [], ◌∷◌, ◌++◌, length, replicate, Ok}
 use Rattle.protocol.specs.Rows.{check_number}
 use Rattle.molecule.specs.Canonical.{canonical_written, canonical_stored}
-use Rattle.protocol.specs.Args.{read_args, args_number}
-use Rattle.account_state.specs.State.{read_state, state_number}
+use Rattle.protocol.specs.Args.{read_args}
+use Rattle.account_state.specs.State.{read_state}
 use Rattle.account_witness.specs.Witness.{read_witness}
 use Rattle.public_key_proof.specs.Reader.{read_public_key_proof}
 
@@ -35,19 +35,19 @@ lock_of_none = 0x14 ∷ 0 ∷ 0 ∷ 0 ∷ 0x10 ∷ 0 ∷ 0 ∷ 0 ∷ 0x14 ∷ 0 
 
 pub record MarkedRows : Type 0 where
   -- "args of 32 bytes 20, of 33 starting 0x02 32"
-  pub args-of-32 : (s : List ℕ) → length s ≡ 32 → args_number (read_args s) ≡ 20
-  pub args-version : (id : List ℕ) → length id ≡ 32 → args_number (read_args (2 ∷ id)) ≡ 32
+  pub args-of-32 : (s : List ℕ) → length s ≡ 32 → check_number (read_args s) ≡ 20
+  pub args-version : (id : List ℕ) → length id ≡ 32 → check_number (read_args (2 ∷ id)) ≡ 32
   -- "state of 31 bytes 21"
-  pub state-of-31 : (s : List ℕ) → length s ≡ 31 → state_number (read_state s) ≡ 21
+  pub state-of-31 : (s : List ℕ) → length s ≡ 31 → check_number (read_state s) ≡ 21
   -- "smallest state with thresholds 1, 1, 0 and weight 1, capabilities 3, accepted"
-  pub smallest : state_number (read_state (smallest_state 1 0 1 0)) ≡ 0
+  pub smallest : check_number (read_state (smallest_state 1 0 1 0)) ≡ 0
   -- "The smallest state has 113 bytes."
   pub smallest-length : length (smallest_state 1 0 1 0) ≡ 113
   -- "spend threshold 2 there 38; version 2 32; recovery_since 1 there 21; flags 4 there 21"
-  pub spend-2 : state_number (read_state (smallest_state 1 0 2 0)) ≡ 38
-  pub version-2 : state_number (read_state (smallest_state 2 0 1 0)) ≡ 32
-  pub since-1 : state_number (read_state (smallest_state 1 0 1 1)) ≡ 21
-  pub flags-4 : state_number (read_state (smallest_state 1 4 1 0)) ≡ 21
+  pub spend-2 : check_number (read_state (smallest_state 1 0 2 0)) ≡ 38
+  pub version-2 : check_number (read_state (smallest_state 2 0 1 0)) ≡ 32
+  pub since-1 : check_number (read_state (smallest_state 1 0 1 1)) ≡ 21
+  pub flags-4 : check_number (read_state (smallest_state 1 4 1 0)) ≡ 21
   -- "proof `01 01 00 01 00 aa bb` read, without `bb` 36"
   pub proof-read : read_public_key_proof (0x01 ∷ 0x01 ∷ 0x00 ∷ 0x01 ∷ 0x00 ∷ 0xaa ∷ 0xbb ∷ []) ≡ Ok (record { public_key = 5; public_key_len = 1; signature = 6; signature_len = 1 })
   pub proof-short : check_number (read_public_key_proof (0x01 ∷ 0x01 ∷ 0x00 ∷ 0x01 ∷ 0x00 ∷ 0xaa ∷ [])) ≡ 36

@@ -1,9 +1,8 @@
 -- Args: accepted exactly where every check passes, refused exactly with the first that fails; and where they are accepted exactly
 -- one account has them as its args.
 -- Assumes nothing.
-use Rattle.std.specs.Prelude.{Err, Ok, Result}
-use Rattle.protocol.specs.declared.args.AccountLockArgs.{AccountLockArgs}
-use mathlib.Core.Path.{◌≡◌, refl, sym, ap, ◌∙◌}
+use Rattle.std.specs.Prelude.{Err, Ok}
+use mathlib.Core.Path.{◌≡◌, sym, ap, ◌∙◌}
 use mathlib.Core.List.{List, [], ◌∷◌}
 use mathlib.Core.Logic.{◌↔◌}
 use Prim.Native.Nat.{ℕ, suc, ◌≤◌}
@@ -13,32 +12,21 @@ use lib.ListN.{length, drop}
 use lib.Seq.{take_all}
 use Rattle.octets.specs.Le.{number_at}
 use Rattle.octets.proofs.LeLaws.{number-one}
-use Rattle.protocol.specs.Rows.{AllPass, FirstFailed, Check}
-use Rattle.protocol.specs.Args.{args_rows, args_answer, read_args, args_bytes, account_of}
+use Rattle.protocol.specs.Rows.{AllPass, FirstFailed}
+use Rattle.protocol.specs.Args.{args_rows, read_args, args_bytes, account_of}
 use Rattle.protocol.specs.Reading.{OneReading}
 use Rattle.protocol.specs.declared.error.ProtocolError.{ProtocolError}
-use Rattle.protocol.proofs.Answers.{answer-accepts, answer-refuses}
-
--- what the checks found, by the answer
-abbrev pub args_found : Result AccountLockArgs ProtocolError → Check
-args_found (Ok a) = (Ok tt)
-args_found (Err e) = Err e
-
--- which is what it was made from
-args-back : (k : Check) → args_found (args_answer k) ≡ k
-unfolding args_answer
-args-back (Ok _) = refl
-args-back (Err e) = refl
+use Rattle.protocol.proofs.Answers.{then-accepts, then-refuses}
 
 -- accepted exactly where every check passes
 pub args-accepts : (s : List ℕ) → (read_args s ≡ Ok (record { version = 1; account_id = 1 })) ↔ AllPass (args_rows s)
-unfolding read_args args_answer
-args-accepts s = answer-accepts args_answer args_found args-back (args_rows s)
+unfolding read_args
+args-accepts s = then-accepts _ (args_rows s)
 
 -- refused exactly with the first check that fails
 pub args-refuses : (s : List ℕ) (e : ProtocolError) → (read_args s ≡ Err e) ↔ FirstFailed (args_rows s) e
-unfolding read_args args_answer
-args-refuses s e = answer-refuses args_answer args_found args-back (args_rows s) e
+unfolding read_args
+args-refuses s e = then-refuses _ (args_rows s) e
 
 -- the one account
 pub args_one : (s : List ℕ) → AllPass (args_rows s) → OneReading (λ (a : List ℕ). length a ≡ 32) args_bytes s (account_of s)

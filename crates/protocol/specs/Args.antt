@@ -4,7 +4,7 @@ use Rattle.protocol.specs.declared.error.ProtocolError.{ProtocolError}
 use Rattle.protocol.specs.declared.args.AccountLockArgs.{AccountLockArgs}
 use Rattle.octets.specs.Le.{number_at}
 use Rattle.protocol.specs.Errors.{error_number}
-use Rattle.protocol.specs.Rows.{Row, row, decide, Check}
+use Rattle.protocol.specs.Rows.{Row, row, decide, ◌then◌}
 use Rattle.protocol.specs.declared.error.ProtocolError.TheVariants.{InvalidArgs, UnsupportedVersion}
 
 abbrev pub args_version_of : List ℕ → ℕ
@@ -14,12 +14,8 @@ unfoldable pub args_rows : List ℕ → List Row
 args_rows s = row (eqb (length s) 33) InvalidArgs ∷ row (eqb (args_version_of s) 1) UnsupportedVersion ∷ []
 
 -- the account id stands at place 1
-unfoldable pub args_answer : Check → Result AccountLockArgs ProtocolError
-args_answer (Ok _) = Ok (record { version = 1; account_id = 1 })
-args_answer (Err e) = Err e
-
 unfoldable pub read_args : List ℕ → Result AccountLockArgs ProtocolError
-read_args s = args_answer (decide (Ok tt) (args_rows s))
+read_args s = decide (Ok tt) (args_rows s) then Ok (record { version = 1; account_id = 1 })
 
 -- the reading: the account id. Its written form:
 unfoldable pub args_bytes : List ℕ → List ℕ

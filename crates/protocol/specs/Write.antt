@@ -3,7 +3,7 @@
 use Rattle.std.specs.Prelude.{ℕ, List, [], ◌∷◌, ◌++◌, leb, length, drop, Err, Ok, Result}
 use Rattle.protocol.specs.declared.error.ProtocolError.{ProtocolError}
 use Rattle.protocol.specs.Errors.{error_number}
-use Rattle.protocol.specs.Rows.{Row, row, decide, Check}
+use Rattle.protocol.specs.Rows.{Row, row, decide, Check, ◌then◌}
 use Rattle.protocol.specs.declared.error.ProtocolError.TheVariants.{BufferTooShort}
 
 -- a writer's checks: its refusals, then room for its bytes
@@ -11,8 +11,7 @@ unfoldable pub write_fault : List Row → ℕ → ℕ → Check
 write_fault rows total room = decide (Ok tt) (rows ++ (row (leb total room) BufferTooShort ∷ []))
 
 unfoldable pub write_answer : Check → ℕ → Result ℕ ProtocolError
-write_answer (Ok _) total = Ok total
-write_answer (Err e) total = Err e
+write_answer found total = found then Ok total
 
 -- the buffer afterwards
 unfoldable pub after_write : Check → List ℕ → List ℕ → List ℕ

@@ -46,7 +46,7 @@ pub fn check_args(data: &[u8]) -> Result<(), ProtocolError>
 
 impl AccountLockArgs {
     // The version and the place of the account, or 20 or 32.
-    #[tactic(auto, unfolding(crate::specs::Args::args_answer, crate::specs::Args::read_args))]
+    #[tactic(auto, unfolding(crate::specs::Args::read_args))]
     pub fn parse(data: &[u8]) -> Result<AccountLockArgs, ProtocolError>
         ensures { result ≡ read_args «data».now }
     {
