@@ -105,9 +105,6 @@ or_walked (Err e) w = refused (Err e)
 unfoldable pub walk_result : Scene → ℕ → Result
 walk_result s room = walked (walk_lock (context_of s room) (witness_lock s)) s
 
-unfoldable pub late_result : Scene → ℕ → Result
-late_result s room = or_walked (decide (Ok tt) (late_rows s)) (walk_result s room)
-
 unfoldable pub lock_scene : Scene → ℕ → Result
 lock_scene s room = or_walked (decide (Ok tt) (early_rows s)) (walk_result s room)
 

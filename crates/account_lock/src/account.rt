@@ -1,23 +1,35 @@
 // The account's states and its proofs, once the script and the group's first witness pass.
-ghost use Rattle.std.specs.Prelude.{◌≡◌, Ok};
+ghost use Rattle.std.specs.Prelude.{◌≡◌, IfOk, Ok};
 ghost use Rattle.protocol.specs.Rows.{decide};
 ghost use Rattle.scene_table.specs.Lent.{scene_in};
-ghost use Rattle.account_lock.specs.Lock.{states_rows, late_result, walk_result, digest};
-ghost use Rattle.account_lock.specs.Calls.{ScriptAndGroupPass, DigestInputs, WalkInputs, StatesFound, ReturnsResult, StoresRequests};
+ghost use Rattle.account_lock.specs.Lock.{states_rows, late_rows, walk_result, digest};
+ghost use Rattle.account_lock.specs.Calls.{ScriptAndGroupPass, DigestInputs, WalkInputs, StatesFound, found_by, ReturnsResult, StoresRequests};
 
-use crate::answer::{LockAnswer, refused};
+use crate::answer::LockAnswer;
 use account_state::sequence_of;
 use account_witness::{operation_of, witness_sequence_of};
 use authorization::digest_of;
-use capacity::{check_totals, fee_where};
+use capacity::check_totals;
 use group_sighash::{check_others, sighash_with};
 use molecule::lock_of;
 use octets::array_32;
 use proof_walk::{Authorization, walk_proofs};
 use protocol::ProtocolError;
-use state_transition::{ResolvedState, check_data, current_state, resolve_state, state_since, successor_state, validate_transition};
+use state_transition::{
+    ResolvedState, check_data, current_state, resolve_state, state_since, successor_state,
+    validate_transition,
+};
+
+// What the proofs are walked with: the witness lock, the account's current state, and what every request is for.
+#[derive(Drop)]
+pub(crate) struct Account<'a> {
+    lock: &'a [u8],
+    current: &'a [u8],
+    authorization: Authorization,
+}
 
 // The digest that every request carries.
+#[tactic(auto, using(crate::proofs::LockLaws::digests), unfolding(crate::specs::Lock::digest, group_sighash::specs::GroupSighash::group_sighash))]
 fn lock_digest(
     table: &[u32],
     store: &[u8],
@@ -34,38 +46,8 @@ fn lock_digest(
     digest_of(operation, account, sequence_of(current), current, sighash)
 }
 
-// The proofs, walked against the current state, and then the totals of the capacities.
-fn walk_account(
-    table: &[u32],
-    store: &[u8],
-    lock: &[u8],
-    current: &[u8],
-    authorization: Authorization,
-    answer: &mut [u8],
-) -> LockAnswer
-    requires { WalkInputs lock.now current.now authorization (scene_in table.now store.now) }
-    ensures returns_result { ReturnsResult walk_result table.now store.now answer.old result }
-    ensures stores_requests { StoresRequests walk_result table.now store.now answer.old answer.new }
-{
-    let digest = authorization.digest;
-    let walked = walk_proofs(table, store, current, lock, authorization, answer);
-    let weighed = walked.found;
-    let count = walked.count;
-    let length = walked.length;
-    let totals = check_totals(table, store);
-    let covered = totals.found;
-    let found = weighed.and(covered);
-    LockAnswer {
-        found,
-        count,
-        length,
-        reached: true,
-        digest,
-        fee: fee_where(found, totals.fee),
-    }
-}
-
 // The rows of the states, at the indices that were found for them.
+#[tactic(auto, using(protocol::proofs::AllPass::deciding), unfolding(crate::specs::Lock::states_rows, crate::specs::Lock::witness_sequence))]
 fn check_states(
     table: &[u32],
     store: &[u8],
@@ -89,32 +71,59 @@ fn check_states(
     )
 }
 
-// The account's states, the other witnesses, and then the proofs.
-pub(crate) fn lock_account(
+// The account's states and the other witnesses, and then what the proofs are walked with.
+#[tactic(auto, using(crate::proofs::LockLaws::finds))]
+pub(crate) fn find_account<'a>(
     table: &[u32],
-    store: &[u8],
+    store: &'a [u8],
     account_id: &[u8],
-    witness: &[u8],
-    answer: &mut [u8],
-) -> LockAnswer
+    witness: &'a [u8],
+) -> Result<Account<'a>, ProtocolError>
     requires { ScriptAndGroupPass account_id.now witness.now (scene_in table.now store.now) }
-    ensures returns_result { ReturnsResult late_result table.now store.now answer.old result }
-    ensures stores_requests { StoresRequests late_result table.now store.now answer.old answer.new }
+    ensures found { found_by result ≡ decide (Ok tt) (late_rows (scene_in table.now store.now)) }
+    ensures inputs { IfOk result (λ a. WalkInputs a.lock.now a.current.now a.authorization (scene_in table.now store.now)) }
 {
     let lock = lock_of(witness);
     let operation = operation_of(lock);
-    let state = resolve_state(table, store, operation, account_id);
+    let state = resolve_state(table, store, operation, account_id)?;
     let current = current_state(table, store, operation, state.current);
-    let found = state.found;
-    match found
-        .and(check_states(table, store, lock, operation, current, state))
-        .and(check_others(table, store))
-    {
-        Err(error) => refused(error),
-        Ok(()) => {
-            let digest = lock_digest(table, store, account_id, witness, operation, current);
-            let authorization = Authorization { operation, digest };
-            walk_account(table, store, lock, current, authorization, answer)
-        }
+    check_states(table, store, lock, operation, current, state)?;
+    check_others(table, store)?;
+    let digest = lock_digest(table, store, account_id, witness, operation, current);
+    let authorization = Authorization { operation, digest };
+    Ok(Account {
+        lock,
+        current,
+        authorization,
+    })
+}
+
+// The proofs, walked against the current state, and then the totals of the capacities.
+#[tactic(auto, using(crate::proofs::LockLaws::walks), unfolding(crate::specs::Lock::walk_result, crate::specs::Lock::walked, crate::specs::Lock::answer_of, crate::specs::Lock::context_of, proof_walk::specs::Answer::walk_context, proof_walk::specs::Answer::scene_deps, proof_walk::specs::Answer::proof_walk_answer))]
+pub(crate) fn walk_account(
+    table: &[u32],
+    store: &[u8],
+    account: Account,
+    answer: &mut [u8],
+) -> LockAnswer
+    requires { WalkInputs account.lock.now account.current.now account.authorization (scene_in table.now store.now) }
+    ensures returns_result { ReturnsResult walk_result table.now store.now answer.old result }
+    ensures stores_requests { StoresRequests walk_result table.now store.now answer.old answer.new }
+{
+    let Account {
+        lock,
+        current,
+        authorization,
+    } = account;
+    let digest = authorization.digest;
+    let walked = walk_proofs(table, store, current, lock, authorization, answer);
+    let fee = walked.found.and(check_totals(table, store));
+    LockAnswer {
+        found: fee.and(Ok(())),
+        count: walked.count,
+        length: walked.length,
+        reached: true,
+        digest,
+        fee: fee.unwrap_or(0),
     }
 }

@@ -17,6 +17,7 @@ pub struct LockAnswer {
 }
 
 // A refusal before the digest is reached.
+#[tactic(auto, unfolding(crate::specs::Lock::answer_of, crate::specs::Lock::refused))]
 pub fn refused(error: ProtocolError) -> LockAnswer
     ensures { result ≡ lock.answer_of (lock.refused (Err error)) }
 {

@@ -5,11 +5,14 @@ mod answer; // answer.rt
 mod script; // script.rt
 mod account; // account.rt
 
-ghost use Rattle.account_lock.specs.Lock.{lock_scene};
+ghost use Rattle.std.specs.Prelude.{◌≡◌, IfOk, Ok};
+ghost use Rattle.protocol.specs.Rows.{decide};
+ghost use Rattle.scene_table.specs.Lent.{scene_in};
+ghost use Rattle.account_lock.specs.Lock.{early_rows, lock_scene};
 ghost use Rattle.account_lock.specs.Decides.{LockOutcome, LockRequests, LockDecision};
-ghost use Rattle.account_lock.specs.Calls.{ReturnsResult, StoresRequests};
+ghost use Rattle.account_lock.specs.Calls.{WalkInputs, found_by, ReturnsResult, StoresRequests};
 
-use self::account::lock_account;
+use self::account::{Account, find_account, walk_account};
 pub use self::answer::{LockAnswer, refused};
 use self::script::check_script;
 use cell_hashes::check_hashes;
@@ -19,19 +22,29 @@ use octets::part_at;
 use protocol::{ProtocolError, account_of};
 use scene_table::{script, table_valid};
 
+// Every check before the proofs, and then what the proofs are walked with.
+#[tactic(auto, using(crate::proofs::LockLaws::checks))]
+fn check_scene<'a>(table: &[u32], store: &'a [u8]) -> Result<Account<'a>, ProtocolError>
+    ensures found { found_by result ≡ decide (Ok tt) (early_rows (scene_in table.now store.now)) }
+    ensures inputs { IfOk result (λ a. WalkInputs a.lock.now a.current.now a.authorization (scene_in table.now store.now)) }
+{
+    check_hashes(table, store)?;
+    let script = part_at(store, script(table));
+    check_script(script)?;
+    let witness = first_witness(table, store);
+    check_first_witness(witness)?;
+    find_account(table, store, account_of(args_of(script)), witness)
+}
+
 // The lock over a transaction whose table is one that a scene, its length aside, leaves.
+#[tactic(auto, unfolding(crate::specs::Lock::lock_scene, crate::specs::Lock::or_walked, crate::specs::Lock::refused, decision::specs::Walk::answered))]
 fn lock_scene(table: &[u32], store: &[u8], answer: &mut [u8]) -> LockAnswer
     ensures returns_result { ReturnsResult lock_scene table.now store.now answer.old result }
     ensures stores_requests { StoresRequests lock_scene table.now store.now answer.old answer.new }
 {
-    let script = part_at(store, script(table));
-    let witness = first_witness(table, store);
-    match check_hashes(table, store)
-        .and(check_script(script))
-        .and(check_first_witness(witness))
-    {
+    match check_scene(table, store) {
+        Ok(account) => walk_account(table, store, account, answer),
         Err(error) => refused(error),
-        Ok(()) => lock_account(table, store, account_of(args_of(script)), witness, answer),
     }
 }
 

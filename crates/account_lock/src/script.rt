@@ -8,6 +8,7 @@ use protocol::{ProtocolError, check_args, require};
 
 const MAX_SCRIPT: usize = 512;
 
+#[tactic(auto, using(protocol::proofs::AllPass::deciding, crate::proofs::LockLaws::args_found), unfolding(protocol::specs::Rows::decide, crate::specs::Lock::script_rows))]
 pub(crate) fn check_script(script: &[u8]) -> Result<(), ProtocolError>
     ensures { result ≡ decide (Ok tt) (script_rows script.now) }
 {
