@@ -3,3 +3,4 @@ pub mod Lent
 pub mod Valid
 pub mod Places
 pub mod RecordsWalk
+pub mod Slices
