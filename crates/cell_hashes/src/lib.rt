@@ -3,7 +3,7 @@
 
 ghost use Rattle.std.specs.Prelude.{◌≡◌, Ok};
 ghost use Rattle.protocol.specs.Rows.{decide};
-ghost use Rattle.scene_table.specs.Lent.{scene_in};
+ghost use Rattle.scene_table.specs.Slices.{scene_of};
 ghost use Rattle.scene_table.specs.Places.{cell_in};
 ghost use Rattle.cell_search.specs.Search.{cells_of};
 ghost use Rattle.cell_hashes.specs.Hashes.{hash_agrees, cell_hash_rows, cells_hash_rows, hash_rows};
@@ -12,7 +12,7 @@ use blake2b::ckb_hash;
 use cell_search::{Source, cell_count, cell_places};
 use octets::{part_at, same_bytes};
 use protocol::{ProtocolError, require};
-use scene_table::CellPlaces;
+use scene_table::{CellPlaces, LentSlices};
 
 // Whether there are no bytes, or the hash is CKB's hash of them.
 #[tactic(auto, unfolding(crate::specs::Hashes::hash_agrees))]
@@ -38,21 +38,21 @@ fn check_cell(store: &[u8], cell: CellPlaces) -> Result<(), ProtocolError>
 
 // The hashes of the cells of a list, up to the first that differs.
 #[tactic(auto, using(crate::proofs::HashLaws::cells_found), unfolding(protocol::specs::Rows::decide))]
-fn check_cells(table: &[u32], store: &[u8], source: Source) -> Result<(), ProtocolError>
-    ensures { result ≡ decide (Ok tt) (cells_hash_rows (cells_of source (scene_in table.now store.now))) }
+fn check_cells(scene: &LentSlices, source: Source) -> Result<(), ProtocolError>
+    ensures { result ≡ decide (Ok tt) (cells_hash_rows (cells_of source (scene_of scene.now))) }
 {
-    for i in 0..cell_count(table, source) {
-        check_cell(store, cell_places(table, source, i))?;
+    for i in 0..cell_count(scene, source) {
+        check_cell(scene.store, cell_places(scene, source, i))?;
     }
     Ok(())
 }
 
 // The hashes of all cells: 40 where one differs from what the cell holds.
 #[tactic(auto, using(protocol::proofs::AllPass::deciding), unfolding(crate::specs::Hashes::hash_rows))]
-pub fn check_hashes(table: &[u32], store: &[u8]) -> Result<(), ProtocolError>
-    ensures { result ≡ decide (Ok tt) (hash_rows (scene_in table.now store.now)) }
+pub fn check_hashes(scene: &LentSlices) -> Result<(), ProtocolError>
+    ensures { result ≡ decide (Ok tt) (hash_rows (scene_of scene.now)) }
 {
-    check_cells(table, store, Source::Input)?;
-    check_cells(table, store, Source::Output)?;
-    check_cells(table, store, Source::CellDep)
+    check_cells(scene, Source::Input)?;
+    check_cells(scene, Source::Output)?;
+    check_cells(scene, Source::CellDep)
 }

@@ -1,13 +1,13 @@
 // The cells of a transaction, list by list.
 ghost use Rattle.std.specs.Prelude.{◌≡◌};
-ghost use Rattle.scene_table.specs.Lent.{scene_in};
+ghost use Rattle.scene_table.specs.Slices.{scene_of};
 ghost use Rattle.scene_table.specs.Places as places;
 ghost use Rattle.cell_search.specs.Search.{cells_of, cell_at, cell_hash};
 ghost use Rattle.cell_search.specs.Cells.{cell_count, source_places, places_within};
 
 use octets::{Place, part_at};
 use scene_table::{
-    CellPlaces, dep_cell, dep_count, input_cell, input_count, output_cell, output_count,
+    CellPlaces, LentSlices, dep_cell, dep_count, input_cell, input_count, output_cell, output_count,
 };
 
 // Which list of the transaction.
@@ -27,53 +27,52 @@ pub enum CellField {
 
 // How many cells a list has.
 #[tactic(auto, unfolding(crate::specs::Cells::cell_count))]
-pub fn cell_count(table: &[u32], source: Source) -> u32
-    ensures { result ≡ cell_count source table.now }
+pub fn cell_count(scene: &LentSlices, source: Source) -> u32
+    ensures { result ≡ cell_count source scene.now.table }
 {
     match source {
-        Source::Input => input_count(table),
-        Source::Output => output_count(table),
-        Source::CellDep => dep_count(table),
+        Source::Input => input_count(scene.table),
+        Source::Output => output_count(scene.table),
+        Source::CellDep => dep_count(scene.table),
     }
 }
 
 // The places of a cell's fields, by its record.
 #[tactic(auto, unfolding(crate::specs::Cells::source_places))]
-pub fn cell_places(table: &[u32], source: Source, i: u32) -> CellPlaces
-    ensures { result ≡ source_places source table.now i }
+pub fn cell_places(scene: &LentSlices, source: Source, i: u32) -> CellPlaces
+    ensures { result ≡ source_places source scene.now.table i }
 {
     match source {
-        Source::Input => input_cell(table, i),
-        Source::Output => output_cell(table, i),
-        Source::CellDep => dep_cell(table, i),
+        Source::Input => input_cell(scene.table, i),
+        Source::Output => output_cell(scene.table, i),
+        Source::CellDep => dep_cell(scene.table, i),
     }
 }
 
 // A hash of the cell whose record is there.
 #[tactic(auto, unfolding(crate::specs::Search::cell_hash, scene_table::specs::Lent::cell_from))]
 pub(crate) fn cell_hash<'a>(
-    table: &[u32],
-    store: &'a [u8],
+    scene: &LentSlices<'a>,
     source: Source,
     field: CellField,
     i: u32,
 ) -> &'a [u8]
-    ensures { result.now ≡ cell_hash field (places.cell_in store.now (source_places source table.now i)) }
+    ensures { result.now ≡ cell_hash field (places.cell_in scene.now.store (source_places source scene.now.table i)) }
 {
-    let places = cell_places(table, source, i);
+    let places = cell_places(scene, source, i);
     match field {
-        CellField::TypeHash => part_at(store, places.type_hash),
-        CellField::DataHash => part_at(store, places.data_hash),
+        CellField::TypeHash => part_at(scene.store, places.type_hash),
+        CellField::DataHash => part_at(scene.store, places.data_hash),
     }
 }
 
 // The places of a cell's fields, empty ones where the list has no such cell.
 #[tactic(auto, unfolding(crate::specs::Cells::places_within, crate::specs::Cells::no_places))]
-fn places_within(table: &[u32], source: Source, i: u32) -> CellPlaces
-    ensures { result ≡ places_within source table.now i }
+fn places_within(scene: &LentSlices, source: Source, i: u32) -> CellPlaces
+    ensures { result ≡ places_within source scene.now.table i }
 {
-    if i < cell_count(table, source) {
-        return cell_places(table, source, i);
+    if i < cell_count(scene, source) {
+        return cell_places(scene, source, i);
     }
     let none = Place { start: 0, len: 0 };
     CellPlaces {
@@ -86,18 +85,18 @@ fn places_within(table: &[u32], source: Source, i: u32) -> CellPlaces
 
 // The data of a cell, nothing where the list has no such cell.
 #[tactic(auto, using(crate::proofs::CellLaws::content_within))]
-pub fn cell_content<'a>(table: &[u32], store: &'a [u8], source: Source, i: u32) -> &'a [u8]
-    ensures { result.now ≡ (cell_at (cells_of source (scene_in table.now store.now)) i).content }
+pub fn cell_content<'a>(scene: &LentSlices<'a>, source: Source, i: u32) -> &'a [u8]
+    ensures { result.now ≡ (cell_at (cells_of source (scene_of scene.now)) i).content }
 {
-    let places = places_within(table, source, i);
-    part_at(store, places.content)
+    let places = places_within(scene, source, i);
+    part_at(scene.store, places.content)
 }
 
 // The type script of a cell, nothing where it has none or the list has no such cell.
 #[tactic(auto, using(crate::proofs::CellLaws::type_script_within))]
-pub fn cell_type_script<'a>(table: &[u32], store: &'a [u8], source: Source, i: u32) -> &'a [u8]
-    ensures { result.now ≡ (cell_at (cells_of source (scene_in table.now store.now)) i).type_script }
+pub fn cell_type_script<'a>(scene: &LentSlices<'a>, source: Source, i: u32) -> &'a [u8]
+    ensures { result.now ≡ (cell_at (cells_of source (scene_of scene.now)) i).type_script }
 {
-    let places = places_within(table, source, i);
-    part_at(store, places.type_script)
+    let places = places_within(scene, source, i);
+    part_at(scene.store, places.type_script)
 }

@@ -1,10 +1,11 @@
 // The search for the cells of a list that have a hash.
 ghost use Rattle.std.specs.Prelude.{◌≡◌};
-ghost use Rattle.scene_table.specs.Lent.{scene_in};
+ghost use Rattle.scene_table.specs.Slices.{scene_of};
 ghost use Rattle.cell_search.specs.Search.{cells_of, cell_search, is_missing, is_one, is_several, index_of};
 
 use crate::cells::{CellField, Source, cell_count, cell_hash};
 use octets::same_bytes;
+use scene_table::LentSlices;
 
 // None, the index of the one, or several.
 #[derive(Clone, Copy, Debug, PartialEq, Eq)]
@@ -16,18 +17,12 @@ pub enum Search {
 
 // The search leaves its loop at the second match.
 #[tactic(auto, using(crate::proofs::CellLaws::searching), unfolding(crate::specs::Search::cell_search, crate::proofs::CellLaws::places_of))]
-pub fn search_cells(
-    table: &[u32],
-    store: &[u8],
-    source: Source,
-    field: CellField,
-    hash: &[u8],
-) -> Search
-    ensures { result ≡ cell_search field hash.now (cells_of source (scene_in table.now store.now)) }
+pub fn search_cells(scene: &LentSlices, source: Source, field: CellField, hash: &[u8]) -> Search
+    ensures { result ≡ cell_search field hash.now (cells_of source (scene_of scene.now)) }
 {
     let mut found = Search::Missing;
-    for i in 0..cell_count(table, source) {
-        if same_bytes(cell_hash(table, store, source, field, i), hash) {
+    for i in 0..cell_count(scene, source) {
+        if same_bytes(cell_hash(scene, source, field, i), hash) {
             found = match found {
                 Search::Missing => Search::One(i),
                 _ => return Search::Several,

@@ -18,6 +18,7 @@ use protocol::{
     VERIFIER_REQUEST_HEADER_LEN, require,
 };
 use quorum::{entry_in, find_authenticator, is_capable};
+use scene_table::LentSlices;
 use verifier_request::{RequestContent, encode_verifier_request};
 
 // Which hash of a dep names the verifier.
@@ -33,19 +34,18 @@ fn verifier_field(hash_type: u8) -> CellField
 
 // Whether just one dep is the verifier of the entry at the front of the bytes.
 #[tactic(auto, using(crate::proofs::RequestLaws::verifier_resolved))]
-fn resolve_verifier(table: &[u32], store: &[u8], entry: &[u8]) -> bool
-    ensures { result ≡ eqb (length (verifiers (entry_of entry.now) (scene_deps table.now store.now))) 1 }
+fn resolve_verifier(scene: &LentSlices, entry: &[u8]) -> bool
+    ensures { result ≡ eqb (length (verifiers (entry_of entry.now) (scene_deps scene.now.table scene.now.store))) 1 }
 {
     let field = verifier_field(hash_type_of(entry));
     let hash = code_hash_of(entry);
-    search_cells(table, store, Source::CellDep, field, hash).is_one()
+    search_cells(scene, Source::CellDep, field, hash).is_one()
 }
 
 // The rows of a proof of `proof` bytes by what was found of its entry, where `left` bytes of the answer buffer are left.
 #[tactic(auto, unfolding(protocol::specs::Rows::decide, account_state::specs::Reading::entry_of, decision::specs::Proofs::request_limit_rows, decision::specs::Proofs::authenticator_rows, crate::specs::Steps::found_rows))]
 fn check_found(
-    table: &[u32],
-    store: &[u8],
+    scene: &LentSlices,
     known: bool,
     entry: &[u8],
     operation: u8,
@@ -53,7 +53,7 @@ fn check_found(
     left: usize,
 ) -> Result<(), ProtocolError>
     ensures { result ≡ decide (Ok tt)
-        (found_rows known operation (scene_deps table.now store.now) (entry_of entry.now) proof left) }
+        (found_rows known operation (scene_deps scene.now.table scene.now.store) (entry_of entry.now) proof left) }
 {
     let aux = aux_of(entry).len();
     let invalid = ProtocolError::InvalidRequest;
@@ -64,7 +64,7 @@ fn check_found(
         ProtocolError::InvalidCapability,
     )?;
     require(
-        resolve_verifier(table, store, entry),
+        resolve_verifier(scene, entry),
         ProtocolError::InvalidVerifierRef,
     )?;
     require(proof <= VERIFIER_MAX_PROOF_LEN, invalid)?;
@@ -111,8 +111,7 @@ fn encode_request<'a>(
 // The rows of a proof, and its request at the front of `out`.
 #[tactic(auto, using(crate::proofs::RequestLaws::requests), unfolding(crate::specs::Steps::request_step))]
 pub(crate) fn make_request(
-    table: &[u32],
-    store: &[u8],
+    scene: &LentSlices,
     state: &[u8],
     authorization: Authorization,
     slot: u16,
@@ -120,10 +119,10 @@ pub(crate) fn make_request(
     out: &mut [u8],
 ) -> Result<(usize, u16), ProtocolError>
     ensures value { result ≡ request_step
-        (walk_context table.now store.now state.now
+        (walk_context scene.now.table scene.now.store state.now
         authorization.operation authorization.digest (length out.old))
         (proof_with slot proof.now) }
-    ensures out_after { let c = walk_context table.now store.now state.now
+    ensures out_after { let c = walk_context scene.now.table scene.now.store state.now
         authorization.operation authorization.digest (length out.old) in
         let p = proof_with slot proof.now in
         out.new ≡ request_left (decide (Ok tt) (proof_rows c 0 p)) (request_of c p) out.old }
@@ -131,8 +130,7 @@ pub(crate) fn make_request(
     let place = find_authenticator(state, slot);
     let entry = entry_in(state, place);
     check_found(
-        table,
-        store,
+        scene,
         place.is_some(),
         entry,
         authorization.operation,

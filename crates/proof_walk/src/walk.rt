@@ -14,7 +14,7 @@ use account_witness::{ProofCursor, first_proof, next_proof, proof_count_of};
 use octets::part;
 use protocol::{ProtocolError, is_operation, require};
 use quorum::threshold_of;
-use scene_table::verdict;
+use scene_table::{LentSlices, verdict};
 
 // What the walk answers: what the checks found, how many requests were made, and how many bytes they take.
 #[derive(Drop)]
@@ -47,8 +47,7 @@ fn apply_verdict(verdict: u32, len: usize, weight: u16, next: ProofCursor) -> Pr
 // One proof: its layout, its rows, its request at the front of `out`, and its verdict.
 #[tactic(auto, using(crate::proofs::WalkLaws::verdict_lent), unfolding(account_witness::specs::Walk::proof_step, account_witness::specs::Reading::proof_given, crate::specs::Steps::request_step, crate::specs::Steps::proof_check, crate::specs::Steps::proof_outcome))]
 fn walk_proof(
-    table: &[u32],
-    store: &[u8],
+    scene: &LentSlices,
     state: &[u8],
     lock: &[u8],
     cursor: ProofCursor,
@@ -57,17 +56,17 @@ fn walk_proof(
     out: &mut [u8],
 ) -> Result<ProofOutcome, ProtocolError>
     ensures value { result ≡ proof_outcome
-        (walk_context table.now store.now state.now
+        (walk_context scene.now.table scene.now.store state.now
         authorization.operation authorization.digest (length out.old))
         lock.now cursor index }
-    ensures out_after { let c = walk_context table.now store.now state.now
+    ensures out_after { let c = walk_context scene.now.table scene.now.store state.now
         authorization.operation authorization.digest (length out.old) in
         out.new ≡ request_left (proof_check c lock.now cursor) (request_of c (proof_of lock.now cursor.offset)) out.old }
 {
     let (proof, next) = next_proof(lock, cursor)?;
     let bytes = part(lock, proof.start, proof.len);
-    let (len, weight) = make_request(table, store, state, authorization, proof.slot, bytes, out)?;
-    Ok(apply_verdict(verdict(table, index as u32), len, weight, next))
+    let (len, weight) = make_request(scene, state, authorization, proof.slot, bytes, out)?;
+    Ok(apply_verdict(verdict(scene.table, index as u32), len, weight, next))
 }
 
 // The checks behind the last proof, where the walk stands at `offset`.
@@ -101,19 +100,18 @@ fn answer_of(found: Result<(), ProtocolError>, count: u8, length: usize) -> Proo
 // The proofs, one by one.
 #[tactic(auto, using(crate::proofs::WalkLaws::walks), unfolding(crate::specs::Answer::proof_walk_answer))]
 fn walk_lock(
-    table: &[u32],
-    store: &[u8],
+    scene: &LentSlices,
     state: &[u8],
     lock: &[u8],
     authorization: Authorization,
     answer: &mut [u8],
 ) -> ProofWalkAnswer
     ensures value { result ≡ proof_walk_answer (walk_lock
-        (walk_context table.now store.now state.now
+        (walk_context scene.now.table scene.now.store state.now
         authorization.operation authorization.digest (length answer.old))
         lock.now) }
     ensures answer_after { answer.new ≡ answered answer.old (walk_lock
-        (walk_context table.now store.now state.now
+        (walk_context scene.now.table scene.now.store state.now
         authorization.operation authorization.digest (length answer.old))
         lock.now).made }
 {
@@ -123,7 +121,7 @@ fn walk_lock(
     let mut total: usize = 0;
     for i in 0..count {
         let out = &mut answer[total..];
-        match walk_proof(table, store, state, lock, cursor, i, authorization, out) {
+        match walk_proof(scene, state, lock, cursor, i, authorization, out) {
             Err(error) => return answer_of(Err(error), i, total),
             Ok(ProofOutcome::Failed(len)) => {
                 let failure = Err(ProtocolError::VerifierFailure);
@@ -144,24 +142,23 @@ fn walk_lock(
 // operation outside 1 to 3 is 37, before the first proof.
 #[tactic(auto, using(crate::proofs::WalkLaws::operations), unfolding(crate::specs::Answer::proof_walk_answer, decision::specs::Walk::answered))]
 pub fn walk_proofs(
-    table: &[u32],
-    store: &[u8],
+    scene: &LentSlices,
     state: &[u8],
     lock: &[u8],
     authorization: Authorization,
     answer: &mut [u8],
 ) -> ProofWalkAnswer
     ensures value { result ≡ proof_walk_answer (walk_proofs
-        (walk_context table.now store.now state.now
+        (walk_context scene.now.table scene.now.store state.now
         authorization.operation authorization.digest (length answer.old))
         lock.now) }
     ensures answer_after { answer.new ≡ answered answer.old (walk_proofs
-        (walk_context table.now store.now state.now
+        (walk_context scene.now.table scene.now.store state.now
         authorization.operation authorization.digest (length answer.old))
         lock.now).made }
 {
     if is_operation(authorization.operation) {
-        walk_lock(table, store, state, lock, authorization, answer)
+        walk_lock(scene, state, lock, authorization, answer)
     } else {
         answer_of(Err(ProtocolError::InvalidOperation), 0, 0)
     }

@@ -10,5 +10,5 @@ use Rattle.cell_hashes.proofs.check_cells.Given as goal
 
 abbrev pub invariant-loop-i : goal.invariant-loop-i
 invariant-loop-i l =
-    let cells = cells_of l.source (scene_in l.table l.store) in
+    let cells = cells_of l.source (scene_in l.scene.table l.scene.store) in
     decide (Ok tt) (cells_hash_rows cells) ≡ decide (Ok tt) (cells_hash_rows (drop l.i cells))

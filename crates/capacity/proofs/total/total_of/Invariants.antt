@@ -9,5 +9,5 @@ use Rattle.capacity.proofs.total.total_of.Given as goal
 
 abbrev pub invariant-loop-i : goal.invariant-loop-i
 invariant-loop-i l =
-    let s = scene_in l.table l.store in
+    let s = scene_in l.scene.table l.scene.store in
     (total_capacity l.side s ≡ l.total + sum (drop l.i (capacities l.side s))) × (l.total < 2 ^ 64)

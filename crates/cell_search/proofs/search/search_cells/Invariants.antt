@@ -8,5 +8,5 @@ use Rattle.cell_search.proofs.search.search_cells.Given as goal
 
 abbrev pub invariant-loop-i : goal.invariant-loop-i
 invariant-loop-i l =
-    let cells = cells_of l.source (scene_in l.table l.store) in
+    let cells = cells_of l.source (scene_in l.scene.table l.scene.store) in
     cell_search l.field l.hash cells ≡ search_of (places_of l.found ++ match_from l.field l.hash cells l.i)

@@ -8,4 +8,4 @@ use Rattle.group_sighash.specs.Hashed.{group_from}
 use Rattle.group_sighash.proofs.hashed.group_begin.Given as goal
 
 abbrev pub invariant-loop-i : goal.invariant-loop-i
-invariant-loop-i l = (store : List ℕ) → group_of (scene_in l.table store) ≡ group_from l.table store l.i
+invariant-loop-i l = (store : List ℕ) → group_of (scene_in l.scene.table store) ≡ group_from l.scene.table store l.i

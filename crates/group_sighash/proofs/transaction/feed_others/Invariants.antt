@@ -8,5 +8,5 @@ use Rattle.group_sighash.specs.Hashed.{hashed_from}
 use Rattle.group_sighash.proofs.transaction.feed_others.Given as goal
 
 abbrev pub invariant-loop-i : goal.invariant-loop-i
-invariant-loop-i l = fed_all l.initial.fed (hashed_witnesses (other_witnesses (scene_in l.table l.store)))
-    ≡ fed_all l.fed (hashed_witnesses (hashed_from l.table l.store l.i))
+invariant-loop-i l = fed_all l.initial.fed (hashed_witnesses (other_witnesses (scene_in l.scene.table l.scene.store)))
+    ≡ fed_all l.fed (hashed_witnesses (hashed_from l.scene.table l.scene.store l.i))

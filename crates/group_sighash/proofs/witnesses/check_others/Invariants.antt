@@ -7,4 +7,4 @@ use Rattle.group_sighash.specs.Hashed.{hashed_from}
 use Rattle.group_sighash.proofs.witnesses.check_others.Given as goal
 
 abbrev pub invariant-loop-i : goal.invariant-loop-i
-invariant-loop-i l = every witness_fits (other_witnesses (scene_in l.table l.store)) ≡ every witness_fits (hashed_from l.table l.store l.i)
+invariant-loop-i l = every witness_fits (other_witnesses (scene_in l.scene.table l.scene.store)) ≡ every witness_fits (hashed_from l.scene.table l.scene.store l.i)

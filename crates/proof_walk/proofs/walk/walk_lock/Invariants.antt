@@ -5,4 +5,4 @@ use Rattle.proof_walk.proofs.WalkLaws.{WalkInvariant}
 use Rattle.proof_walk.proofs.walk.walk_lock.Given as goal
 
 abbrev pub invariant-loop-i : goal.invariant-loop-i
-invariant-loop-i l = WalkInvariant (walk_context l.table l.store l.state l.authorization.operation l.authorization.digest (length l.initial.answer)) l.lock l.count l.initial.answer l.answer l.cursor l.weight l.total l.i
+invariant-loop-i l = WalkInvariant (walk_context l.scene.table l.scene.store l.state l.authorization.operation l.authorization.digest (length l.initial.answer)) l.lock l.count l.initial.answer l.answer l.cursor l.weight l.total l.i
