@@ -7,7 +7,7 @@ mod account; // account.rt
 
 ghost use Rattle.std.specs.Prelude.{◌≡◌, IfOk, Ok};
 ghost use Rattle.protocol.specs.Rows.{decide};
-ghost use Rattle.scene_table.specs.Lent.{scene_in};
+ghost use Rattle.scene_table.specs.Slices.{scene_of};
 ghost use Rattle.account_lock.specs.Lock.{early_rows, lock_scene};
 ghost use Rattle.account_lock.specs.Decides.{LockOutcome, LockRequests, LockDecision};
 ghost use Rattle.account_lock.specs.Calls.{WalkInputs, found_by, ReturnsResult, StoresRequests};
@@ -20,30 +20,30 @@ use group_sighash::{check_first_witness, first_witness};
 use molecule::args_of;
 use octets::part_at;
 use protocol::{ProtocolError, account_of};
-use scene_table::{script, table_valid};
+use scene_table::{LentSlices, script, table_valid};
 
 // Every check before the proofs, and then what the proofs are walked with.
 #[tactic(auto, using(crate::proofs::LockLaws::checks))]
-fn check_scene<'a>(table: &[u32], store: &'a [u8]) -> Result<Account<'a>, ProtocolError>
-    ensures found { found_by result ≡ decide (Ok tt) (early_rows (scene_in table.now store.now)) }
-    ensures inputs { IfOk result (λ a. WalkInputs a.lock.now a.current.now a.authorization (scene_in table.now store.now)) }
+fn check_scene<'a>(scene: &LentSlices<'a>) -> Result<Account<'a>, ProtocolError>
+    ensures found { found_by result ≡ decide (Ok tt) (early_rows (scene_of scene.now)) }
+    ensures inputs { IfOk result (λ a. WalkInputs a.lock.now a.current.now a.authorization (scene_of scene.now)) }
 {
-    check_hashes(table, store)?;
-    let script = part_at(store, script(table));
+    check_hashes(scene)?;
+    let script = part_at(scene.store, script(scene.table));
     check_script(script)?;
-    let witness = first_witness(table, store);
+    let witness = first_witness(scene);
     check_first_witness(witness)?;
-    find_account(table, store, account_of(args_of(script)), witness)
+    find_account(scene, account_of(args_of(script)), witness)
 }
 
 // The lock over a transaction whose table is one that a scene, its length aside, leaves.
 #[tactic(auto, unfolding(crate::specs::Lock::lock_scene, crate::specs::Lock::or_walked, crate::specs::Lock::refused, decision::specs::Walk::answered))]
-fn lock_scene(table: &[u32], store: &[u8], answer: &mut [u8]) -> LockAnswer
-    ensures returns_result { ReturnsResult lock_scene table.now store.now answer.old result }
-    ensures stores_requests { StoresRequests lock_scene table.now store.now answer.old answer.new }
+fn lock_scene(scene: &LentSlices, answer: &mut [u8]) -> LockAnswer
+    ensures returns_result { ReturnsResult lock_scene scene.now.table scene.now.store answer.old result }
+    ensures stores_requests { StoresRequests lock_scene scene.now.table scene.now.store answer.old answer.new }
 {
-    match check_scene(table, store) {
-        Ok(account) => walk_account(table, store, account, answer),
+    match check_scene(scene) {
+        Ok(account) => walk_account(scene, account, answer),
         Err(error) => refused(error),
     }
 }
@@ -55,7 +55,7 @@ pub fn lock(table: &[u32], store: &[u8], answer: &mut [u8]) -> LockAnswer
     ensures decision { LockDecision table.now store.now answer.old result }
 {
     if table_valid(table, store.len()) {
-        lock_scene(table, store, answer)
+        lock_scene(&LentSlices { table, store }, answer)
     } else {
         refused(ProtocolError::SlicesDisagree)
     }

@@ -8,7 +8,7 @@ use export_answers::{check_sizes, store_hash};
 use group_sighash::canonical_group_sighash;
 use octets::array_32;
 use protocol::{ProtocolError, require};
-use scene_table::table_valid;
+use scene_table::{LentSlices, table_valid};
 
 // The digest over an account and a sighash that are lent as slices. One of another length than 32 is 7.
 #[tactic(auto, unfolding(protocol::specs::Rows::decide, protocol::specs::Policy::operation_rows, authorization::specs::Digest::authorization_of, crate::specs::Answers::lent_digest))]
@@ -59,7 +59,7 @@ fn sighash_lent(table: &[u32], store: &[u8]) -> Result<[u8; 32], ProtocolError>
         table_valid(table, store.len()),
         ProtocolError::SlicesDisagree,
     )?;
-    canonical_group_sighash(table, store)
+    canonical_group_sighash(&LentSlices { table, store })
 }
 
 // Stores the sighash of the transaction that table and store hold.
