@@ -28,7 +28,7 @@ module _ (s : Scene) where
   hashes-40 = (λ q h. differ q (all-pass-passed (hash_rows s) h), back (decide (Ok tt) (hash_rows s)) refl (given-refuses (hashes-give s)))
     where
       differ : check_number (decide (Ok tt) (hash_rows s)) ≡ 40 → decide (Ok tt) (hash_rows s) ≡ Ok tt → ⊥
-      differ q p = let z : check_number (Ok tt) ≡ 40 = rw p at q in omega arith
+      differ q p = let z : ◌≡◌ {A = ℕ} 0 40 = rw p at q in omega arith
 
       back : (k : Check) → decide (Ok tt) (hash_rows s) ≡ k → Refuses (Among hash_numbers) k → ¬ AllPass (hash_rows s) → check_number k ≡ 40
       back (Ok _) e r n = absurd (n (passed-all-pass (hash_rows s) e))

@@ -7,7 +7,7 @@ use mathlib.Core.Bool.{Bool, true, false, true≢false}
 use mathlib.Core.List.{List, [], ◌∷◌, ◌++◌}
 use Prim.Native.Nat.{ℕ}
 use native.Mathlib.Omega.{arith}
-use Rattle.protocol.specs.Rows.{row, AllPass, decide, ◌▷◌, check_number}
+use Rattle.protocol.specs.Rows.{row, AllPass, decide, check_number}
 use Rattle.protocol.specs.declared.error.ProtocolError.TheVariants.{SessionWithdrawn}
 use Rattle.protocol.proofs.GivenNumber.{given-between}
 use Rattle.account_state.specs.Reading.{state_reading}
@@ -26,7 +26,7 @@ use Rattle.lock_theorems.proofs.Before.{session_row, sequence_row, recovery_tail
 
 -- the row of the session alone
 session-49 : (free : Bool) → (check_number (decide (Ok tt) (row free SessionWithdrawn ∷ [])) ≡ 49) ↔ (free ≡ false)
-unfolding decide ◌▷◌
+unfolding decide
 session-49 true = (λ q. absurd (omega arith), λ e. absurd (true≢false e))
 session-49 false = (λ q. refl, λ e. refl)
 
