@@ -4,7 +4,6 @@ ghost use Rattle.text.specs.Text.{pieces, comma};
 ghost use Rattle.scene_line.specs.Kind.{rank, field_count, first_form, kind_of, follows, line_kind};
 
 use crate::form::Form;
-use octets::same_bytes;
 use text::{COMMA, count};
 
 // Numbered by their rank in the order.
@@ -67,23 +66,23 @@ impl Kind {
 }
 
 // The kind that a word names.
-#[tactic(auto, unfolding(crate::specs::Kind::kind_of))]
+#[tactic(auto, unfolding(crate::specs::Kind::kind_of), using(octets::proofs::Same::same_pointwise))]
 fn kind_of(word: &[u8]) -> Option<Kind>
     ensures { result ≡ kind_of word.now }
 {
-    if same_bytes(word, b"script") {
+    if word == b"script".as_slice() {
         Some(Kind::Script)
-    } else if same_bytes(word, b"tx") {
+    } else if word == b"tx".as_slice() {
         Some(Kind::Tx)
-    } else if same_bytes(word, b"input") {
+    } else if word == b"input".as_slice() {
         Some(Kind::Input)
-    } else if same_bytes(word, b"output") {
+    } else if word == b"output".as_slice() {
         Some(Kind::Output)
-    } else if same_bytes(word, b"dep") {
+    } else if word == b"dep".as_slice() {
         Some(Kind::Dep)
-    } else if same_bytes(word, b"witness") {
+    } else if word == b"witness".as_slice() {
         Some(Kind::Witness)
-    } else if same_bytes(word, b"verdicts") {
+    } else if word == b"verdicts".as_slice() {
         Some(Kind::Verdicts)
     } else {
         None
@@ -96,9 +95,6 @@ pub fn line_kind(word: &[u8], fields: &[u8], last: Option<Kind>) -> Option<Kind>
     ensures { result ≡ line_kind (rank last) (word.now ∷ pieces comma fields.now) }
 {
     let kind = kind_of(word)?;
-    if kind.may_follow(last) && count(fields, COMMA) == kind.field_count() {
-        Some(kind)
-    } else {
-        None
-    }
+    let fits = kind.may_follow(last) && count(fields, COMMA) == kind.field_count();
+    fits.then_some(kind)
 }

@@ -1,17 +1,17 @@
 -- Laws of the reader's rows and of a run over the lines. Assumes nothing.
 use Rattle.std.specs.Prelude.{Option, Err, Ok, Result}
-use Prim.Native.Nat.{ℕ, ◌+◌, ◌≤◌, ◌<◌}
+use Prim.Native.Nat.{ℕ, ◌≤◌}
 use mathlib.Core.Path.{◌≡◌, refl, ap, ◌∙◌}
 use mathlib.Core.List.{List, [], ◌∷◌, ◌++◌}
 use native.Mathlib.Omega.{arith}
 use borrow.Author.Tests.{leb-true}
-use lib.ListN.{length, take, drop, replicate}
+use lib.ListN.{length, replicate}
 use Rattle.protocol.specs.Rows.{Row, decide, Check}
 use Rattle.protocol.specs.declared.error.ProtocolError.{ProtocolError}
 use Rattle.protocol.proofs.AllPass.{decide-append, decide-failed, passed-all-pass}
 use Rattle.protocol.specs.Limits.{scene_max_length, table_min_entries}
 use Rattle.scene_reader.specs.declared.state.State.{State}
-use Rattle.text.specs.Text.{pieces, before, Cut, line_end, comma}
+use Rattle.text.specs.Text.{pieces, before, line_end, comma}
 use Rattle.scene_line.specs.declared.kind.Kind.{Kind}
 use Rattle.scene_line.specs.Kind.{line_kind, line_fields}
 use Rattle.scene_reader.specs.Reader.{ReaderState, ReaderOutcome, reader_holds, reader_refuses, outcome_after, rows_of_line, line_put, lines_rows, lines_put, lines_outcome, reader_start, scene_limit_rows, scene_rows, read_of}
@@ -103,7 +103,7 @@ module _ (h : ReaderState) (l s : List ℕ) (P : List (List ℕ)) (cut : P ≡ l
       rw (cut, z.2) (run-failed h l z.0 z.1 a (refused-failed _ _ a q))
 
 -- a line's step by the word before its first comma and the fields behind it
-pub step_cut : (h : ReaderState) (line w fields : List ℕ) (e : ℕ) (k : Option Kind) (o : ReaderOutcome) → Cut comma line e → e < length line → w ≡ take e line → fields ≡ drop (e + 1) line
+pub step_cut : (h : ReaderState) (line w fields : List ℕ) (k : Option Kind) (o : ReaderOutcome) → pieces comma line ≡ w ∷ pieces comma fields
     → k ≡ line_kind h.last (w ∷ pieces comma fields) → o ≡ line_outcome_as h k (pieces comma fields) → o ≡ line_outcome h line
 unfolding rows_of_line line_put line_fields
-step_cut h line w fields e k o cut more hw hf hk ho = ho ∙ rw (hk, hw, hf, cut.cut more)
+step_cut h line w fields k o cut hk ho = ho ∙ rw (hk, cut)

@@ -11,7 +11,7 @@ use crate::put::put_line;
 use crate::state::{FIRST_RECORD_AT, State};
 use protocol::{KIND_MAX_LINES, ProtocolError, require};
 use scene_line::{Kind, check_fields, line_kind};
-use text::{COMMA, LINE_END, find, head, tail};
+use text::{COMMA, LINE_END, split_once};
 
 // How many bytes the fields of a line of this kind have, where no row refuses it with a store of room bytes.
 #[tactic(auto, unfolding(protocol::specs::Rows::decide, crate::specs::Reader::line_rows, scene_line::specs::Line::fields_found))]
@@ -59,13 +59,8 @@ fn read_line(
         ≡ line_outcome (state_holding state store.old table.old) line.now }
     ensures ready_after { ReadyAfter state (length line.now) (length store.old) (length table.old) result }
 {
-    let end = find(line, COMMA);
-    if end == line.len() {
-        return Err(ProtocolError::InvalidLine);
-    }
-    let fields = tail(line, end);
-    let found = line_kind(head(line, end), fields, state.last);
-    let kind = found.ok_or(ProtocolError::InvalidLine)?;
+    let (word, fields) = split_once(line, COMMA).ok_or(ProtocolError::InvalidLine)?;
+    let kind = line_kind(word, fields, state.last).ok_or(ProtocolError::InvalidLine)?;
     read_as(kind, fields, state, store, table)
 }
 
@@ -100,12 +95,9 @@ pub(crate) fn read_lines(
         used: 0,
         filled: FIRST_RECORD_AT,
     };
-    loop {
-        let end = find(rest, LINE_END);
-        if end == rest.len() {
-            return finish_at(state, rest);
-        }
-        state = read_line(head(rest, end), state, store, table)?;
-        rest = tail(rest, end);
+    while let Some((line, after)) = split_once(rest, LINE_END) {
+        state = read_line(line, state, store, table)?;
+        rest = after;
     }
+    finish_at(state, rest)
 }

@@ -13,10 +13,10 @@ use text::{hex_value, read_decimal};
 fn digit(f: &[u8]) -> u8
     ensures { result ≡ hex_val (get_or f.now 0 0) }
 {
-    if f.len() == 0 {
-        return hex_value(0);
+    match f {
+        [first, ..] => hex_value(*first),
+        [] => hex_value(0),
     }
-    hex_value(f[0])
 }
 
 // Puts the halves of the number that f is into the table at `at`.
@@ -37,10 +37,8 @@ fn put_digits(f: &[u8], table: &mut [u32], at: usize)
     ensures { table.new ≡ sets table.old at (length f.now ∷ map hex_val f.now) }
 {
     table[at] = f.len() as u32;
-    let mut i = 0;
-    while i < f.len() {
-        table[at + 1 + i] = hex_value(f[i]) as u32;
-        i += 1;
+    for (i, &byte) in f.iter().enumerate() {
+        table[at + 1 + i] = u32::from(hex_value(byte));
     }
 }
 

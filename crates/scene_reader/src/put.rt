@@ -11,7 +11,7 @@ ghost use Rattle.scene_reader.specs.Room.{state_holding};
 use crate::numbers::put_number;
 use crate::state::State;
 use scene_line::{Form, Kind};
-use text::{COMMA, decode, find, head, tail};
+use text::{COMMA, decode};
 
 // Puts the bytes of a field into the store from at on, and says how many they are.
 #[tactic(auto, unfolding(scene_line::specs::Line::field_bytes))]
@@ -43,21 +43,15 @@ fn put_fields(
     ensures store_after { store.new ≡ sets store.old used (line_bytes first (pieces comma fields.now)) }
     ensures table_after { table.new ≡ sets table.old filled (line_entries first (pieces comma fields.now)) }
 {
-    let mut rest = fields;
-    let mut t = first;
+    let mut form = first;
     let mut at = used;
     let mut entry = filled;
-    loop {
-        let e = find(rest, COMMA);
-        let f = head(rest, e);
-        entry += put_number(t, f, table, entry);
-        at += put_bytes(t, f, store, at);
-        if e == rest.len() {
-            return entry;
-        }
-        t = t.next();
-        rest = tail(rest, e);
+    for field in fields.split(|&byte| byte == COMMA) {
+        entry += put_number(form, field, table, entry);
+        at += put_bytes(form, field, store, at);
+        form = form.next();
     }
+    entry
 }
 
 // Puts a line down whose fields have n bytes.

@@ -3,3 +3,4 @@ pub mod RangeLaws
 pub mod HexLaws
 pub mod DecimalLaws
 pub mod PrintLaws
+pub mod Splits

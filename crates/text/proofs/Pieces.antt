@@ -1,19 +1,20 @@
 -- Pieces of a text: where the first one ends, and how many there are. Assumes nothing.
-use Prim.Native.Nat.{ℕ, suc, ◌+◌}
+use Prim.Native.Nat.{ℕ, suc, ◌+◌, ◌≤◌, ◌<◌}
 use mathlib.Core.Bool.{Bool, true, false, cond, not}
-use mathlib.Core.Path.{◌≡◌, refl, sym, ap}
+use mathlib.Core.Path.{◌≡◌, refl, sym, ap, ◌∙◌}
 use mathlib.Core.List.{List, [], ◌∷◌, ◌++◌, append_assoc}
 use mathlib.Core.Logic.{⊎_elim}
 use native.Mathlib.Numerals.{add-one}
-use native.Mathlib.Nat.{eq-or-lt_of_le}
+use native.Mathlib.Nat.{le_refl, eq-or-lt_of_le}
 use native.Mathlib.Omega.{arith}
 use borrow.Author.Tests.{ltb-false}
 use lib.ListN.{length, take, drop, get_or}
-use lib.Seq.{length-take-le}
+use lib.Seq.{take_all, length-take-le}
 use lib.Dec.{eqb, ltb}
 use Rattle.std.specs.Prelude.{Option, None, Some, position, unwrap_or}
 use Rattle.std.specs.List.{count_by, position_or_len}
 use Rattle.std.proofs.lemmas.List.Sums.{sum_by-cons}
+use Rattle.octets.specs.Lists.{joined}
 use Rattle.text.specs.Text.{pieces, before, Cut}
 
 pub before-before : (t u : List ℕ) (ps : List (List ℕ)) → before t (before u ps) ≡ before (t ++ u) ps
@@ -62,6 +63,19 @@ cut_found c s o e = rw e (go (ltb n (length s)) refl)
         let last : n ≡ length s = omega (arith, k.within, ltb-false n (length s) h) in
         rw last at k
 
+-- where it finds none, the text is the one piece
+pub cut_none : (c : ℕ) (s : List ℕ) (o : Option ℕ) → o ≡ position (λ y. eqb y c) s → o ≡ None → pieces c s ≡ s ∷ []
+cut_none c s o e n =
+    let k : Cut c s (length s) = rw n at (cut_found c s o e) in
+    k.whole refl ∙ rw (take_all (length s) s (le_refl (length s)))
+
+-- where it finds one, the piece before it and those behind it
+pub cut_some : (c : ℕ) (s : List ℕ) (o : Option ℕ) (n : ℕ) → o ≡ position (λ y. eqb y c) s → o ≡ Some n → n < length s
+    → pieces c s ≡ take n s ∷ pieces c (drop (n + 1) s)
+cut_some c s o n e is h =
+    let k : Cut c s n = rw is at (cut_found c s o e) in
+    k.cut h
+
 -- whichever way a text is cut, its first piece is what stands before the cut
 pub cut-first : (c : ℕ) (s : List ℕ) (n : ℕ) → Cut c s n → (ps : List (List ℕ)) × (pieces c s ≡ take n s ∷ ps)
 cut-first c s n k = ⊎_elim (λ e. ([], k.whole e)) (λ h. (pieces c (drop (n + 1) s), k.cut h)) (eq-or-lt_of_le k.within)
@@ -86,3 +100,18 @@ pieces_count c (x ∷ s) = rw (sum_by-cons (λ y. cond (eqb y c) 1 0) x s) (go (
         → cond b 1 0 + count_by (λ y. eqb y c) s + 1 ≡ length (cond b ([] ∷ pieces c s) (before (x ∷ []) (pieces c s)))
     go true e = omega arith
     go false e = omega (arith, length_before (x ∷ []) (pieces c s) (before-none c s))
+
+-- they have no more bytes than the text
+joined-before : (x : ℕ) (ps : List (List ℕ)) → length (joined (before (x ∷ []) ps)) ≡ suc (length (joined ps))
+unfolding joined before
+joined-before x [] = refl
+joined-before x (p ∷ ps) = refl
+
+pub pieces_short : (c : ℕ) (s : List ℕ) → length (joined (pieces c s)) ≤ length s
+unfolding pieces joined
+pieces_short c [] = omega arith
+pieces_short c (x ∷ s) = go (eqb x c) (pieces_short c s)
+  where
+    go : (b : Bool) → length (joined (pieces c s)) ≤ length s → length (joined (cond b ([] ∷ pieces c s) (before (x ∷ []) (pieces c s)))) ≤ suc (length s)
+    go true h = omega arith
+    go false h = omega (arith, joined-before x (pieces c s))

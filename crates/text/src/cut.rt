@@ -1,5 +1,5 @@
 // A text cut at a separator.
-ghost use Rattle.std.specs.Prelude.{◌≡◌, ◌+◌, ◌-◌, min, length, take, drop};
+ghost use Rattle.std.specs.Prelude.{◌≡◌, [], ◌∷◌, ◌+◌, ◌-◌, IfNone, IfSome, min, length, take, drop};
 ghost use Rattle.text.specs.Text.{pieces, Cut};
 
 use octets::{part, rest};
@@ -30,6 +30,16 @@ pub fn tail(s: &[u8], e: usize) -> &[u8]
     ensures result_len { length result.now ≡ length s.now - (e + 1) }
 {
     rest(rest(s, e), 1)
+}
+
+// What stands before the first c and what behind it, none where there is no c.
+pub fn split_once(s: &[u8], c: u8) -> Option<(&[u8], &[u8])>
+    ensures none { IfNone result (pieces c s.now ≡ s.now ∷ []) }
+    ensures some { IfSome result (λ cut. pieces c s.now ≡ cut.0.now ∷ pieces c cut.1.now) }
+    ensures some_len { IfSome result (λ cut. length cut.0.now + 1 + length cut.1.now ≡ length s.now) }
+{
+    let end = s.iter().position(|&byte| byte == c)?;
+    Some((&s[..end], &s[end + 1..]))
 }
 
 // How many pieces c cuts s into.
