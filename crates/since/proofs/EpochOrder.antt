@@ -3,12 +3,12 @@
 use mathlib.Core.Path.{◌≡◌, refl, ap}
 use mathlib.Core.Logic.{◌⊎◌, inl, inr, ◌↔◌}
 use mathlib.Core.Bool.{Bool, true, false, ◌&&◌, ◌||◌, cond, false≢true}
-use Prim.Native.Nat.{ℕ, ◌+◌, ◌*◌, ◌^◌, ◌≤◌, ◌<◌}
-use native.Mathlib.Nat.{mul-le-mul, mul-le-mul_right, mul-lt-mul_of_pos_right, le_of_mul-le-mul_right}
+use Prim.Native.Nat.{ℕ, ◌+◌, ◌*◌, ◌/◌, ◌%◌, ◌^◌, ◌≤◌, ◌<◌}
+use native.Mathlib.Nat.{mul-le-mul, mul-le-mul_right, mul-lt-mul_of_pos_right, le_of_mul-le-mul_right, mod-lt}
 use native.Mathlib.Omega.{arith}
 use lib.Dec.{eqb, leb, ltb}
 use borrow.Author.Tests.{le-leb, leb-true, leb-false, ltb-true, ltb-false, eqb-true, eqb-false}
-use Rattle.since.specs.Epoch.{Epoch, epoch_well_formed, divisor, parts, epoch_leb}
+use Rattle.since.specs.Epoch.{Epoch, epoch_of, epoch_well_formed, divisor, parts, epoch_leb}
 use Rattle.since.specs.EpochOrder.{SameFraction, EpochLe, EpochOrder}
 
 -- ---- whole numbers: n epochs and i parts of which d make one, against n', i' and d'
@@ -131,11 +131,24 @@ pub parts-bound : (e : Epoch) → e.number < 2 ^ 32 → e.index < 2 ^ 16 → e.l
 parts-bound e n i l = omega (arith, product e.number (divisor e) 4294967295 65535 (omega arith) (omega (arith, divisor-bound e l)))
 
 -- and no product of them with a divisor
-pub epoch-products : (a b : Epoch) → a.number < 2 ^ 32 → a.index < 2 ^ 16 → a.length < 2 ^ 16 → b.length < 2 ^ 16
+pub product-bound : (a b : Epoch) → a.number < 2 ^ 32 → a.index < 2 ^ 16 → a.length < 2 ^ 16 → b.length < 2 ^ 16
     → parts a * divisor b < 2 ^ 64
 unfolding parts
-epoch-products a b n i l m =
+product-bound a b n i l m =
     omega (arith, product (a.number * divisor a + a.index) (divisor b) 281470681743360 65535 (parts-bound a n i l) (omega (arith, divisor-bound b m)))
 
+-- of a value's own epochs each has at most 56 bits
+pub epoch-products : (value other : ℕ) → parts (epoch_of value) * divisor (epoch_of other) < 2 ^ 56
+unfolding parts epoch_of
+epoch-products value other =
+    let n : value % 2 ^ 24 < 2 ^ 24 = mod-lt value (omega arith) in
+    let i : value / 2 ^ 24 % 2 ^ 16 < 2 ^ 16 = mod-lt _ (omega arith) in
+    let l : value / 2 ^ 40 % 2 ^ 16 < 2 ^ 16 = mod-lt _ (omega arith) in
+    let m : other / 2 ^ 40 % 2 ^ 16 < 2 ^ 16 = mod-lt _ (omega arith) in
+    let d : divisor (epoch_of value) < 2 ^ 16 = divisor-bound (epoch_of value) l in
+    let e : divisor (epoch_of other) < 2 ^ 16 = divisor-bound (epoch_of other) m in
+    let p = product (value % 2 ^ 24) (divisor (epoch_of value)) 16777215 65535 (omega arith) (omega arith) in
+    omega (arith, product (value % 2 ^ 24 * divisor (epoch_of value) + value / 2 ^ 24 % 2 ^ 16) (divisor (epoch_of other)) 1099511627775 65535 (omega arith) (omega arith))
+
 -- for the check's own search
-pub ruleset bounds = (parts-bound, epoch-products)
+pub ruleset bounds = (parts-bound, product-bound)
