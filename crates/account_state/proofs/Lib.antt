@@ -1,3 +1,4 @@
+pub mod Weighing
 pub mod Passed
 pub mod EntriesWalkLaws
 pub mod StateLaws

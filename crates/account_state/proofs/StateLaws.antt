@@ -21,7 +21,7 @@ use Rattle.account_state.specs.EntriesWalk.{entries_walk_of, walk_entries}
 use Rattle.account_state.specs.declared.walk.EntriesWalk.{EntriesWalk}
 
 -- a number at the front of the bytes
-front-part : (n at k : ℕ) (s : List ℕ) → at + k ≤ n → take k (drop at (take n s)) ≡ take k (drop at s)
+pub front-part : (n at k : ℕ) (s : List ℕ) → at + k ≤ n → take k (drop at (take n s)) ≡ take k (drop at s)
 front-part n zero k s h = take-take k n s (omega arith)
 front-part zero (suc at) k s h = absurd (omega arith)
 front-part (suc n) (suc at) k [] h = refl

@@ -1,11 +1,11 @@
 -- The checks of an account state, in document 01's order, and what its readers give.
-use Rattle.std.specs.Prelude.{◌≡◌, ℕ, zero, suc, ◌+◌, ◌≤◌, ◌<◌, cond, List, [], ◌∷◌, ◌++◌, length, take, drop, get_or, leb, eqb, Err, Ok, Result}
+use Rattle.std.specs.Prelude.{◌≡◌, ℕ, zero, suc, ◌+◌, ◌*◌, ◌≤◌, ◌<◌, cond, List, [], ◌∷◌, ◌++◌, length, take, drop, get_or, leb, eqb, Err, Ok, Result}
 use Rattle.protocol.specs.declared.error.ProtocolError.{ProtocolError}
 use Rattle.protocol.specs.Policy.{is_supported_algorithm}
 use Rattle.protocol.specs.Rows.{Row, row, ◌then◌, decide, Check}
 use Rattle.protocol.specs.declared.error.ProtocolError.TheVariants.{InvalidState, InvalidVerifierRef, UnsupportedVersion, UnsupportedAlgorithm, UnsatisfiableThreshold, AuxTooLong}
 use Rattle.account_state.specs.Fields.{state_magic_of, state_version_of, flags_of, state_flags_known_mask, recovery_enabled, state_header_length_of, sequence_of, spend_threshold_of, rotate_threshold_of, recovery_threshold_of, entry_count_of, state_reserved_of, recovery_since_of, entry_length_of, entry_slot_of, algorithm_of, capabilities_of, cap_known_mask, weight_of, hash_type_of, abi_of, code_hash_offset, key_offset, key_length_of, aux_length_of, aux_max_length, entry_bytes_of}
-use Rattle.account_state.specs.Reading.{EntryReading, state_magic, entries_of, state_entries, state_reading, capable_weight, AuxWithin}
+use Rattle.account_state.specs.Reading.{EntryReading, state_magic, entries_of, state_entries, state_reading, capable_share, capable_weight, AuxWithin}
 use Rattle.account_state.specs.declared.header.StateHeader.{StateHeader}
 use Rattle.account_state.specs.declared.entry.AuthenticatorEntry.{AuthenticatorEntry}
 use Rattle.account_state.specs.declared.entry.EntryCursor.{EntryCursor}
@@ -110,6 +110,21 @@ state_end_rows s tail weights =
 -- the weights of the holders of each capability; 01: "Capability bits 1, 2, 4, 8: spend, rotate, recovery, session issue."
 unfoldable pub summary_of : List EntryReading → StateSummary
 summary_of es = record { spend_weight = capable_weight 1 es; rotate_weight = capable_weight 2 es; recovery_weight = capable_weight 4 es }
+
+-- the weights with one entry's added
+unfoldable pub with_entry : StateSummary → ℕ → ℕ → StateSummary
+with_entry t capabilities weight =
+    record {
+      spend_weight = t.spend_weight + capable_share 1 capabilities weight;
+      rotate_weight = t.rotate_weight + capable_share 2 capabilities weight;
+      recovery_weight = t.recovery_weight + capable_share 4 capabilities weight;
+    }
+
+-- the weights have room for those of `left` entries more, of sixteen in all
+pub record Light (left : ℕ) (t : StateSummary) : Type 0 where
+  pub spend : t.spend_weight + 65535 * left ≤ 1048560
+  pub rotate : t.rotate_weight + 65535 * left ≤ 1048560
+  pub recovery : t.recovery_weight + 65535 * left ≤ 1048560
 
 -- the checks after the last entry
 unfoldable pub state_tail_rows : List ℕ → ℕ → List ℕ → List Row

@@ -1,8 +1,9 @@
 // The walk over all entries: their weights by capability, and how many bytes follow them.
-ghost use Rattle.std.specs.Prelude.{◌≡◌, ◌+◌, ◌≤◌, ◌<◌, length};
+ghost use Rattle.std.specs.Prelude.{◌≡◌, ℕ, ◌+◌, ◌≤◌, ◌<◌, length};
 ghost use Rattle.account_state.specs.Fields.{entry_bytes_of};
 ghost use Rattle.account_state.specs.Reading.{capable_share};
-ghost use Rattle.account_state.specs.EntriesWalk.{Light, with_entry, walk_entries};
+ghost use Rattle.account_state.specs.State.{Light, with_entry};
+ghost use Rattle.account_state.specs.EntriesWalk.{walk_entries};
 
 use crate::entry::check_entry;
 use crate::fields::{capabilities_of, entry_length_of, entry_slot_of, weight_of};
@@ -23,7 +24,7 @@ pub(crate) struct EntriesWalk {
 }
 
 // The weight that an entry adds to the capability of a bit; 0 is no bit.
-pub fn capable_share(bit: u16, capabilities: u16, weight: u16) -> u32
+fn capable_share(bit: u16, capabilities: u16, weight: u16) -> u32
     ensures { (result ≡ capable_share bit capabilities weight) × (result < 65536) }
 {
     if bit == 0 {
@@ -34,10 +35,11 @@ pub fn capable_share(bit: u16, capabilities: u16, weight: u16) -> u32
 
 impl StateSummary {
     // With an entry's weight added to that of each capability that it has.
-    #[tactic(auto, unfolding(crate::specs::EntriesWalk::with_entry))]
-    fn with_entry(self, capabilities: u16, weight: u16) -> StateSummary
+    #[tactic(auto, unfolding(crate::specs::State::with_entry))]
+    pub fn with_entry(self, capabilities: u16, weight: u16) -> StateSummary
         requires { Light 1 self }
-        ensures { result ≡ with_entry self capabilities weight }
+        ensures value { result ≡ with_entry self capabilities weight }
+        ensures room { (left : ℕ) → Light (left + 1) self → Light left result }
     {
         let share = |bit| capable_share(bit, capabilities, weight);
         StateSummary {

@@ -2,33 +2,29 @@
 -- Assumes nothing.
 use Rattle.std.specs.Prelude.{Err, Ok}
 use mathlib.Core.Path.{◌≡◌, refl, sym, ap, ◌∙◌}
-use mathlib.Core.Bool.{Bool, true, false, cond}
+use mathlib.Core.Bool.{true}
 use mathlib.Core.List.{List, [], ◌∷◌, ◌++◌}
-use Prim.Native.Nat.{ℕ, zero, suc, ◌+◌, ◌≤◌}
+use Prim.Native.Nat.{ℕ, ◌+◌, ◌≤◌}
 use native.Mathlib.Omega.{arith}
 use borrow.Author.Tests.{eq-eqb, le-leb, leb-true}
 use lib.Dec.{leb, eqb}
-use lib.ListN.{length, take, drop, length-append, length-drop}
+use lib.ListN.{length, length-append}
 use Rattle.octets.specs.Layout.{layout_bytes, layout_at, field_value}
 use Rattle.octets.proofs.LayoutLaws.{length-numbers}
-use Rattle.octets.proofs.Parts.{part_length}
-use Rattle.protocol.specs.Rows.{row, ◌▷◌, ◌then◌, decide, Check}
+use Rattle.protocol.specs.Rows.{row, ◌▷◌, decide, Check}
 use Rattle.protocol.specs.declared.error.ProtocolError.{ProtocolError}
-use Rattle.protocol.specs.declared.error.ProtocolError.TheVariants.{InvalidState, AuxTooLong}
-use Rattle.protocol.proofs.AllPass.{decide-append, decide-failed, decide-then, passed-all-pass}
-use Rattle.account_state.specs.Fields.{aux_length_of, aux_max_length, entry_length_of, key_length_of, abi_of, algorithm_of, capabilities_of, hash_type_of, state_header_length_of, state_magic_of, state_reserved_of, state_version_of, weight_of}
+use Rattle.protocol.specs.declared.error.ProtocolError.TheVariants.{InvalidState}
+use Rattle.protocol.proofs.AllPass.{decide-append, decide-both, decide-failed, passed-all-pass}
+use Rattle.account_state.specs.Fields.{aux_length_of, entry_length_of, key_length_of, abi_of, algorithm_of, capabilities_of, hash_type_of, state_header_length_of, state_magic_of, state_reserved_of, state_version_of, weight_of}
 use Rattle.account_state.specs.Reading.{EntryReading, StateReading, EntryTyped, EntriesTyped, StateTyped, state_magic, entry_length_fields, entry_bytes, entries_bytes, state_header_fields, state_head, state_bytes, entry_of}
 use Rattle.account_state.specs.State.{state_header_rows, entry_layout_rows, entry_field_rows, original_entry_rows, threshold_rows, summary_of, state_end_rows, state_tail_rows}
 use Rattle.account_state.proofs.Inverse.{Keys}
 use Rattle.account_state.proofs.Unique.{HeaderRead, length-entry-bytes, lengths_read, size-read, entry_read, rest_read, slot_read, entries-read, entries-behind, state-header-read, behind-head}
-use Rattle.account_state_writer.specs.Checks.{head_checks, entry_checks, entries_checks, state_checks, written_checks, lent_summary, lent_within}
-use Rattle.account_state_writer.specs.Slices.{lent_width, lent_aux_length, lent_bytes}
-use Rattle.account_state_writer.specs.Writer.{entry_from, entries_from, needed_bytes, original_entries_rows, original_state_rows, aux_limit_rows, written_rows}
-use Rattle.account_state_writer.proofs.Lent.{length-entries-from, summary-lent}
+use Rattle.account_state_writer.specs.Checks.{head_checks, entry_checks, entries_checks, state_checks, written_checks}
+use Rattle.account_state_writer.specs.Writer.{original_entries_rows, original_state_rows, written_rows}
 
 -- a row that passes finds nothing
 row-true : (c : Check) (e : ProtocolError) → c ▷ row true e ≡ c
-unfolding ◌▷◌
 row-true (Ok _) e = refl
 row-true (Err x) e = refl
 
@@ -121,57 +117,10 @@ module _ (r : StateReading) (y : StateTyped r) (k : Keys r.entries) (h : length 
       decide-append (Ok tt) (original_state_rows b) _
       ∙ (rw state-checked (sym (decide-append (Ok tt) (state_checks r.flags r.spend r.rotate r.recovery r.since r.entries) _)))
 
--- two rows with one refusal are one row
-one-row : (k : Check) (a b : Bool) (e : ProtocolError) → (k ▷ row a e) ▷ row b e ≡ k ▷ row (cond a b false) e
-unfolding ◌▷◌
-one-row (Ok _) true b e = refl
-one-row (Ok _) false b e = refl
-one-row (Err x) a b e = refl
-
--- the limit of the entries that the slices say
-limit-lent : (n : ℕ) (fields bytes : List ℕ) (k : Check) → needed_bytes n fields ≤ length bytes
-    → k ▷ row (lent_within n fields) AuxTooLong ≡ decide k (aux_limit_rows (entries_from n fields bytes))
-unfolding lent_within aux_limit_rows entries_from entry_from needed_bytes decide
-limit-lent zero fields bytes k h = row-true k AuxTooLong
-limit-lent (suc n) fields bytes k h =
-    let a = lent_aux_length fields in
-    let l = length-drop (lent_bytes fields) bytes in
-    let x : length (take a (drop 66 bytes)) ≡ a = part_length bytes 66 a (omega arith) in
-    rw x
-    (sym (one-row k (leb a aux_max_length) (lent_within n (drop lent_width fields)) AuxTooLong)
-    ∙ limit-lent n (drop lent_width fields) (drop (lent_bytes fields) bytes) (k ▷ row (leb a aux_max_length) AuxTooLong) (omega arith))
-
--- the checks, part by part
+-- a head that passes says how many entries there are
 pub head-limit : (flags count : ℕ) → decide (Ok tt) (head_checks flags count) ≡ Ok tt → count ≤ 16
 unfolding head_checks
 head-limit flags count h = leb-true count 16 (passed-all-pass _ h).1.1.0
 
-module _ (flags spend rotate recovery since count : ℕ) (fields bytes : List ℕ) where
-  abbrev es : List EntryReading
-  es = entries_from count fields bytes
-
-  -- what the original's checks find, and then the limit
-  abbrev limited : Check → Check
-  limited k = decide k (aux_limit_rows es)
-
-  parted : decide (Ok tt) (written_checks flags spend rotate recovery since es) ≡ limited (decide (Ok tt) (state_checks flags spend rotate recovery since es))
-  unfolding written_checks
-  parted = decide-append (Ok tt) (state_checks flags spend rotate recovery since es) _
-
-  pub head-failed : (x : ProtocolError) → decide (Ok tt) (head_checks flags count) ≡ Err x → decide (Ok tt) (written_checks flags spend rotate recovery since es) ≡ Err x
-  unfolding state_checks
-  head-failed x h =
-      parted
-      ∙ (ap limited (decide-append (Ok tt) (head_checks flags (length es)) _ ∙ rw (length-entries-from count fields bytes, h) (decide-failed _ x))
-      ∙ decide-failed (aux_limit_rows es) x)
-
-  pub head_passed : decide (Ok tt) (head_checks flags count) ≡ Ok tt → needed_bytes count fields ≤ length bytes
-      → ((decide (Ok tt) (entries_checks es 0) then decide (Ok tt) (threshold_rows flags spend rotate recovery since (lent_summary count fields))) ▷ row (lent_within count fields) AuxTooLong)
-      ≡ decide (Ok tt) (written_checks flags spend rotate recovery since es)
-  unfolding state_checks
-  head_passed h l =
-      limit-lent count fields bytes _ l
-      ∙ (ap limited (sym (decide-append (Ok tt) (head_checks flags (length es)) _
-      ∙ rw (length-entries-from count fields bytes, h, summary-lent count fields bytes)
-      (decide-append (Ok tt) (entries_checks es 0) _ ∙ decide-then (decide (Ok tt) (entries_checks es 0)) _)))
-      ∙ sym parted)
+-- for the check's own search
+pub ruleset checking = (decide-both, decide-failed, head-limit)

@@ -1,4 +1,5 @@
 pub mod Lent
+pub mod Entries
 pub mod Checked
 pub mod Agreed
 pub mod Limit

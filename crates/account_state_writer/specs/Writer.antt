@@ -2,14 +2,13 @@
 use Rattle.std.specs.Prelude.{ℕ, zero, suc, ◌+◌, ◌*◌, ◌%◌, ◌^◌, ◌<◌, List, [], ◌∷◌, ◌++◌, leb, eqb, length, drop, get_or, Result}
 use Rattle.protocol.specs.declared.error.ProtocolError.{ProtocolError}
 use Rattle.octets.specs.Le.{Bytes}
-use Rattle.octets.specs.Layout.{Field, layout_bytes}
 use Rattle.protocol.specs.Rows.{Row, row}
 use Rattle.protocol.specs.Write.{write_fault, write_answer, after_write}
 use Rattle.protocol.specs.declared.error.ProtocolError.TheVariants.{InvalidState, SlicesDisagree}
 use Rattle.account_state.specs.Fields.{entry_bytes_of, entry_count_of, entry_length_of, entry_slot_of}
 use Rattle.account_state.specs.Reading.{EntryReading, StateReading, StateNumbersTyped, state_bytes}
 use Rattle.account_state.specs.State.{state_header_rows, original_entry_rows, aux_limit_row, state_tail_rows}
-use Rattle.account_state_writer.specs.Slices.{lent_width, lent_slot, lent_algorithm, lent_capabilities, lent_weight, lent_aux_length, lent_hash_type, lent_abi, lent_code_hash, lent_key, lent_aux, lent_bytes, lent_count}
+use Rattle.account_state_writer.specs.Slices.{lent_width, lent_slot, lent_algorithm, lent_capabilities, lent_weight, lent_hash_type, lent_abi, lent_code_hash, lent_key, lent_aux, lent_bytes, lent_count}
 
 -- the entry at the front of the slices
 unfoldable pub entry_from : List ℕ → List ℕ → EntryReading
@@ -25,23 +24,6 @@ entry_from fields bytes =
       key = lent_key bytes;
       aux = lent_aux fields bytes;
     }
-
--- the first five numbers of an entry's layout, whose key has 32 bytes
-unfoldable pub entry_field_numbers : List ℕ → List Field
-entry_field_numbers fields =
-    record { width = 2; value = 80 + lent_aux_length fields }
-    ∷ record { width = 2; value = lent_slot fields }
-    ∷ record { width = 2; value = lent_algorithm fields }
-    ∷ record { width = 2; value = lent_capabilities fields }
-    ∷ record { width = 2; value = lent_weight fields }
-    ∷ []
-
--- the 48 bytes before an entry's key: these numbers, the bytes of its verifier, and the lengths of key and aux
-unfoldable pub length_numbers : List ℕ → List Field
-length_numbers fields = record { width = 2; value = 32 } ∷ record { width = 2; value = lent_aux_length fields } ∷ []
-
-unfoldable pub entry_front : List ℕ → List ℕ → List ℕ
-entry_front fields verifier = layout_bytes (entry_field_numbers fields) ++ (verifier ++ layout_bytes (length_numbers fields))
 
 unfoldable pub entries_from : ℕ → List ℕ → List ℕ → List EntryReading
 entries_from zero fields bytes = []

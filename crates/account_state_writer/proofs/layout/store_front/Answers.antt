@@ -1,12 +1,13 @@
--- `account_state_writer::layout::store_front` meets its contract: the numbers, the verifier and the lengths, one behind another. Assumes nothing.
-use native.Mathlib.Omega.{arith}
-use Rattle.account_state_writer.proofs.Lent.{front-stored}
+-- `account_state_writer::layout::store_front` meets its contract: the numbers, the verifier and the lengths, one behind another.
+-- Assumes nothing.
+use Rattle.octets.proofs.LayoutLaws.{layout_stored, store_numbers}
+use Rattle.account_state_writer.specs.Lent.{numbers_lent, entry_lent}
+use Rattle.account_state_writer.proofs.Lent.{field_numbers, front-whole}
 use Rattle.account_state_writer.proofs.layout.store_front.Goals as goal
 
-pub overflow_cast-fields : goal.overflow_cast-fields
-overflow_cast-fields c = omega (arith, c.type_inv.fields 4)
-
 pub returns : goal.returns
+unfolding store_numbers field_numbers entry_lent
 returns c =
-    rw (c.store_number-2.ensures, c.store_number.ensures, c.store_verifier.ensures, c.store_fields.ensures)
-    (front-stored c.args.fields.now c.args.verifier.now c.args.front.now c.requires.1)
+    let e = c.args.entry.now in
+    rw (← front-whole (numbers_lent e) e.bytes.now e.whole c.args.verifier.now c.args.front.now c.requires (λ i. (c.type_inv.verifier i).fits), layout_stored)
+    (cc)
