@@ -1,5 +1,6 @@
 -- The hashed witnesses, one by one.
 -- Assumes nothing.
+use Rattle.std.specs.Prelude.{Ok}
 use mathlib.Core.Path.{◌≡◌, refl, sym, ap, ◌∙◌}
 use mathlib.Core.Bool.{Bool, true, false, cond, ◌||◌, true≢false}
 use mathlib.Core.List.{List, [], ◌∷◌, ◌++◌}
@@ -17,11 +18,12 @@ use Rattle.blake2b.proofs.Feed.{fed-append}
 use Rattle.authorization.specs.Hashed.{hashed_witness}
 use Rattle.authorization.specs.Sighash.{hashed_witnesses}
 use Rattle.authorization.proofs.SighashTheorem.{sighash-fed}
-use Rattle.scene_table.specs.Scene.{Input}
+use Rattle.scene_table.specs.Scene.{Scene, Input}
 use Rattle.scene_table.specs.Lent.{scene_in, input_count, witness_count, transaction_place}
 use Rattle.scene_table.specs.Places.{input_group}
 use Rattle.scene_table.proofs.PlaceLaws.{lent-group, lent-given}
-use Rattle.group_sighash.specs.Witnesses.{group_witnesses, group_of, head_of, first_witness, other_witnesses, witness_fits}
+use Rattle.protocol.specs.Rows.{decide}
+use Rattle.group_sighash.specs.Witnesses.{group_witnesses, group_of, head_of, first_witness, other_witnesses, witness_fits, other_rows}
 use Rattle.group_sighash.specs.Hashed.{hashed_of, hashed_from, group_from, witness_at, is_hashed}
 
 -- the definition's two parts
@@ -183,3 +185,8 @@ pub transaction_lent : (table store : List ℕ) → bytes_at store (transaction_
 transaction_lent table store = sym (lent-given table store).transaction
 
 pub ruleset sighash_parts = (transaction_lent, sighash-fed)
+
+-- hashed witnesses that are all short enough pass
+pub others-pass : (s : Scene) → every witness_fits (other_witnesses s) ≡ true → decide (Ok tt) (other_rows s) ≡ Ok tt
+unfolding other_rows decide
+others-pass s e = rw e

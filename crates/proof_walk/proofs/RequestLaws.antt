@@ -73,7 +73,7 @@ module _ (known : Bool) (operation : ℕ) (digest : List ℕ) (deps : List Cell)
   made-fits = rw request-long request-fits
 
   module _ (out : List ℕ) (r : room ≡ length out) where
-    made-written : request_written (request_content operation digest e p) out ≡ Ok (length (request_bytes (request_content operation digest e p)))
+    pub made-written : request_written (request_content operation digest e p) out ≡ Ok (length (request_bytes (request_content operation digest e p)))
     unfolding request_written write_answer
     made-written = rw (← r, request-passes, request-long)
 
