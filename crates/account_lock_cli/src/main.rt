@@ -28,9 +28,7 @@ fn read_all<R: Read>(reader: &mut R, room: &mut [u8]) -> io::Result<usize>
 // A line that is cut short has no byte 10.
 fn print_answer(rt: &(impl Print + Eprint), scene: &[u8]) {
     let line = program_line(scene);
-    let bytes = line.bytes;
-    let end = line.length;
-    if rt.write_all(&bytes[..end]).is_err() {
+    if rt.write_all(line.as_bytes()).is_err() {
         let _ = rt.eprintln("account_lock_cli: standard output cannot be written");
     }
 }

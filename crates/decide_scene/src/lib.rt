@@ -1,7 +1,7 @@
 // A scene's text decided: it is read, then the lock runs over what it says; and the line that the program prints of it.
 #![tactic(auto)]
 
-ghost use Rattle.std.specs.Prelude.{◌≡◌, ◌≤◌, length};
+ghost use Rattle.std.specs.Prelude.{◌≡◌, ◌≤◌, length, take};
 ghost use Rattle.std.proofs.lemmas.List.Edits.{sets};
 ghost use Rattle.octets.specs.Lists.{array_of};
 ghost use Rattle.scene_reader.specs.Reader.{reader_store, reader_table, read_into};
@@ -11,6 +11,7 @@ ghost use Rattle.decide_scene.specs.Decided.{program_decides, program_line, deci
 
 use account_lock::{LockAnswer, lock, refused};
 use answer_line::answer_line;
+use octets::part;
 use protocol::{ANSWER_BUFFER_LEN, ProtocolError, TABLE_MIN_ENTRIES, check_number};
 use scene_reader::read_scene;
 
@@ -24,7 +25,17 @@ pub struct ProgramLine {
     pub length: usize,
 }
 
+impl ProgramLine {
+    // The line itself.
+    pub fn as_bytes(&self) -> &[u8]
+        ensures { result.now ≡ take self.now.length self.now.bytes }
+    {
+        part(&self.bytes, 0, self.length)
+    }
+}
+
 // Reads the scene into the store and the table, and decides it; the requests stand at the front of `answer`.
+#[tactic(auto, using(crate::proofs::Outcomes::scene_decides), unfolding(account_lock::specs::Lock::or_walked, account_lock::specs::Lock::refused, decision::specs::Walk::answered))]
 pub fn decide_scene(
     scene: &[u8],
     store: &mut [u8],
@@ -48,24 +59,23 @@ fn put_answer(found: LockAnswer, line: &mut [u8]) -> usize
     ensures upper_bound { result ≤ 156 }
     ensures line_after { line.new ≡ sets line.old 0 (lock_answer_line found) }
 {
-    let check = found.found;
-    let digest = found.digest;
     answer_line(
-        check_number(check),
+        check_number(found.found),
         found.count,
         found.length,
         found.reached,
-        digest,
+        found.digest,
         found.fee,
         line,
     )
 }
 
 // What the program decides of a scene, with a store, a table and an answer buffer of its own.
+#[tactic(auto, unfolding(crate::specs::Decided::program_decides))]
 fn program_answer(scene: &[u8]) -> LockAnswer
     ensures { result ≡ answer_of (program_decides scene.now) }
 {
-    if PROGRAM_SCENE_MAX_LEN < scene.len() {
+    if scene.len() > PROGRAM_SCENE_MAX_LEN {
         return refused(ProtocolError::SceneTooLong);
     }
     // As long as the longest scene.
@@ -77,6 +87,7 @@ fn program_answer(scene: &[u8]) -> LockAnswer
 }
 
 // The program's line of a scene, zeros behind it.
+#[tactic(auto, using(crate::proofs::Outcomes::told_line), unfolding(octets::specs::Lists::array_of, crate::specs::Decided::program_line))]
 pub fn program_line(scene: &[u8]) -> ProgramLine
     ensures length_value { result.length ≡ length (program_line scene.now) }
     ensures length_bound { result.length ≤ 156 }
