@@ -7,7 +7,7 @@ ghost use Rattle.exports.specs.Writers.{lent_written, lent_stored, WritesRequest
 
 use export_answers::{check_sizes, store_words, written};
 use octets::array_32;
-use protocol::{error_number, ProtocolError};
+use protocol::{ProtocolError, error_number};
 use verifier_request::{RequestContent, encode_verifier_request, parse_verifier_request};
 
 // Stores algorithm, slot, operation, profile, the places of digest and key, and place and length of the aux and of the proof.

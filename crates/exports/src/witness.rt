@@ -7,12 +7,15 @@ ghost use Rattle.export_answers.specs.Stored.{StoresBytes};
 ghost use Rattle.exports.specs.Readers.{StoresWords, proof_step_words, witness_words};
 ghost use Rattle.exports.specs.Writers.{WritesWitness};
 
-use account_witness::{AccountWitnessHeader, ProofCursor, next_proof, parse_witness_header, validate_witness};
+use account_witness::{
+    AccountWitnessHeader, ProofCursor, next_proof, parse_witness_header, validate_witness,
+};
 use account_witness_writer::encode_witness;
 use export_answers::{store_words, written};
 use protocol::error_number;
 
 // The words of a header.
+#[tactic(auto, unfolding(crate::specs::Readers::witness_words))]
 fn store_witness_header(header: AccountWitnessHeader, out: &mut [u8]) -> u32
     ensures { StoresBytes 0 (word_bytes (witness_words header)) out.old result out.new }
 {

@@ -25,9 +25,5 @@ pub extern "C" fn fowlcredenza_read_scene(scene: &[u8], store: &mut [u8], table:
 pub extern "C" fn fowlcredenza_table_valid(table: &[u32], store_len: usize) -> u32
     ensures { result ≡ cond (valid_table table.now store_len) 1 0 }
 {
-    if scene_table::table_valid(table, store_len) {
-        1
-    } else {
-        0
-    }
+    u32::from(scene_table::table_valid(table, store_len))
 }
