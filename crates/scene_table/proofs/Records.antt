@@ -75,3 +75,5 @@ module _ {A : Type 0} (read : ℕ → A) (w : ℕ) where
   -- the records as a list
   pub records-listed : (n at : ℕ) → Listed (records_at read w n at) n (λ i. read (at + w * i))
   records-listed n at = listed (records_at read w n at) n (λ i. read (at + w * i)) (length-records n at) (record-nth n at)
+
+pub ruleset digit_reads = (record-nth, record-past)

@@ -1,5 +1,6 @@
 -- The walk decides whether a table is one that a scene leaves.
 -- Assumes nothing.
+use Rattle.std.specs.Prelude.{unwrap_or}
 use mathlib.Core.Path.{◌≡◌, refl, sym, ap, ap₂, ◌∙◌}
 use mathlib.Core.Bool.{true, ◌&&◌}
 use mathlib.Core.List.{List, [], ◌∷◌, ◌++◌, append_assoc}
@@ -183,7 +184,7 @@ module _ (table : List ℕ) where
         let d = and_both _ _ b.0 in
         let w = whole table small in
         let t = w.there d.0 in
-        let u : (walk_lines table).used ≡ total (lines_of (blank_scene table)) = omega (arith, t.3) in
+        let u : unwrap_or (walk_lines table) 0 ≡ total (lines_of (blank_scene table)) = omega (arith, t.3) in
         let own : Own = record { zeroth = c.zeroth; scripts = c.scripts; transactions = c.transactions; verdicts = c.verdicts; records = t.2; behind = a.1 } in
         rw (
           le-leb table_min_entries (length table) c.few.enough,
@@ -226,7 +227,7 @@ module _ (table : List ℕ) where
         let w = whole table small in
         let own = table-own (w.long 0) (room_for few) (same-eq table (scene_table (blank_scene table) (length table)) c.1) in
         let good = w.back refl inputs.1 own.records in
-        let u : (walk_lines table).used ≡ length (scene_bytes (blank_scene table)) = omega (arith, (w.there good).3, bytes-total) in (
+        let u : unwrap_or (walk_lines table) 0 ≡ length (scene_bytes (blank_scene table)) = omega (arith, (w.there good).3, bytes-total) in (
           counts-pass record { few = few; zeroth = own.zeroth; scripts = own.scripts; transactions = own.transactions; verdicts = own.verdicts },
           rw (good, below, u, fits) own.behind,
         )

@@ -10,7 +10,7 @@ use Rattle.octets.specs.Lists.{every}
 use Rattle.scene_table.specs.Scene.{Line, cell_bytes, cell_lengths, bytes_line, hash_line, input_line, output_line, cell_line, digits_line, lines_of}
 use Rattle.scene_table.specs.Lent.{table_entry, inputs_at, outputs_at, deps_at, witnesses_at, verdicts_at, records_at, table_u64, input_width, output_width, cell_width, bytes_width, cell_from, input_from, output_from, cell_record_from, bytes_from, scene_from, blank_scene, input_count, witness_count, output_count, dep_count, digit_count, cell_record_places, cell_field_places, bytes_place, input_record_places, script_place, transaction_place, zeros_at, place_at}
 use Rattle.scene_table.specs.RecordsWalk.{with_record, cell_size, record_step, walk_records, any_record, group_ok, bytes_size, cell_record_size, input_size, records_start, walk_head, walk_inputs, walk_outputs, walk_deps, walk_witnesses, walk_lines}
-use Rattle.scene_table.specs.declared.validity.RecordsWalk.{RecordsWalk}
+use Rattle.std.specs.Prelude.{Option}
 use Rattle.scene_table.proofs.Records.{length-records}
 use Rattle.scene_table.proofs.WalkLaws.{required-true}
 use Rattle.scene_table.proofs.Lines.{cut, from_inputs, from_outputs, from_deps, from_witnesses, lines-by-kind}
@@ -94,18 +94,18 @@ module _ (table : List ℕ) where
       rw (two, length-records (table_entry table) 1 (table_entry table (verdicts_at table + 1)) (verdicts_at table + 2))
 
   -- one record, and records, without a further test
-  one : (size : ℕ → ℕ) (k : RecordsWalk) (at v : ℕ) (l : Line) → length l.bytes ≡ size at → l.numbers ≡ cut table v (at + 1)
+  one : (size : ℕ → ℕ) (k : Option ℕ) (at v : ℕ) (l : Line) → length l.bytes ≡ size at → l.numbers ≡ cut table v (at + 1)
       → Segment table (Unit {0}) k at (suc v) (l ∷ []) (record_step table any_record size k at)
   unfolding any_record
   one size k at v l sized own = retest table (λ t. tt) (λ t. refl) (record-segment table any_record size k at v l sized own)
 
-  record-one : (size : ℕ) (k : RecordsWalk) (at v : ℕ) (l : Line) → length l.bytes ≡ size → l.numbers ≡ cut table v (at + 1)
+  record-one : (size : ℕ) (k : Option ℕ) (at v : ℕ) (l : Line) → length l.bytes ≡ size → l.numbers ≡ cut table v (at + 1)
       → Segment table (Unit {0}) k at (suc v) (l ∷ []) (with_record k (table_entry table at) size)
   unfolding record_step any_record
   record-one size k at v l sized own = rw (required-true k) at (one (λ i. size) k at v l sized own)
 
   many : (size : ℕ → ℕ) (v : ℕ) (line : ℕ → Line) → ((at : ℕ) → length (line at).bytes ≡ size at) → ((at : ℕ) → (line at).numbers ≡ cut table v (at + 1))
-      → (n at : ℕ) (k : RecordsWalk) → Segment table (Unit {0}) k at (suc v * n) (records_at line (suc v) n at) (walk_records table any_record size (suc v) n at k)
+      → (n at : ℕ) (k : Option ℕ) → Segment table (Unit {0}) k at (suc v * n) (records_at line (suc v) n at) (walk_records table any_record size (suc v) n at k)
   many size v line sized own n at k =
       retest table (λ t. tt) (λ t. every_any (records_at (λ (i : ℕ). i) (suc v) n at)) (records-segment table any_record size v line sized own n at k)
 

@@ -7,5 +7,9 @@ mod places; // places.rt
 mod validity; // validity.rt
 
 pub use self::lent::LentSlices;
-pub use self::places::{CellPlaces, dep_cell, dep_count, digit_count, input_capacity, input_cell, input_count, input_group, input_since, output_capacity, output_cell, output_count, script, transaction_hash, verdict, witness, witness_count};
+pub use self::places::{
+    CellPlaces, dep_cell, dep_count, digit_count, input_capacity, input_cell, input_count,
+    input_group, input_since, output_capacity, output_cell, output_count, script, transaction_hash,
+    verdict, witness, witness_count,
+};
 pub use self::validity::table_valid;

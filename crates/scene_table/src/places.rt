@@ -1,9 +1,14 @@
 // What the table says of the scene: numbers, and places of bytes in the store. An entry past the table's end counts as 0.
 ghost use Rattle.std.specs.Prelude.{◌≡◌, ◌≤◌, ◌<◌, ◌^◌};
 ghost use Rattle.scene_table.specs.Lent.{table_entry, table_u64, outputs_at, deps_at, witnesses_at, verdicts_at, hash_length, digit_count, input_count, output_count, dep_count, witness_count, cell_field_places, bytes_place, cell_record_places, script_place, transaction_place};
-ghost use Rattle.scene_table.specs.Places.{input_group, input_since, input_capacity, input_places, output_places, output_capacity, dep_places, witness_place, verdict_of};
+ghost use Rattle.scene_table.specs.Places.{input_at, output_at, input_group, input_since, input_capacity, input_places, output_places, output_capacity, dep_places, witness_place, verdict_of};
 
-use crate::entries::{BYTES_LENGTH, BYTES_WIDTH, CELL_DATA_LENGTH, CELL_SCRIPT_LENGTH, CELL_WIDTH, DEP_COUNT_AT, DIGIT_COUNT, DIGITS, INPUT_CAPACITY, INPUT_COUNT_AT, INPUT_DATA_LENGTH, INPUT_GROUP, INPUT_SCRIPT_LENGTH, INPUT_SINCE, INPUT_WIDTH, INPUTS_AT, OUTPUT_CAPACITY, OUTPUT_COUNT_AT, OUTPUT_WIDTH, SCRIPT_AT, TRANSACTION_AT, WITNESS_COUNT_AT};
+use crate::entries::{
+    BYTES_LENGTH, BYTES_WIDTH, CELL_DATA_LENGTH, CELL_SCRIPT_LENGTH, CELL_WIDTH, DEP_COUNT_AT,
+    DIGIT_COUNT, DIGITS, INPUT_CAPACITY, INPUT_COUNT_AT, INPUT_DATA_LENGTH, INPUT_GROUP,
+    INPUT_SCRIPT_LENGTH, INPUT_SINCE, INPUT_WIDTH, INPUTS_AT, OUTPUT_CAPACITY, OUTPUT_COUNT_AT,
+    OUTPUT_WIDTH, SCRIPT_AT, TRANSACTION_AT, WITNESS_COUNT_AT,
+};
 use octets::Place;
 
 // The places of a cell's fields. A cell without a type script has nothing at the first and the third.
@@ -15,10 +20,11 @@ pub struct CellPlaces {
     pub content: Place,
 }
 
+#[tactic(auto, unfolding(crate::specs::Lent::table_entry))]
 pub(crate) fn table_entry(table: &[u32], at: usize) -> u32
     ensures { result ≡ table_entry table.now at }
 {
-    if at < table.len() { table[at] } else { 0 }
+    table.get(at).copied().unwrap_or(0)
 }
 
 // The u64 whose halves stand at `at` and behind it.
@@ -26,10 +32,11 @@ fn table_u64(table: &[u32], at: usize) -> u64
     requires { at < 2 ^ 40 }
     ensures { result ≡ table_u64 table.now at }
 {
-    table_entry(table, at) as u64 + 4294967296 * table_entry(table, at + 1) as u64
+    u64::from(table_entry(table, at)) + 4294967296 * u64::from(table_entry(table, at + 1))
 }
 
 // Where the records of each kind begin.
+#[tactic(auto, unfolding(crate::specs::Lent::outputs_at, crate::specs::Lent::inputs_at))]
 pub(crate) fn outputs_at(table: &[u32]) -> usize
     ensures value { result ≡ outputs_at table.now }
     ensures upper_bound { result < 2 ^ 36 }
@@ -37,6 +44,7 @@ pub(crate) fn outputs_at(table: &[u32]) -> usize
     INPUTS_AT + INPUT_WIDTH * input_count(table) as usize
 }
 
+#[tactic(auto, unfolding(crate::specs::Lent::deps_at))]
 pub(crate) fn deps_at(table: &[u32]) -> usize
     ensures value { result ≡ deps_at table.now }
     ensures upper_bound { result < 2 ^ 37 }
@@ -44,6 +52,7 @@ pub(crate) fn deps_at(table: &[u32]) -> usize
     outputs_at(table) + OUTPUT_WIDTH * output_count(table) as usize
 }
 
+#[tactic(auto, unfolding(crate::specs::Lent::witnesses_at))]
 pub(crate) fn witnesses_at(table: &[u32]) -> usize
     ensures value { result ≡ witnesses_at table.now }
     ensures upper_bound { result < 2 ^ 38 }
@@ -51,6 +60,7 @@ pub(crate) fn witnesses_at(table: &[u32]) -> usize
     deps_at(table) + CELL_WIDTH * dep_count(table) as usize
 }
 
+#[tactic(auto, unfolding(crate::specs::Lent::verdicts_at))]
 pub(crate) fn verdicts_at(table: &[u32]) -> usize
     ensures value { result ≡ verdicts_at table.now }
     ensures upper_bound { result < 2 ^ 39 }
@@ -58,7 +68,25 @@ pub(crate) fn verdicts_at(table: &[u32]) -> usize
     witnesses_at(table) + BYTES_WIDTH * witness_count(table) as usize
 }
 
+// Where the record of input `i` begins, and that of output `i`.
+#[tactic(auto, unfolding(crate::specs::Places::input_at, crate::specs::Lent::inputs_at))]
+fn input_at(i: u32) -> usize
+    ensures value { result ≡ input_at i }
+    ensures upper_bound { result < 2 ^ 36 }
+{
+    INPUTS_AT + INPUT_WIDTH * i as usize
+}
+
+#[tactic(auto, unfolding(crate::specs::Places::output_at))]
+fn output_at(table: &[u32], i: u32) -> usize
+    ensures value { result ≡ output_at table.now i }
+    ensures upper_bound { result < 2 ^ 38 }
+{
+    outputs_at(table) + OUTPUT_WIDTH * i as usize
+}
+
 // How many bytes the type hash has beside a type script of this length.
+#[tactic(auto, unfolding(crate::specs::Lent::hash_length))]
 pub(crate) fn hash_length(script: u32) -> usize
     ensures value { result ≡ hash_length script }
     ensures upper_bound { result ≤ 32 }
@@ -67,33 +95,33 @@ pub(crate) fn hash_length(script: u32) -> usize
 }
 
 // The places of a cell whose bytes begin at `start`, by the lengths of its type script and its data.
+#[tactic(auto, unfolding(crate::specs::Lent::cell_field_places))]
 fn cell_places(start: u32, script: u32, content: u32) -> CellPlaces
     ensures { result ≡ cell_field_places start script content }
 {
+    let start = start as usize;
     let hash = hash_length(script);
-    let second = start as usize + hash;
-    let third = second + 32;
+    let script = script as usize;
+    let behind_hashes = start + hash + 32;
     CellPlaces {
-        type_hash: Place {
-            start: start as usize,
-            len: hash,
-        },
+        type_hash: Place { start, len: hash },
         data_hash: Place {
-            start: second,
+            start: start + hash,
             len: 32,
         },
         type_script: Place {
-            start: third,
-            len: script as usize,
+            start: behind_hashes,
+            len: script,
         },
         content: Place {
-            start: third + script as usize,
+            start: behind_hashes + script,
             len: content as usize,
         },
     }
 }
 
 // The place of the bytes whose record begins at `at`.
+#[tactic(auto, unfolding(crate::specs::Lent::bytes_place))]
 fn bytes_place(table: &[u32], at: usize) -> Place
     requires { at < 2 ^ 40 }
     ensures { result ≡ bytes_place table.now at }
@@ -105,6 +133,7 @@ fn bytes_place(table: &[u32], at: usize) -> Place
 }
 
 // The places of the output or the dep whose record begins at `at`.
+#[tactic(auto, unfolding(crate::specs::Lent::cell_record_places))]
 fn record_places(table: &[u32], at: usize) -> CellPlaces
     requires { at < 2 ^ 40 }
     ensures { result ≡ cell_record_places table.now at }
@@ -116,12 +145,14 @@ fn record_places(table: &[u32], at: usize) -> CellPlaces
     )
 }
 
+#[tactic(auto, unfolding(crate::specs::Lent::script_place))]
 pub fn script(table: &[u32]) -> Place
     ensures { result ≡ script_place table.now }
 {
     bytes_place(table, SCRIPT_AT)
 }
 
+#[tactic(auto, unfolding(crate::specs::Lent::transaction_place))]
 pub fn transaction_hash(table: &[u32]) -> Place
     ensures { result ≡ transaction_place table.now }
 {
@@ -155,6 +186,7 @@ pub fn witness_count(table: &[u32]) -> u32
     table_entry(table, WITNESS_COUNT_AT)
 }
 
+#[tactic(auto, unfolding(crate::specs::Lent::digit_count))]
 pub fn digit_count(table: &[u32]) -> u32
     ensures { result ≡ digit_count table.now }
 {
@@ -162,28 +194,32 @@ pub fn digit_count(table: &[u32]) -> u32
 }
 
 // Whether input `i` runs this lock.
+#[tactic(auto, unfolding(crate::specs::Places::input_group))]
 pub fn input_group(table: &[u32], i: u32) -> bool
     ensures { result ≡ input_group table.now i }
 {
-    table_entry(table, INPUTS_AT + INPUT_WIDTH * i as usize + INPUT_GROUP) == 1
+    table_entry(table, input_at(i) + INPUT_GROUP) == 1
 }
 
+#[tactic(auto, unfolding(crate::specs::Places::input_since))]
 pub fn input_since(table: &[u32], i: u32) -> u64
     ensures { result ≡ input_since table.now i }
 {
-    table_u64(table, INPUTS_AT + INPUT_WIDTH * i as usize + INPUT_SINCE)
+    table_u64(table, input_at(i) + INPUT_SINCE)
 }
 
+#[tactic(auto, unfolding(crate::specs::Places::input_capacity))]
 pub fn input_capacity(table: &[u32], i: u32) -> u64
     ensures { result ≡ input_capacity table.now i }
 {
-    table_u64(table, INPUTS_AT + INPUT_WIDTH * i as usize + INPUT_CAPACITY)
+    table_u64(table, input_at(i) + INPUT_CAPACITY)
 }
 
+#[tactic(auto, unfolding(crate::specs::Places::input_places, crate::specs::Lent::input_record_places))]
 pub fn input_cell(table: &[u32], i: u32) -> CellPlaces
     ensures { result ≡ input_places table.now i }
 {
-    let at = INPUTS_AT + INPUT_WIDTH * i as usize;
+    let at = input_at(i);
     cell_places(
         table_entry(table, at),
         table_entry(table, at + INPUT_SCRIPT_LENGTH),
@@ -191,27 +227,28 @@ pub fn input_cell(table: &[u32], i: u32) -> CellPlaces
     )
 }
 
+#[tactic(auto, unfolding(crate::specs::Places::output_places))]
 pub fn output_cell(table: &[u32], i: u32) -> CellPlaces
     ensures { result ≡ output_places table.now i }
 {
-    record_places(table, outputs_at(table) + OUTPUT_WIDTH * i as usize)
+    record_places(table, output_at(table, i))
 }
 
+#[tactic(auto, unfolding(crate::specs::Places::output_capacity))]
 pub fn output_capacity(table: &[u32], i: u32) -> u64
     ensures { result ≡ output_capacity table.now i }
 {
-    table_u64(
-        table,
-        outputs_at(table) + OUTPUT_WIDTH * i as usize + OUTPUT_CAPACITY,
-    )
+    table_u64(table, output_at(table, i) + OUTPUT_CAPACITY)
 }
 
+#[tactic(auto, unfolding(crate::specs::Places::dep_places))]
 pub fn dep_cell(table: &[u32], i: u32) -> CellPlaces
     ensures { result ≡ dep_places table.now i }
 {
     record_places(table, deps_at(table) + CELL_WIDTH * i as usize)
 }
 
+#[tactic(auto, unfolding(crate::specs::Places::witness_place))]
 pub fn witness(table: &[u32], i: u32) -> Place
     ensures { result ≡ witness_place table.now i }
 {
@@ -219,6 +256,7 @@ pub fn witness(table: &[u32], i: u32) -> Place
 }
 
 // The digit of proof `i`; 2 where there is none.
+#[tactic(auto, unfolding(crate::specs::Places::verdict_of, crate::specs::Places::verdict_at, crate::specs::Lent::digit_count, crate::specs::Lent::scene_from, crate::specs::Lent::blank_scene), using(crate::proofs::Records::digit_reads))]
 pub fn verdict(table: &[u32], i: u32) -> u32
     ensures { result ≡ verdict_of table.now i }
 {

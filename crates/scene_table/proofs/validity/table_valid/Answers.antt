@@ -18,4 +18,4 @@ unfolding table_entry
 returns-else-counts_valid c =
     let a = c.args in
     let counted : counts_ok a.table.now ≡ false = sym c.counts_valid.ensures ∙ c.if-counts_valid.false in
-    rw counted at (decides a.table.now (λ i. (c.type_inv.table i).fits) a.room)
+    c.if-counts_valid.false ∙ rw counted at (decides a.table.now (λ i. (c.type_inv.table i).fits) a.room)

@@ -1,8 +1,0 @@
--- `scene_table::places::input_capacity` meets its contract. Assumes nothing.
-use Rattle.scene_table.specs.Lent.{inputs_at}
-use Rattle.scene_table.specs.Places.{input_at, input_capacity}
-use Rattle.scene_table.proofs.places.input_capacity.Goals as goal
-
-pub returns : goal.returns
-unfolding inputs_at input_at input_capacity
-returns c = c.table_u64.ensures
