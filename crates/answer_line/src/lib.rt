@@ -11,6 +11,7 @@ use octets::store_bytes;
 use text::{COMMA, LINE_END, put_byte, put_decimal, put_hex};
 
 // A comma and a number from `at` on; where they end.
+#[tactic(auto, using(crate::proofs::Stored::behind_comma))]
 fn put_number(out: &mut [u8], at: usize, value: u64) -> usize
     requires { at ≤ 1000 }
     ensures value { result ≡ at + length (comma ∷ number_text value) }
@@ -23,6 +24,7 @@ fn put_number(out: &mut [u8], at: usize, value: u64) -> usize
 }
 
 // A comma and the digest, if there is one, from `at` on; where they end.
+#[tactic(auto, unfolding(crate::specs::Line::digest_text), using(crate::proofs::Stored::behind_comma))]
 fn put_digest(out: &mut [u8], at: usize, reached: bool, digest: &[u8; 32]) -> usize
     requires { at ≤ 1000 }
     ensures value { result ≡ at + length (comma ∷ digest_text reached digest.now) }
@@ -39,6 +41,7 @@ fn put_digest(out: &mut [u8], at: usize, reached: bool, digest: &[u8; 32]) -> us
 }
 
 // A comma and the fee, if the number is an acceptance's, from `at` on; where they end.
+#[tactic(auto, unfolding(crate::specs::Line::fee_text))]
 fn put_fee(out: &mut [u8], at: usize, number: u8, fee: u64) -> usize
     requires { at ≤ 1000 }
     ensures value { result ≡ at + length (comma ∷ fee_text number fee) }
@@ -46,10 +49,11 @@ fn put_fee(out: &mut [u8], at: usize, number: u8, fee: u64) -> usize
     ensures out_after { out.new ≡ sets out.old at (comma ∷ fee_text number fee) }
 {
     if number == 0 {
-        return put_number(out, at, fee);
+        put_number(out, at, fee)
+    } else {
+        put_byte(out, at, COMMA);
+        at + 1
     }
-    put_byte(out, at, COMMA);
-    at + 1
 }
 
 // Stores the line from the front of `out` on, as far as there is room, and says how long it is.
@@ -67,7 +71,7 @@ pub fn answer_line(
     ensures out_after { out.new ≡ sets out.old 0 (line_of number count total reached digest fee) }
 {
     store_bytes(out, 0, b"answer");
-    let number_end = put_number(out, 6, number as u64);
+    let number_end = put_number(out, 6, u64::from(number));
     let count_end = put_number(out, number_end, count as u64);
     let total_end = put_number(out, count_end, total as u64);
     let digest_end = put_digest(out, total_end, reached, &digest);

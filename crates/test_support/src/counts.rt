@@ -21,13 +21,13 @@ pub fn counted(counts: Counts, passes: bool) -> Counts
 {
     if passes {
         Counts {
-            passed: std::num::wrapping_add_u64(counts.passed, 1),
-            failed: counts.failed,
+            passed: counts.passed.wrapping_add(1),
+            ..counts
         }
     } else {
         Counts {
-            passed: counts.passed,
-            failed: std::num::wrapping_add_u64(counts.failed, 1),
+            failed: counts.failed.wrapping_add(1),
+            ..counts
         }
     }
 }

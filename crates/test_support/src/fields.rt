@@ -33,5 +33,5 @@ pub fn value(f: &[u8]) -> u64
 pub fn wide(x: u8) -> u64
     ensures { result ≡ x }
 {
-    x as u64
+    u64::from(x)
 }

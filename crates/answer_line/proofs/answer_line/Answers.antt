@@ -3,7 +3,7 @@
 use Prim.Native.Nat.{ℕ, ◌+◌, ◌≤◌}
 use mathlib.Core.Path.{◌≡◌, refl, sym, ◌∙◌}
 use mathlib.Core.List.{List, [], ◌∷◌, ◌++◌, append-nil, append_assoc}
-use native.Mathlib.Omega.{arith}
+use borrow.Author.Rules.{rules}
 use Rattle.text.specs.Print.{parted_by, line_text, number_text}
 use Rattle.text.specs.Text.{comma, line_end}
 use Rattle.answer_line.specs.Line.{answer_word, digest_text, fee_text, line_of}
@@ -29,7 +29,8 @@ unfolding line_of answer_word
 returns c =
     let a = c.args in
     let begun : Stored a.out.now c.store_bytes.new.out answer_word 6 = record { here = c.store_bytes.ensures; ends = refl } in
-    let numbered = stored_more (comma ∷ number_text a.number) _ _ begun c.put_number-number_end.ensures.out_after c.put_number-number_end.ensures.value in
+    let first = rw c.from.ensures at c.put_number-number_end.ensures in
+    let numbered = stored_more (comma ∷ number_text a.number) _ _ begun first.out_after first.value in
     let counted = stored_more (comma ∷ number_text a.count) _ _ numbered c.put_number-count_end.ensures.out_after c.put_number-count_end.ensures.value in
     let totalled = stored_more (comma ∷ number_text a.total) _ _ counted c.put_number-total_end.ensures.out_after c.put_number-total_end.ensures.value in
     let digested = stored_more (comma ∷ digest_text a.reached a.digest) _ _ totalled c.put_digest-digest_end.ensures.out_after c.put_digest-digest_end.ensures.value in
@@ -38,13 +39,5 @@ returns c =
     let parts =
     line-parts answer_word (number_text a.number) (number_text a.count) (number_text a.total) (digest_text a.reached a.digest) (fee_text a.number a.fee)
     in
-    let short : c.put_fee-fee_end.result + 1 ≤ 156 =
-    omega (
-      arith,
-      c.put_number-number_end.ensures.upper_bound,
-      c.put_number-count_end.ensures.upper_bound,
-      c.put_number-total_end.ensures.upper_bound,
-      c.put_digest-digest_end.ensures.upper_bound,
-      c.put_fee-fee_end.ensures.upper_bound,
-    ) in
+    let short : c.put_fee-fee_end.result + 1 ≤ 156 = search rules in
     record { value = rw parts ended.ends; upper_bound = short; out_after = rw parts ended.here }
