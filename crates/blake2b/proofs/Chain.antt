@@ -1,9 +1,9 @@
 -- What a caller cites of a chain begin, update, .., finish, digest: each law takes what one call ensures.
 -- Assumes nothing.
-use Rattle.std.proofs.Common.{◌≡◌, ℕ, ◌+◌, ◌-◌, ◌^◌, ◌<◌, ◌≤◌, List, [], ◌++◌, length, take, drop, ◌∙◌, arith, take-add}
+use Rattle.std.proofs.Common.{◌≡◌, ℕ, ◌+◌, ◌-◌, ◌^◌, ◌<◌, ◌≤◌, List, [], ◌++◌, length, take, drop, sym, ◌∙◌, arith, take-add}
 use Rattle.blake2b.specs.declared.Blake2b.{Blake2b}
 use Rattle.blake2b.specs.Rfc7693.{bytes_of, hash_of}
-use Rattle.blake2b.specs.State.{begun, fed_all, finished}
+use Rattle.blake2b.specs.State.{begun, fed_all, finished, ckb_parameters, ckb_hash}
 use Rattle.blake2b.proofs.Feed.{fed-append}
 use Rattle.blake2b.proofs.Whole.{hash-fed}
 
@@ -31,3 +31,8 @@ fed-part xs at end h w e =
 pub fed-hash : {p xs r : List ℕ} {s t : Blake2b} (n : ℕ) → Fed p xs s → length xs < 2 ^ 64 → t ≡ finished s
     → r ≡ take n (bytes_of t.h) → r ≡ hash_of p xs n
 fed-hash {p} {xs} n w small e k = k ∙ rw (e, w.state) (hash-fed p xs n small)
+
+-- CKB's hash of bytes fed at once
+pub hash_fed : (xs : List ℕ) → length xs < 2 ^ 64 → ckb_hash xs ≡ take 32 (bytes_of (finished (fed_all (begun ckb_parameters) xs)).h)
+unfolding ckb_hash
+hash_fed xs small = sym (hash-fed ckb_parameters xs 32 small)

@@ -13,6 +13,7 @@ pub(crate) fn next_place(fed: u64) -> usize
 }
 
 // How many bytes of the block wait to be compressed.
+#[tactic(auto, unfolding(crate::specs::State::waiting))]
 pub(crate) fn waiting_bytes(fed: u64) -> usize
     ensures { (result ≡ waiting fed) × (result ≤ 128) }
 {
@@ -27,10 +28,11 @@ pub(crate) fn fill_bytes(fed: u64, len: usize) -> usize
     ensures { result ≡ min len ((128 - fed % 128) % 128) }
 {
     let room = (Blake2b::BLOCK - next_place(fed)) % Blake2b::BLOCK;
-    if len < room { len } else { room }
+    len.min(room)
 }
 
 // The words once a full block is compressed.
+#[tactic(auto, unfolding(crate::specs::State::flushed_words))]
 pub(crate) fn flush(h: [u64; 8], block: &[u8], fed: u64) -> [u64; 8]
     ensures { result ≡ flushed_words h block.now fed }
 {

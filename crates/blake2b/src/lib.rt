@@ -23,24 +23,20 @@ pub struct Blake2b {
 fn start_words(p: [u8; 64]) -> [u64; 8]
     ensures { result ≡ start_words p }
 {
-    let iv = Blake2b::IV;
-    let mut h = [0u64; 8];
-    let mut i: usize = 0;
-    while i < 8 {
-        h[i] = iv[i] ^ octets::u64_at(&p, 8 * i);
-        i += 1;
+    let mut h = Blake2b::IV;
+    for i in 0..8 {
+        h[i] ^= octets::u64_at(&p, 8 * i);
     }
     h
 }
 
 // Stores the bytes of the words, as far as there is room.
+#[tactic(auto, using(crate::proofs::Bytes::word_stored, crate::proofs::Bytes::none_stored))]
 fn store_words(out: &mut [u8], h: [u64; 8])
     ensures { out.new ≡ sets out.old 0 (bytes_of h) }
 {
-    let mut i: usize = 0;
-    while i < 8 {
+    for i in 0..8 {
         octets::store_number(out, 8 * i, 8, h[i]);
-        i += 1;
     }
 }
 
@@ -52,18 +48,19 @@ impl Blake2b {
     pub const IV: [u64; 8] = blake2b_compression::IV;
 
     // A state that nothing was fed to, from a parameter block.
+    #[tactic(auto, unfolding(crate::specs::State::begun))]
     pub fn with_parameters(p: [u8; 64]) -> Self
         ensures { result ≡ begun p }
     {
-        let h = start_words(p);
         Self {
-            h,
+            h: start_words(p),
             block: [0; Self::BLOCK],
             fed: 0,
         }
     }
 
     // A state for CKB's hash: 32 bytes out, fanout and depth 1, and the personal bytes.
+    #[tactic(auto, unfolding(crate::specs::State::ckb_parameters))]
     pub fn new() -> Self
         ensures { result ≡ begun ckb_parameters }
     {
@@ -85,20 +82,20 @@ impl Blake2b {
         let mut fed = self.fed;
         let mut at = fill_bytes(fed, data.len());
         octets::store_bytes(&mut block, next_place(fed), &data[0..at]);
-        fed = std::num::wrapping_add_u64(fed, at as u64);
+        fed = fed.wrapping_add(at as u64);
         if at < data.len() {
             let first = flush(h, &block, fed);
             h = first;
             while Self::BLOCK < data.len() - at {
                 let end = at + Self::BLOCK;
-                fed = std::num::wrapping_add_u64(fed, Self::BLOCK as u64);
+                fed = fed.wrapping_add(Self::BLOCK as u64);
                 let next = flush(h, &data[at..end], fed);
                 h = next;
                 at = end;
             }
             block = [0; Self::BLOCK];
             octets::store_bytes(&mut block, 0, &data[at..]);
-            fed = std::num::wrapping_add_u64(fed, (data.len() - at) as u64);
+            fed = fed.wrapping_add((data.len() - at) as u64);
         }
         self.h = h;
         self.block = block;
@@ -107,38 +104,37 @@ impl Blake2b {
     }
 
     // The last block is compressed.
+    #[tactic(auto, unfolding(crate::specs::State::finished))]
     pub fn finish(mut self) -> Self
         ensures { result ≡ finished self }
     {
-        let h = self.h;
-        let block = self.block;
-        let next = compress(h, message_words(&block), self.fed, true);
-        self.h = next;
+        self.h = compress(self.h, message_words(&self.block), self.fed, true);
         self
     }
 
     // The first 32 bytes of the words: the digest of a finished state.
+    #[tactic(auto, using(crate::proofs::Bytes::first_bytes))]
     pub fn digest(self) -> [u8; 32]
         ensures { result ≡ take 32 (bytes_of self.h) }
     {
-        let h = self.h;
         let mut out = [0u8; 32];
-        store_words(&mut out, h);
+        store_words(&mut out, self.h);
         out
     }
 
     // All 64 bytes of the words.
+    #[tactic(auto, using(crate::proofs::Bytes::all_bytes))]
     pub fn bytes(self) -> [u8; 64]
         ensures { result ≡ bytes_of self.h }
     {
-        let h = self.h;
         let mut out = [0u8; 64];
-        store_words(&mut out, h);
+        store_words(&mut out, self.h);
         out
     }
 }
 
 // CKB's hash of a slice.
+#[tactic(auto, using(crate::proofs::Chain::hash_fed))]
 pub fn ckb_hash(data: &[u8]) -> [u8; 32]
     ensures { result ≡ ckb_hash «data».now }
 {

@@ -28,6 +28,6 @@ in_row row t k h =
     ltb→lt (get_or row k 0) 16 (at (λ (x : ℕ). ltb x 16) row (left (every (λ (x : ℕ). ltb x 16) row) _ (right (eqb (length row) 16) _ t)) k 0 (omega arith))
 
 -- the rule at the row of a round
-pub row-rule : (i : ℕ) → T (permutation (row_of i))
+pub row_rule : (i : ℕ) → T (permutation (row_of i))
 unfolding row_of SIGMA
-row-rule i = at permutation SIGMA (right (eqb (length SIGMA) 10) (every permutation SIGMA) sigma-rule) (i % 10) [] (omega arith)
+row_rule i = at permutation SIGMA (right (eqb (length SIGMA) 10) (every permutation SIGMA) sigma-rule) (i % 10) [] (omega arith)

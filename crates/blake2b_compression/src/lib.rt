@@ -32,32 +32,26 @@ const SIGMA: [[u8; 16]; 10] = [
     [10, 2, 8, 4, 7, 6, 1, 5, 15, 11, 9, 14, 3, 12, 13, 0],
 ];
 
-// x >>> n
-fn rotate(x: u64, n: u32) -> u64
-    requires { (0 < n) × (n < 64) }
-    ensures { result ≡ rotr x n }
-{
-    (x >> n) ^ (x << (64 - n))
-}
-
 // v[a] := v[a] + v[b] + x
+#[tactic(auto, using(crate::proofs::Words::sum_modulo), unfolding(crate::specs::Compression::add))]
 fn add_to(v: &mut [u64; 16], a: usize, b: usize, x: u64)
     requires { (a < 16) × (b < 16) }
     ensures { v.new ≡ add a b x v.old }
 {
-    let sum = std::num::wrapping_add_u64(v[a], v[b]);
-    v[a] = std::num::wrapping_add_u64(sum, x);
+    v[a] = v[a].wrapping_add(v[b]).wrapping_add(x);
 }
 
 // v[d] := (v[d] ^ v[a]) >>> n
+#[tactic(auto, using(crate::proofs::Words::xor_rotated), unfolding(crate::specs::Compression::turn))]
 fn xor_rotate(v: &mut [u64; 16], d: usize, a: usize, n: u32)
     requires { (d < 16) × ((a < 16) × ((0 < n) × (n < 64))) }
     ensures { v.new ≡ turn d a n v.old }
 {
-    v[d] = rotate(v[d] ^ v[a], n);
+    v[d] = (v[d] ^ v[a]).rotate_right(n);
 }
 
 // The mixing function G.
+#[tactic(auto, unfolding(crate::specs::Compression::G))]
 fn mix(v: &mut [u64; 16], a: usize, b: usize, c: usize, d: usize, x: u64, y: u64)
     requires { (a < 16) × ((b < 16) × ((c < 16) × (d < 16))) }
     ensures { v.new ≡ G v.old a b c d x y }
@@ -73,6 +67,7 @@ fn mix(v: &mut [u64; 16], a: usize, b: usize, c: usize, d: usize, x: u64, y: u64
 }
 
 // m[s[k]]: the message word that the row s of SIGMA names at place k.
+#[tactic(auto, using(crate::proofs::Table::in_row))]
 fn message(m: &[u64; 16], s: &[u8; 16], k: usize) -> u64
     requires { (k < 16) × T (permutation s.now) }
     ensures { result ≡ slice_index m.now (slice_index s.now k) }
@@ -81,6 +76,7 @@ fn message(m: &[u64; 16], s: &[u8; 16], k: usize) -> u64
 }
 
 // G with the message words that the row s of SIGMA names at places k and k + 1.
+#[tactic(auto, unfolding(crate::specs::Compression::mixed))]
 fn mix_at(
     v: &mut [u64; 16],
     m: &[u64; 16],
@@ -98,6 +94,7 @@ fn mix_at(
 }
 
 // G on the columns and then on the diagonals, by the row s of SIGMA.
+#[tactic(auto, unfolding(crate::specs::Compression::round))]
 fn mix_round(v: &mut [u64; 16], m: &[u64; 16], s: &[u8; 16])
     requires { T (permutation s.now) }
     ensures { v.new ≡ round m.now s.now v.old }
@@ -120,30 +117,18 @@ fn next_row(i: usize) -> usize
     if i == 9 { 0 } else { i + 1 }
 }
 
-// The twelve rounds. The table is copied once, since each use of a constant's name makes the constant anew.
+// The twelve rounds. The table is copied once, since each use of a constant's name makes the constant anew. The row is counted and
+// copied: by `i % 10`, or read in place, a block takes a tenth longer.
+#[tactic(auto, using(crate::proofs::Table::row_rule), unfolding(crate::specs::Compression::rounds, crate::specs::Compression::row_of, crate::specs::Compression::SIGMA))]
 fn mix_rounds(v: &mut [u64; 16], m: &[u64; 16])
     ensures { v.new ≡ rounds 12 m.now v.old }
 {
     let sigma = SIGMA;
-    let mut i: usize = 0;
-    let mut row: usize = 0;
-    while i < 12 {
+    let mut row = 0;
+    for _ in 0..12usize {
         let s = sigma[row];
         mix_round(v, m, &s);
         row = next_row(row);
-        i += 1;
-    }
-}
-
-// Stores eight words from place `at` on.
-fn copy_words(v: &mut [u64; 16], at: usize, words: [u64; 8])
-    requires { at ≤ 8 }
-    ensures { v.new ≡ sets v.old at words }
-{
-    let mut i: usize = 0;
-    while i < 8 {
-        v[at + i] = words[i];
-        i += 1;
     }
 }
 
@@ -152,11 +137,11 @@ fn work_vector(h: [u64; 8], t: u64, last: bool) -> [u64; 16]
     ensures { result ≡ work_vector h t last }
 {
     let mut v = [0u64; 16];
-    copy_words(&mut v, 0, h);
-    copy_words(&mut v, 8, IV);
-    v[12] = v[12] ^ t;
+    v[..8].copy_from_slice(&h);
+    v[8..].copy_from_slice(&IV);
+    v[12] ^= t;
     if last {
-        v[14] = v[14] ^ 0xffff_ffff_ffff_ffff;
+        v[14] ^= u64::MAX;
     }
     v
 }
@@ -166,10 +151,8 @@ fn xor_halves(h: [u64; 8], v: &[u64; 16]) -> [u64; 8]
     ensures { result ≡ halves h v.now }
 {
     let mut next = [0u64; 8];
-    let mut i: usize = 0;
-    while i < 8 {
+    for i in 0..8 {
         next[i] = h[i] ^ v[i] ^ v[i + 8];
-        i += 1;
     }
     next
 }
@@ -179,15 +162,14 @@ pub fn message_words(block: &[u8]) -> [u64; 16]
     ensures { result ≡ words_of 16 block.now }
 {
     let mut m = [0u64; 16];
-    let mut i: usize = 0;
-    while i < 16 {
+    for i in 0..16 {
         m[i] = octets::u64_at(block, 8 * i);
-        i += 1;
     }
     m
 }
 
 // The compression function F.
+#[tactic(auto, unfolding(crate::specs::Compression::F))]
 pub fn compress(h: [u64; 8], m: [u64; 16], t: u64, last: bool) -> [u64; 8]
     ensures { result ≡ F h m t last }
 {

@@ -1,34 +1,23 @@
--- A loop that stores f i at each place i of a list.
+-- Lists by their places.
 -- Assumes nothing.
 use mathlib.Core.Path.{◌≡◌, refl, sym, ◌∙◌}
-use mathlib.Core.List.{List}
-use Prim.Native.Nat.{ℕ, zero, suc, ◌+◌, ◌≤◌, ◌<◌, zero-le}
+use mathlib.Core.List.{List, [], ◌∷◌}
+use Prim.Native.Nat.{ℕ, zero, suc, ◌<◌}
 use native.Mathlib.Numerals.{add-one}
 use native.Mathlib.Omega.{arith}
-use lib.ListN.{length, take, set, length-set, length-append}
-use lib.Seq.{take-suc-set, take_all}
+use lib.ListN.{length, take, get_or, length-append, length-take}
+use lib.Seq.{take-suc, take_all, get_or-take}
 use Rattle.octets.specs.Lists.{tabulate}
 
--- the loop has come to place i of a list of n
-pub record Filled (f : ℕ → ℕ) (n : ℕ) (l : List ℕ) (i : ℕ) : Type 0 where
-  pub within : i ≤ n
-  pub long : length l ≡ n
-  pub first : take i l ≡ tabulate f i
-
-pub filled_none : (f : ℕ → ℕ) (n : ℕ) (l : List ℕ) → length l ≡ n → Filled f n l 0
+-- a list with f k at each place k
+pub tabulated : (f : ℕ → ℕ) (n : ℕ) (l : List ℕ) → length l ≡ n → ((k : ℕ) → k < n → get_or l k 0 ≡ f k) → l ≡ tabulate f n
 unfolding tabulate
-filled_none f n l e = record { within = zero-le; long = e; first = refl }
-
-pub filled_more : {f : ℕ → ℕ} {n : ℕ} {l : List ℕ} {i x : ℕ} → Filled f n l i → i < n → x ≡ f i → Filled f n (set l i x) (i + 1)
-unfolding tabulate
-filled_more {f} {n} {l} {i} {x} w h e =
-    record { within = omega arith; long = length-set l i x ∙ w.long; first = rw (add-one, take-suc-set l i x (omega arith), w.first, e) }
-
-pub filled-all : {f : ℕ → ℕ} {n : ℕ} {l : List ℕ} {i : ℕ} → Filled f n l i → n ≤ i → l ≡ tabulate f n
-filled-all {f} {n} {l} {i} w h =
-    let e : i ≡ n = omega arith in
-    let k : length l ≤ n = omega arith in
-    sym (take_all n l k) ∙ (rw e at w.first)
+tabulated f zero [] e h = refl
+tabulated f zero (x ∷ l) e h = absurd (omega arith)
+tabulated f (suc n) l e h =
+    let m : length (take n l) ≡ n = omega (arith, length-take n l) in
+    let front : take n l ≡ tabulate f n = tabulated f n (take n l) m (λ k q. get_or-take n l k 0 q ∙ h k (omega arith)) in
+    sym (take_all (suc n) l (omega arith)) ∙ (take-suc l n 0 (omega arith) ∙ rw (front, h n (omega arith)))
 
 pub length-tabulate : (f : ℕ → ℕ) (n : ℕ) → length (tabulate f n) ≡ n
 unfolding tabulate
