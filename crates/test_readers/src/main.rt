@@ -58,7 +58,7 @@ fn lay_out(aux_len: u16, state: &mut [u8]) {
     let fields = [1u16, 0x0101, 3, 1, 1];
     let mut bytes = [0u8; 67];
     bytes[1] = 1;
-    encode_state(0, 7, 1, 1, 0, 0, &fields, &bytes, state);
+    let _ = encode_state(0, 7, 1, 1, 0, 0, &fields, &bytes, state);
     store_number(state, 32, 2, 80 + aux_len as u64);
     store_number(state, 78, 2, aux_len as u64);
 }
