@@ -1,7 +1,7 @@
 // The search for the cells of a list that have a hash.
 ghost use Rattle.std.specs.Prelude.{◌≡◌};
 ghost use Rattle.scene_table.specs.Slices.{scene_of};
-ghost use Rattle.cell_search.specs.Search.{cells_of, cell_search, is_missing, is_one, is_several, index_of};
+ghost use Rattle.cell_search.specs.Search.{cells_of, cell_search, is_missing, is_one};
 
 use crate::cells::{CellField, Source, cell_count, cell_hash};
 use octets::same_bytes;
@@ -39,25 +39,9 @@ impl Search {
         matches!(self, Search::Missing)
     }
 
-    pub fn is_several(self) -> bool
-        ensures { result ≡ is_several self }
-    {
-        matches!(self, Search::Several)
-    }
-
     pub fn is_one(self) -> bool
         ensures { result ≡ is_one self }
     {
         matches!(self, Search::One(_))
-    }
-
-    // The index of the one, 0 where there is none or several.
-    pub fn index(self) -> u32
-        ensures { result ≡ index_of self }
-    {
-        match self {
-            Search::One(index) => index,
-            _ => 0,
-        }
     }
 }
