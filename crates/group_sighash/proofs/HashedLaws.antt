@@ -50,18 +50,18 @@ group-none (i ∷ is) = refl
 
 module _ (table store : List ℕ) (i : ℕ) where
   -- a witness of the group, an input that has none, and behind the last input or the last witness
-  pub group_yes : i < min (input_count table) (witness_count table) → input_group table i ≡ true
+  pub group-yes : i < min (input_count table) (witness_count table) → input_group table i ≡ true
       → group_from table store i ≡ witness_at table store i ∷ group_from table store (i + 1)
   unfolding group_from group_witnesses witness_at
-  group_yes h g =
+  group-yes h g =
       let n : i < input_count table = omega arith in
       let w : i < witness_count table = omega arith in
       rw ((lent-given table store).inputs.turn i n, (lent-given table store).witnesses.turn i w, lent-group table store i, g)
 
-  pub group_no : i < min (input_count table) (witness_count table) → input_group table i ≡ false
+  pub group-no : i < min (input_count table) (witness_count table) → input_group table i ≡ false
       → group_from table store i ≡ group_from table store (i + 1)
   unfolding group_from group_witnesses
-  group_no h g =
+  group-no h g =
       let n : i < input_count table = omega arith in
       let w : i < witness_count table = omega arith in
       rw ((lent-given table store).inputs.turn i n, (lent-given table store).witnesses.turn i w, lent-group table store i, g)
@@ -78,10 +78,10 @@ module _ (table store : List ℕ) (i : ℕ) where
           rw ((lent-given table store).witnesses.none i w) (group-none (drop i (scene_in table store).inputs))
 
   -- a hashed witness
-  pub hashed_take : i < witness_count table → is_hashed table i ≡ true
+  pub hashed-take : i < witness_count table → is_hashed table i ≡ true
       → hashed_from table store i ≡ witness_at table store i ∷ hashed_from table store (i + 1)
   unfolding is_hashed hashed_from hashed_of witness_at
-  hashed_take w = go (leb (input_count table) i) refl
+  hashed-take w = go (leb (input_count table) i) refl
     where
       go : (b : Bool) → leb (input_count table) i ≡ b → (b || input_group table i) ≡ true
           → hashed_from table store i ≡ witness_at table store i ∷ hashed_from table store (i + 1)
@@ -93,9 +93,9 @@ module _ (table store : List ℕ) (i : ℕ) where
           rw ((lent-given table store).inputs.turn i (leb-false _ _ e), (lent-given table store).witnesses.turn i w, lent-group table store i, g)
 
   -- one that is not
-  pub hashed_skip : i < witness_count table → is_hashed table i ≡ false → hashed_from table store i ≡ hashed_from table store (i + 1)
+  pub hashed-skip : i < witness_count table → is_hashed table i ≡ false → hashed_from table store i ≡ hashed_from table store (i + 1)
   unfolding is_hashed hashed_from hashed_of
-  hashed_skip w = go (leb (input_count table) i) refl
+  hashed-skip w = go (leb (input_count table) i) refl
     where
       go : (b : Bool) → leb (input_count table) i ≡ b → (b || input_group table i) ≡ false
           → hashed_from table store i ≡ hashed_from table store (i + 1)
@@ -103,9 +103,9 @@ module _ (table store : List ℕ) (i : ℕ) where
       go false e g =
           rw ((lent-given table store).inputs.turn i (leb-false _ _ e), (lent-given table store).witnesses.turn i w, lent-group table store i, g)
 
-  pub hashed_end : witness_count table ≤ i → hashed_from table store i ≡ []
+  pub hashed-end : witness_count table ≤ i → hashed_from table store i ≡ []
   unfolding hashed_from
-  hashed_end w = rw ((lent-given table store).witnesses.none i w) (hashed-none (drop i (scene_in table store).inputs))
+  hashed-end w = rw ((lent-given table store).witnesses.none i w) (hashed-none (drop i (scene_in table store).inputs))
 
 -- the group's witnesses, as far as input i none was one
 pub group_begin : (table store : List ℕ) → group_of (scene_in table store) ≡ group_from table store 0
@@ -114,71 +114,71 @@ group_begin table store = refl
 
 module _ (table store : List ℕ) (i : ℕ) (none : group_of (scene_in table store) ≡ group_from table store i) where
   -- input i has the first, and the others are hashed behind it
-  pub first_there : i < min (input_count table) (witness_count table) → input_group table i ≡ true
+  pub first-there : i < min (input_count table) (witness_count table) → input_group table i ≡ true
       → first_witness (scene_in table store) ≡ witness_at table store i
   unfolding first_witness head_of
-  first_there h g = rw (none, group_yes table store i h g)
+  first-there h g = rw (none, group-yes table store i h g)
 
-  pub other_there : i < min (input_count table) (witness_count table) → input_group table i ≡ true
+  pub other-there : i < min (input_count table) (witness_count table) → input_group table i ≡ true
       → other_witnesses (scene_in table store) ≡ hashed_from table store (i + 1)
   unfolding other_witnesses hashed_from group_from
-  other_there h g =
+  other-there h g =
       let is = (scene_in table store).inputs in
       let ws = (scene_in table store).witnesses in
       let long : length is ≡ input_count table = (lent-given table store).inputs.long in
       let m : i + 1 + (length is - (i + 1)) ≡ length is = rw long (omega arith) in
-      rw (none, group_yes table store i h g)
+      rw (none, group-yes table store i h g)
       (sym (hashed-split (drop (i + 1) is) (drop (i + 1) ws) ∙ rw (length-drop, drop-drop, m)))
 
   -- behind the last input or the last witness there is no first
   group-missing : min (input_count table) (witness_count table) ≤ i → group_of (scene_in table store) ≡ []
   group-missing h = none ∙ group-end table store i h
 
-  pub first_missing : min (input_count table) (witness_count table) ≤ i → first_witness (scene_in table store) ≡ []
+  pub first-missing : min (input_count table) (witness_count table) ≤ i → first_witness (scene_in table store) ≡ []
   unfolding first_witness head_of
-  first_missing e = rw (group-missing e)
+  first-missing e = rw (group-missing e)
 
-  pub other_missing : min (input_count table) (witness_count table) ≤ i → other_witnesses (scene_in table store) ≡ hashed_from table store 0
+  pub other-missing : min (input_count table) (witness_count table) ≤ i → other_witnesses (scene_in table store) ≡ hashed_from table store 0
   unfolding other_witnesses hashed_from group_of
-  other_missing e =
+  other-missing e =
       let is = (scene_in table store).inputs in
       let ws = (scene_in table store).witnesses in
       rw (group-missing e) (sym (hashed-split is ws ∙ rw (group-missing e)))
 
-pub ruleset group_begins = (group_begin, group_no, first_there, other_there, first_missing, other_missing)
+pub ruleset group_begins = (group_begin, group-no, first-there, other-there, first-missing, other-missing)
 
 -- each hashed witness fits
 module _ (table store : List ℕ) (i : ℕ) where
   pub fits_more : i < witness_count table → is_hashed table i ≡ true → length (witness_at table store i) ≤ 132096
       → every witness_fits (hashed_from table store i) ≡ every witness_fits (hashed_from table store (i + 1))
   unfolding every witness_fits
-  fits_more w g h = rw (hashed_take table store i w g, le-leb (length (witness_at table store i)) 132096 h)
+  fits_more w g h = rw (hashed-take table store i w g, le-leb (length (witness_at table store i)) 132096 h)
 
   pub fits_not : i < witness_count table → is_hashed table i ≡ true → 132096 < length (witness_at table store i)
       → every witness_fits (hashed_from table store i) ≡ false
   unfolding every witness_fits
-  fits_not w g h = rw (hashed_take table store i w g, lt-leb (length (witness_at table store i)) 132096 h)
+  fits_not w g h = rw (hashed-take table store i w g, lt-leb (length (witness_at table store i)) 132096 h)
 
   pub fits_end : witness_count table ≤ i → every witness_fits (hashed_from table store i) ≡ true
   unfolding every
-  fits_end w = rw (hashed_end table store i w)
+  fits_end w = rw (hashed-end table store i w)
 
-pub ruleset others_fit = (hashed_skip, fits_more, fits_not, fits_end)
+pub ruleset others_fit = (hashed-skip, fits_more, fits_not, fits_end)
 
 -- each hashed witness is fed
 module _ (h : Blake2b) (table store : List ℕ) (i : ℕ) where
-  pub fed_next : i < witness_count table → is_hashed table i ≡ true → fed_all h (hashed_witnesses (hashed_from table store i))
+  pub fed-next : i < witness_count table → is_hashed table i ≡ true → fed_all h (hashed_witnesses (hashed_from table store i))
       ≡ fed_all (fed_all h (hashed_witness (witness_at table store i))) (hashed_witnesses (hashed_from table store (i + 1)))
   unfolding hashed_witnesses joined
-  fed_next w g =
+  fed-next w g =
       let ws = hashed_from table store (i + 1) in
-      rw (hashed_take table store i w g) (sym (fed-append h (hashed_witness (witness_at table store i)) (hashed_witnesses ws)))
+      rw (hashed-take table store i w g) (sym (fed-append h (hashed_witness (witness_at table store i)) (hashed_witnesses ws)))
 
-  pub fed_end : witness_count table ≤ i → fed_all h (hashed_witnesses (hashed_from table store i)) ≡ h
+  pub fed-end : witness_count table ≤ i → fed_all h (hashed_witnesses (hashed_from table store i)) ≡ h
   unfolding hashed_witnesses joined fed_all
-  fed_end w = rw (hashed_end table store i w)
+  fed-end w = rw (hashed-end table store i w)
 
-pub ruleset fed_others = (hashed_skip, fed_next, fed_end)
+pub ruleset fed_others = (hashed-skip, fed-next, fed-end)
 
 -- the sighash's first part, and all of it
 pub transaction_lent : (table store : List ℕ) → bytes_at store (transaction_place table) ≡ (scene_in table store).transaction
