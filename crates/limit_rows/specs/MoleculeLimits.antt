@@ -11,18 +11,18 @@ use Rattle.molecule.specs.Canonical.{canonical_of}
 unfoldable pub table_with : ℕ → ℕ → ℕ → ℕ → List ℕ → List ℕ
 table_with total first second third rest = to_le 4 total ++ to_le 4 first ++ to_le 4 second ++ to_le 4 third ++ rest
 
-abbrev check_number : List ℕ → ℕ
-check_number s = check_number (decide (Ok tt) (table_rows InvalidWitness s))
+abbrev table_number : List ℕ → ℕ
+table_number s = check_number (decide (Ok tt) (table_rows InvalidWitness s))
 
 -- by the first offset, before four bytes, and by the second and the third
 abbrev by_first : ℕ → ℕ
-by_first first = check_number (table_with 20 first 20 20 (1 ∷ 2 ∷ 3 ∷ 4 ∷ []))
+by_first first = table_number (table_with 20 first 20 20 (1 ∷ 2 ∷ 3 ∷ 4 ∷ []))
 
 abbrev by_offsets : ℕ → ℕ → ℕ
-by_offsets second third = check_number (table_with 20 16 second third (1 ∷ 2 ∷ 3 ∷ 4 ∷ []))
+by_offsets second third = table_number (table_with 20 16 second third (1 ∷ 2 ∷ 3 ∷ 4 ∷ []))
 
 abbrev by_total : ℕ → ℕ
-by_total total = check_number (table_with total 16 16 16 [])
+by_total total = table_number (table_with total 16 16 16 [])
 
 -- a table of three vectors of bytes, the first of one byte, the second of two, the third of three
 unfoldable pub three_fields : List ℕ
@@ -38,7 +38,7 @@ args_field_number field = check_number (read_script_args (table_with (16 + lengt
 
 pub record MoleculeLimits : Type 0 where
   -- "the total is the length, at least 16"
-  pub of-15 : (s : List ℕ) → length s ≡ 15 → check_number s ≡ 22
+  pub of-15 : (s : List ℕ) → length s ≡ 15 → table_number s ≡ 22
   pub total : map by_total (15 ∷ 16 ∷ 17 ∷ []) ≡ 22 ∷ 0 ∷ 22 ∷ []
   -- "the first offset is 16, offsets don't fall or pass the length"
   pub first : map by_first (12 ∷ 16 ∷ 20 ∷ []) ≡ 22 ∷ 0 ∷ 22 ∷ []

@@ -1,6 +1,7 @@
 -- The witnesses, a proof's rows, the last rows of the walk and the totals: 01, "Where each refusal is raised", 02, changes 6 and 9,
 -- computed from the definitions.
-use Rattle.std.specs.Prelude.{ℕ, ◌+◌, ◌-◌, ◌^◌, ◌≡◌, Bool, true, false, List, [], ◌∷◌, ◌++◌, map, length, replicate, Ok}
+use Rattle.std.specs.Prelude.{ℕ, ◌+◌, ◌-◌, ◌^◌, ◌≡◌, Bool, true, false, List, [], ◌∷◌, ◌++◌, map, length, replicate, Ok, Err}
+use Rattle.protocol.specs.declared.error.ProtocolError.TheVariants.{OutputsExceedInputs}
 use Rattle.octets.specs.Le.{to_le}
 use Rattle.octets.specs.Lists.{tabulate}
 use Rattle.protocol.specs.Rows.{decide, check_number}
@@ -123,4 +124,4 @@ pub record ProofLimits : Type 0 where
   pub last : last_number false 5 5 ∷ last_number true 4 5 ∷ last_number true 5 5 ∷ last_number true 0 0 ∷ [] ≡ 22 ∷ 28 ∷ 0 ∷ 28 ∷ []
   -- 02, change 9: "39 where a total passes 2^64−1, inputs first, then 48 where outputs exceed inputs"
   pub totals : totals_number (2 ^ 64 - 1) (2 ^ 64 - 1) ∷ totals_number (2 ^ 64) 0 ∷ totals_number 0 (2 ^ 64) ∷ totals_number 5 6 ∷ [] ≡ 0 ∷ 39 ∷ 39 ∷ 48 ∷ []
-  pub fee : (fee_for (2 ^ 64 - 1) 5).fee ∷ (fee_for 5 5).fee ∷ (fee_for 5 6).fee ∷ [] ≡ (2 ^ 64 - 6) ∷ 0 ∷ 0 ∷ []
+  pub fee : fee_for (2 ^ 64 - 1) 5 ∷ fee_for 5 5 ∷ fee_for 5 6 ∷ [] ≡ Ok (2 ^ 64 - 6) ∷ Ok 0 ∷ Err OutputsExceedInputs ∷ []
