@@ -51,10 +51,10 @@ pub fn next_proof(
     require(proof_reserved_at(witness, offset) == 0, invalid)?;
     require(fits(witness.len(), start, len), invalid)?;
     require(1 <= len, invalid)?;
-    require(least <= slot as u32, invalid)?;
+    require(least <= u32::from(slot), invalid)?;
     let next = ProofCursor {
         offset: start + len,
-        least: slot as u32 + 1,
+        least: u32::from(slot) + 1,
     };
     Ok((Proof { slot, start, len }, next))
 }

@@ -20,14 +20,19 @@ use protocol::{ACCOUNT_WITNESS_HEADER_LEN, ACCOUNT_WITNESS_MAGIC, ACCOUNT_WITNES
 pub(crate) fn store_header(out: &mut [u8], operation: u8, count: usize, sequence: u64)
     ensures { out.new ≡ sets out.old 0 (layout_bytes (witness_header_fields operation count sequence)) }
 {
-    store_number(out, WITNESS_MAGIC_OFFSET, 4, ACCOUNT_WITNESS_MAGIC as u64);
+    store_number(
+        out,
+        WITNESS_MAGIC_OFFSET,
+        4,
+        u64::from(ACCOUNT_WITNESS_MAGIC),
+    );
     store_number(
         out,
         WITNESS_VERSION_OFFSET,
         1,
-        ACCOUNT_WITNESS_VERSION as u64,
+        u64::from(ACCOUNT_WITNESS_VERSION),
     );
-    store_number(out, WITNESS_OPERATION_OFFSET, 1, operation as u64);
+    store_number(out, WITNESS_OPERATION_OFFSET, 1, u64::from(operation));
     store_number(out, PROOF_COUNT_OFFSET, 1, count as u64);
     store_number(out, WITNESS_RESERVED_OFFSET, 1, 0);
     store_number(out, WITNESS_SEQUENCE_OFFSET, 8, sequence);
@@ -38,7 +43,7 @@ fn store_proof(out: &mut [u8], at: usize, slot: u16, proof: &[u8])
     requires { at ≤ 131072 }
     ensures { out.new ≡ sets out.old at (proof_bytes (record { slot = slot; bytes = proof.now })) }
 {
-    store_number(out, at, 2, slot as u64);
+    store_number(out, at, 2, u64::from(slot));
     store_number(out, at + PROOF_RESERVED_OFFSET, 2, 0);
     store_number(out, at + PROOF_LENGTH_OFFSET, 4, proof.len() as u64);
     store_bytes(out, at + PROOF_HEADER_LEN, proof);

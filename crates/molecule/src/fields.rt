@@ -40,10 +40,7 @@ pub(crate) fn bytes_length_of(field: &[u8]) -> u32
 fn bytes_between(s: &[u8], start: usize, end: usize) -> &[u8]
     ensures { result.now ≡ between s.now start end }
 {
-    if end <= start {
-        return part(s, start, 0);
-    }
-    part(s, start, end - start)
+    part(s, start, end.saturating_sub(start))
 }
 
 #[tactic(auto, unfolding(crate::specs::Table3::field1))]

@@ -44,8 +44,8 @@ impl<'a> RequestContent<'a> {
         ensures { out.new ≡ sets out.old 0
             (layout_bytes (request_head self.now.algorithm self.now.slot self.now.operation self.now.profile)) }
     {
-        store_number(out, MAGIC_OFFSET, 4, VERIFIER_MAGIC as u64);
-        store_number(out, ABI_OFFSET, 1, VERIFIER_ABI_V1 as u64);
+        store_number(out, MAGIC_OFFSET, 4, u64::from(VERIFIER_MAGIC));
+        store_number(out, ABI_OFFSET, 1, u64::from(VERIFIER_ABI_V1));
         store_number(out, RESERVED_OFFSET, 1, 0);
         store_number(
             out,
@@ -53,10 +53,10 @@ impl<'a> RequestContent<'a> {
             2,
             VERIFIER_REQUEST_HEADER_LEN as u64,
         );
-        store_number(out, ALGORITHM_OFFSET, 2, self.algorithm as u64);
-        store_number(out, SLOT_OFFSET, 2, self.slot as u64);
-        store_number(out, OPERATION_OFFSET, 1, self.operation as u64);
-        store_number(out, PROFILE_OFFSET, 1, self.profile as u64);
+        store_number(out, ALGORITHM_OFFSET, 2, u64::from(self.algorithm));
+        store_number(out, SLOT_OFFSET, 2, u64::from(self.slot));
+        store_number(out, OPERATION_OFFSET, 1, u64::from(self.operation));
+        store_number(out, PROFILE_OFFSET, 1, u64::from(self.profile));
         store_number(out, ZEROS_OFFSET, 2, 0);
     }
 
