@@ -10,7 +10,7 @@ loop-i-preserved c =
     let vs = c.args.words.now in
     record {
       whole = rw c.store_number.ensures (word-stored vs l.out l.i (omega arith) ∙ l.invariant.whole);
-      kept = ap length c.store_number.ensures ∙ simp length-sets l.invariant.kept
+      kept = ap length c.store_number.ensures ∙ simp length-sets l.invariant.kept;
     }
 
 pub returns : goal.returns

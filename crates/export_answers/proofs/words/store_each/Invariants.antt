@@ -7,5 +7,5 @@ use Rattle.export_answers.proofs.words.store_each.Given as goal
 abbrev pub invariant-loop-i : goal.invariant-loop-i
 invariant-loop-i l = record {
   whole : sets l.out (8 * l.i) (word_bytes (drop l.i l.words)) ≡ sets l.initial.out 0 (word_bytes l.words);
-  kept : length l.out ≡ length l.initial.out
+  kept : length l.out ≡ length l.initial.out;
 }
