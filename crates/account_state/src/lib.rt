@@ -22,8 +22,8 @@ pub use self::fields::{
 };
 pub use self::header::StateHeader;
 use self::header::{check_head, header_at};
-pub use self::walk::StateSummary;
 use self::walk::walk_entries;
+pub use self::walk::{StateSummary, capable_share};
 use protocol::{ProtocolError, require};
 
 // The whole state: its header, and the weights of the holders of each capability; or the number of the first check that fails.

@@ -24,7 +24,7 @@ pub(crate) struct EntriesWalk {
 }
 
 // The weight that an entry adds to the capability of a bit; 0 is no bit.
-fn capable_share(bit: u16, capabilities: u16, weight: u16) -> u32
+pub fn capable_share(bit: u16, capabilities: u16, weight: u16) -> u32
     ensures { (result ≡ capable_share bit capabilities weight) × (result < 65536) }
 {
     if bit == 0 {
@@ -36,7 +36,7 @@ fn capable_share(bit: u16, capabilities: u16, weight: u16) -> u32
 impl StateSummary {
     // With an entry's weight added to that of each capability that it has.
     #[tactic(auto, unfolding(crate::specs::State::with_entry))]
-    pub fn with_entry(self, capabilities: u16, weight: u16) -> StateSummary
+    pub(crate) fn with_entry(self, capabilities: u16, weight: u16) -> StateSummary
         requires { Light 1 self }
         ensures value { result ≡ with_entry self capabilities weight }
         ensures room { (left : ℕ) → Light (left + 1) self → Light left result }

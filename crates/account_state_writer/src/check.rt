@@ -1,16 +1,16 @@
 // The checks of the state that the slices say, before a byte of it is written.
-ghost use Rattle.std.specs.Prelude.{◌≡◌, ◌≤◌, length, Ok};
+ghost use Rattle.std.specs.Prelude.{◌≡◌, ℕ, ◌+◌, ◌≤◌, length, Ok};
 ghost use Rattle.protocol.specs.Rows.{decide};
-ghost use Rattle.account_state.specs.State.{summary_of};
+ghost use Rattle.account_state.specs.State.{summary_of, Light, with_entry};
 ghost use Rattle.account_state_writer.specs.Writer.{aux_limit_rows};
 ghost use Rattle.account_state_writer.specs.Lent.{entry_lent, entries_lent};
 ghost use Rattle.account_state_writer.specs.Checks.{head_checks, entry_checks, entries_checks, written_checks};
 
 use crate::slices::{LentEntries, LentEntry};
-use account_state::{StateHeader, StateSummary, check_entry_fields};
+use account_state::{StateHeader, StateSummary, capable_share, check_entry_fields};
 use protocol::{
-    ACCOUNT_STATE_MAX_AUX_LEN, AUTHENTICATOR_MAX_COUNT, ProtocolError, STATE_FLAGS_KNOWN_MASK,
-    require,
+    ACCOUNT_STATE_MAX_AUX_LEN, AUTHENTICATOR_MAX_COUNT, CAP_RECOVERY, CAP_ROTATE, CAP_SPEND,
+    ProtocolError, STATE_FLAGS_KNOWN_MASK, require,
 };
 
 #[tactic(auto, unfolding(protocol::specs::Rows::decide, crate::specs::Checks::head_checks))]
@@ -43,6 +43,22 @@ fn check_entries(entries: LentEntries) -> Result<(), ProtocolError>
     Ok(())
 }
 
+// With an entry's weight added to that of each capability that it has. The reader's method of this name stays within its crate: no
+// public function has a `requires`.
+#[tactic(auto, unfolding(account_state::specs::State::with_entry))]
+fn with_entry(weights: StateSummary, capabilities: u16, weight: u16) -> StateSummary
+    requires { Light 1 weights }
+    ensures value { result ≡ with_entry weights capabilities weight }
+    ensures room { (left : ℕ) → Light (left + 1) weights → Light left result }
+{
+    let share = |bit| capable_share(bit, capabilities, weight);
+    StateSummary {
+        spend_weight: weights.spend_weight + share(CAP_SPEND),
+        rotate_weight: weights.rotate_weight + share(CAP_ROTATE),
+        recovery_weight: weights.recovery_weight + share(CAP_RECOVERY),
+    }
+}
+
 // The weights of the holders of each capability.
 #[tactic(auto, using(account_state::proofs::Weighing::weighs), unfolding(crate::specs::Lent::entry_lent, crate::specs::Writer::entry_from))]
 fn weights_of(entries: LentEntries) -> StateSummary
@@ -51,7 +67,7 @@ fn weights_of(entries: LentEntries) -> StateSummary
 {
     let mut weights = StateSummary::default();
     for entry in entries {
-        weights = weights.with_entry(entry.capabilities, entry.weight);
+        weights = with_entry(weights, entry.capabilities, entry.weight);
     }
     weights
 }
