@@ -18,7 +18,7 @@ use Rattle.decision.specs.Proofs.{context_for}
 use Rattle.decision.proofs.DecisionTheorem.{witness-decides}
 use Rattle.account_lock.specs.Lock.{witness_lock, early_rows, context_of, Result, refused, walked, or_walked, walk_result, lock_scene, lock_of, answer_of}
 use Rattle.account_lock.specs.declared.answer.LockAnswer.{LockAnswer}
-use Rattle.account_lock.specs.Decides.{EarlierPass, LockQuorum, LockOutcome, LockRequests, LockDecision}
+use Rattle.account_lock.specs.Decides.{EarlierPass, LockQuorum, LockOutcome, LockDecision}
 
 -- ---- what an acceptance follows from
 
@@ -61,18 +61,12 @@ module _ (table store : List ℕ) (room : ℕ) where
 
 -- ---- what the lock promises, from what it found of its table
 
--- the promises of an answer r and a buffer `after`, for a buffer `before`
-abbrev pub Promised : List ℕ → List ℕ → List ℕ → LockAnswer → List ℕ → Type 0
-Promised table store before r after =
-    LockOutcome table store before r × (LockRequests table store before after × LockDecision table store before r)
-
-pub lock-promised : (table store before : List ℕ) {r : LockAnswer} {after : List ℕ} → LockOutcome table store before r
-    → LockRequests table store before after → Promised table store before r after
+pub lock-decided : (table store before : List ℕ) {r : LockAnswer} → LockOutcome table store before r → LockDecision table store before r
 unfolding answer_of
-lock-promised table store before e k =
+lock-decided table store before e =
     let f = ap (λ (x : LockAnswer). x.found) e in
     let d = lock-decision table store (length before) in
-    (e, (k, (λ h. d.0 (sym f ∙ h), λ q. f ∙ d.1 q)))
+    (λ h. d.0 (sym f ∙ h), λ q. f ∙ d.1 q)
 
 module _ (table store : List ℕ) (room : ℕ) where
   pub lock-valid : valid_table table (length store) ≡ true → lock_of table store room ≡ lock_scene (scene_in table store) room
@@ -82,3 +76,5 @@ module _ (table store : List ℕ) (room : ℕ) where
   pub lock-invalid : valid_table table (length store) ≡ false → lock_of table store room ≡ refused (Err SlicesDisagree)
   unfolding lock_of
   lock-invalid v = rw v
+
+pub ruleset promises = (lock-valid, lock-invalid, lock-decision)

@@ -21,13 +21,12 @@ pub struct LockAnswer {
 pub fn refused(error: ProtocolError) -> LockAnswer
     ensures { result ≡ lock.answer_of (lock.refused (Err error)) }
 {
-    let none = [0u8; 32];
     LockAnswer {
         found: Err(error),
         count: 0,
         length: 0,
         reached: false,
-        digest: none,
+        digest: [0; 32],
         fee: 0,
     }
 }

@@ -49,6 +49,7 @@ fn lock_scene(scene: &LentSlices, answer: &mut [u8]) -> LockAnswer
 }
 
 // Decides the transaction, and writes the requests of its proofs to the front of `answer`.
+#[tactic(auto, using(crate::proofs::LockTheorem::promises), unfolding(crate::specs::Lock::answer_of, crate::specs::Lock::refused, decision::specs::Walk::answered))]
 pub fn lock(table: &[u32], store: &[u8], answer: &mut [u8]) -> LockAnswer
     ensures outcome { LockOutcome table.now store.now answer.old result }
     ensures requests { LockRequests table.now store.now answer.old answer.new }
