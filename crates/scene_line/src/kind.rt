@@ -51,16 +51,15 @@ impl Kind {
         }
     }
 
-    // Whether a line of this kind may follow one of kind last, none at the start.
+    // Whether a line of this kind may follow one of rank last, 0 at the start.
     #[tactic(auto, unfolding(crate::specs::Kind::follows))]
-    fn may_follow(self, last: Option<Kind>) -> bool
-        ensures { result ≡ follows (rank last) (rank (Some self)) }
+    fn may_follow(self, last: usize) -> bool
+        ensures { result ≡ follows last (rank (Some self)) }
     {
-        match last {
-            None => self == Kind::Script,
-            Some(Kind::Script) => self == Kind::Tx,
-            Some(Kind::Verdicts) => false,
-            Some(last) => Kind::Input <= self && last <= self,
+        if last < Kind::Tx.rank() {
+            self.rank() == last + 1
+        } else {
+            Kind::Input <= self && last <= self.rank() && last != Kind::Verdicts.rank()
         }
     }
 }
@@ -91,8 +90,8 @@ fn kind_of(word: &[u8]) -> Option<Kind>
 
 // The kind of a line with this word and these fields, none where its word, its rank or its count of fields is wrong.
 #[tactic(auto, unfolding(crate::specs::Kind::line_kind))]
-pub fn line_kind(word: &[u8], fields: &[u8], last: Option<Kind>) -> Option<Kind>
-    ensures { result ≡ line_kind (rank last) (word.now ∷ pieces comma fields.now) }
+pub fn line_kind(word: &[u8], fields: &[u8], last: usize) -> Option<Kind>
+    ensures { result ≡ line_kind last (word.now ∷ pieces comma fields.now) }
 {
     let kind = kind_of(word)?;
     let fits = kind.may_follow(last) && count(fields, COMMA) == kind.field_count();

@@ -60,7 +60,7 @@ fn read_line(
     ensures ready_after { ReadyAfter state (length line.now) (length store.old) (length table.old) result }
 {
     let (word, fields) = split_once(line, COMMA).ok_or(ProtocolError::InvalidLine)?;
-    let kind = line_kind(word, fields, state.last).ok_or(ProtocolError::InvalidLine)?;
+    let kind = line_kind(word, fields, state.last_rank()).ok_or(ProtocolError::InvalidLine)?;
     read_as(kind, fields, state, store, table)
 }
 

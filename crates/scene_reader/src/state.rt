@@ -20,6 +20,16 @@ pub(crate) struct State {
 }
 
 impl State {
+    // The rank of the last kind, 0 before the first line.
+    pub fn last_rank(self) -> usize
+        ensures { result ≡ rank self.last }
+    {
+        match self.last {
+            Some(kind) => kind.rank(),
+            None => 0,
+        }
+    }
+
     // How many lines of this kind were read, with this one.
     pub(crate) fn seen_with(self, kind: Kind) -> usize
         requires { self.seen ≤ kind_max_lines }
