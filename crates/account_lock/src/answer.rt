@@ -6,6 +6,7 @@ use protocol::ProtocolError;
 
 // What the checks found; how many requests were made, and how many bytes of the answer buffer they take; whether the digest
 // was reached, and the digest, zeros where it was not; and the fee, 0 where the checks refuse.
+// The fee of a refusal and the digest that was not reached stand here as 0, as `fee-none` and `answer_stored` speak of them.
 #[derive(Drop)]
 pub struct LockAnswer {
     pub found: Result<(), ProtocolError>,

@@ -10,7 +10,8 @@ use decide_scene::{PROGRAM_SCENE_MAX_LEN, program_line};
 use std::io;
 use std::io::Read;
 
-// Reads to the end of the input, or as far as there is room.
+// Reads to the end of the input, or as far as there is room. The loop counts bytes, since std
+// fills a `Vec` alone, and there is no heap.
 fn read_all<R: Read>(reader: &mut R, room: &mut [u8]) -> io::Result<usize>
     ensures { ReadsAtMost result room.new }
 {

@@ -1,4 +1,5 @@
 // The fields of an account state and of its entries, by their names; zero where the bytes end before them.
+// A function for each, over `u8_at` and its like, so that each field has the name that its definition has.
 ghost use Rattle.std.specs.Prelude.{◌≡◌};
 ghost use Rattle.account_state.specs.Fields.{state_magic_of, state_version_of, flags_of, recovery_enabled, session_enabled, state_header_length_of, sequence_of, spend_threshold_of, rotate_threshold_of, recovery_threshold_of, entry_count_of, state_reserved_of, recovery_since_of, entry_length_of, entry_slot_of, algorithm_of, capabilities_of, weight_of, hash_type_of, abi_of, code_hash_of, key_length_of, aux_length_of, key_of, aux_of};
 

@@ -1,4 +1,5 @@
 // The fields of a witness lock by their names; zero where the bytes end before them.
+// A function for each, over `u8_at` and its like, so that each field has the name that its definition has.
 ghost use Rattle.std.specs.Prelude.{◌≡◌, ◌+◌, ◌≤◌, length};
 ghost use Rattle.account_witness.specs.Fields.{witness_magic_of, witness_version_of, operation_of, proof_count_of, witness_reserved_of, witness_sequence_of, proof_slot_at, proof_reserved_at, proof_length_at, proof_header_length};
 

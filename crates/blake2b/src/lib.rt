@@ -73,7 +73,8 @@ impl Blake2b {
     }
 
     // All of the data is fed. A waiting part is filled up first. A whole block with a further byte behind it is compressed from the data
-    // itself, without a copy. What is left begins a block. The loop works on locals, so that the state is not copied at each block.
+    // itself, without a copy. What is left begins a block. The loop works on locals, so that the state is not copied at each block;
+    // `chunks` would take the last whole block too.
     pub fn update(mut self, data: &[u8]) -> Self
         ensures { result ≡ fed_all self «data».now }
     {

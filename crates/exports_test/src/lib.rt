@@ -22,7 +22,8 @@ fn part_end(at: usize, step: usize, len: usize) -> usize
     if len - at <= step { len } else { at + step }
 }
 
-// CKB's hash of the data, fed as its first `first` bytes, and then `step` bytes at a time.
+// CKB's hash of the data, fed as its first `first` bytes, and then `step` bytes at a time; by places and not by `chunks`, which a step
+// of 0 has none of.
 fn parts_hash(data: &[u8], first: usize, step: usize) -> [u8; 32]
     requires { first ≤ length «data».now }
     ensures { result ≡ ckb_hash «data».now }

@@ -1,4 +1,5 @@
 // The numbers and the fields of a table by their names; zero, and as far as they are there, where the bytes end before them.
+// A function for each, over `u8_at` and its like, so that each field has the name that its definition has.
 ghost use Rattle.std.specs.Prelude.{◌≡◌};
 ghost use Rattle.molecule.specs.Table3.{table_total_of, first_offset_of, second_offset_of, third_offset_of, between, field1, field2, field3};
 ghost use Rattle.molecule.specs.Bytes.{bytes_length_of};

@@ -37,7 +37,7 @@ fn read_present(s: &[u8], at: usize, width: usize) -> u64
     }
 }
 
-// The number in one byte, and in two, four and eight.
+// The number in one byte, and in two, four and eight. Four functions, since a generic one would name its type at every call.
 pub fn u8_at(s: &[u8], at: usize) -> u8
     ensures { result ≡ number_at s.now at 1 }
 {

@@ -16,7 +16,7 @@ use protocol::{ProtocolError, is_operation, require};
 use quorum::threshold_of;
 use scene_table::{LentSlices, verdict};
 
-// What the walk answers: what the checks found, how many requests were made, and how many bytes they take.
+// What the walk answers: what the checks found, how many requests were made, and how many bytes they take; a refusal has these too.
 #[derive(Drop)]
 pub struct ProofWalkAnswer {
     pub found: Result<(), ProtocolError>,
@@ -32,7 +32,7 @@ enum ProofOutcome {
     Onward(usize, u16, ProofCursor),
 }
 
-// The outcome by the verdict on its request: 0 approved, 1 refused, 2 failed.
+// The outcome by the verdict on its request, a number as the table has it: 0 approved, 1 refused, 2 failed.
 #[tactic(auto, unfolding(crate::specs::Steps::verdict_outcome))]
 fn apply_verdict(verdict: u32, len: usize, weight: u16, next: ProofCursor) -> ProofOutcome
     ensures { result ≡ verdict_outcome verdict len weight next }

@@ -39,6 +39,7 @@ pub const VERIFIER_MAX_REQUEST_LEN: usize = 69_728;
 
 pub const AUTH_DOMAIN: [u8; 19] = *b"CKB_ACCOUNT_LOCK_V1";
 
+// An operation stays a number: every public function that takes one promises 37 for a number outside 1 to 3.
 pub const OP_SPEND: u8 = 0x01;
 
 pub const OP_ROTATE: u8 = 0x02;

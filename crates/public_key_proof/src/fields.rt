@@ -1,4 +1,5 @@
 // The fields of a public-key proof by their names; zero where the bytes end before them.
+// A function for each, over `u8_at` and its like, so that each field has the name that its definition has.
 ghost use Rattle.std.specs.Prelude.{◌≡◌};
 ghost use Rattle.public_key_proof.specs.Reader.{public_key_proof_version_of, public_key_length_of, signature_length_of};
 

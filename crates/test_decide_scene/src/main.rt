@@ -2,37 +2,30 @@
 #![tactic(auto)]
 
 use decide_scene::program_line;
-use octets::{part, same_bytes};
+use octets::same_bytes;
 use std::io;
 use test_support::read_full;
-use text::{LINE_END, find, head, tail};
+use text::{LINE_END, head, split_once};
 
 fn print_line(rt: &impl Print, scene: &[u8]) -> io::Result<()> {
-    let line = program_line(scene);
-    let bytes = line.bytes;
-    rt.write_all(part(&bytes, 0, line.length))
+    rt.write_all(program_line(scene).as_bytes())
 }
 
 fn run_all(rt: &impl Print, list: &[u8]) -> io::Result<()> {
     let mut rest = list;
     let mut scene = list;
     let mut n: usize = 0;
-    loop {
-        let e = find(rest, LINE_END);
-        if e == rest.len() {
-            return Ok(());
-        }
-        let ended = same_bytes(head(rest, e), b"end");
-        let next = tail(rest, e);
-        rest = next;
-        if ended {
+    while let Some((line, after)) = split_once(rest, LINE_END) {
+        rest = after;
+        if same_bytes(line, b"end") {
             print_line(rt, head(scene, n))?;
-            scene = next;
+            scene = after;
             n = 0;
         } else {
-            n = std::num::wrapping_add_usize(n, e + 1);
+            n = n.wrapping_add(line.len() + 1);
         }
     }
+    Ok(())
 }
 
 fn main(rt: HostRuntime) -> io::Result<()> {

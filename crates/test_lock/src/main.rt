@@ -17,7 +17,7 @@ use octets::part;
 use protocol::{ANSWER_BUFFER_LEN, TABLE_MIN_ENTRIES};
 use std::io;
 use test_support::{COUNT_LINE_MAX_LEN, Counts, count_line, counted, read_full, value};
-use text::{LINE_END, find, head, tail};
+use text::{LINE_END, split_once};
 
 fn run_all(
     rt: &impl Print,
@@ -31,19 +31,13 @@ fn run_all(
         passed: 0,
         failed: 0,
     };
-    loop {
-        let e = find(rest, LINE_END);
-        if e == rest.len() {
-            return Ok(counts);
-        }
-        let len = value(head(rest, e)) as usize;
-        let text = tail(rest, e);
+    while let Some((line, text)) = split_once(rest, LINE_END) {
+        let len = value(line) as usize;
         let passed = run(rt, text, len, store, table, answer)?;
-        let after = counted(counts, passed);
-        counts = after;
-        let next = behind_record(text, len);
-        rest = next;
+        counts = counted(counts, passed);
+        rest = behind_record(text, len);
     }
+    Ok(counts)
 }
 
 // Room for all records.

@@ -17,7 +17,7 @@ use octets::{part, u8_at};
 use protocol::{SCENE_MAX_LEN, TABLE_MIN_ENTRIES};
 use std::io;
 use test_support::{COUNT_LINE_MAX_LEN, Counts, count_line, read_full};
-use text::{COMMA, LINE_END, find, head, tail};
+use text::{COMMA, LINE_END, find, split_once, tail};
 
 // What a line of the list, told by its first letter, makes of the case.
 fn step(
@@ -59,16 +59,11 @@ fn run_all(
             failed: 0,
         },
     };
-    loop {
-        let e = find(rest, LINE_END);
-        if e == rest.len() {
-            return Ok(case);
-        }
-        let after = step(rt, case, head(rest, e), scene, store, table)?;
-        case = after;
-        let next = tail(rest, e);
-        rest = next;
+    while let Some((line, after)) = split_once(rest, LINE_END) {
+        case = step(rt, case, line, scene, store, table)?;
+        rest = after;
     }
+    Ok(case)
 }
 
 // Room for a scene that is one byte too long.

@@ -1,4 +1,5 @@
 // The fields of a request by their names; zero where the bytes end before them.
+// A function for each, over `u8_at` and its like, so that each field has the name that its definition has.
 ghost use Rattle.std.specs.Prelude.{◌≡◌};
 ghost use Rattle.verifier_request.specs.Fields.{request_magic_of, request_abi_of, request_reserved_of, request_header_length_of, request_algorithm_of, request_slot_of, request_operation_of, request_profile_of, request_zeros_of, request_aux_length_of, request_proof_length_of, request_last_zeros_of};
 
