@@ -1,13 +1,14 @@
 -- Lists whose elements all pass a test: one by one, by their parts, mapped, and by another test.
 -- Assumes nothing.
 use Prim.Native.Nat.{ℕ, zero, suc, ◌+◌, ◌≤◌, ◌<◌}
-use mathlib.Core.Bool.{Bool, true, false, ◌&&◌, and_assoc}
-use mathlib.Core.Path.{◌≡◌, refl, sym, ◌∙◌}
+use mathlib.Core.Bool.{Bool, true, false, ◌&&◌, and-true, and_assoc}
+use mathlib.Core.Path.{◌≡◌, refl, sym, ap}
 use mathlib.Core.List.{List, [], ◌∷◌, ◌++◌, map}
 use native.Mathlib.Numerals.{add-one}
 use native.Mathlib.Omega.{arith}
 use lib.ListN.{length, drop, get_or, drop_of_length-le}
 use lib.Seq.{drop-cons}
+use Rattle.std.specs.List.{list_all}
 use Rattle.octets.specs.Lists.{every}
 use Rattle.octets.proofs.Truth.{and_both, and_left, and_right, both-and}
 
@@ -22,15 +23,15 @@ module _ (p : ℕ → Bool) where
     pub every-next : (ok r : Bool) → r ≡ p (get_or s i 0) → (ok && every p (drop i s)) ≡ ((ok && r) && every p (drop (i + 1) s))
     every-next ok r e = rw (every_first, e) (sym (and_assoc ok (p (get_or s i 0)) (every p (drop (i + 1) s))))
 
-    pub every-on : p (get_or s i 0) ≡ true → every p (drop i s) ≡ every p (drop (i + 1) s)
-    every-on e = every_first ∙ rw e
-
-    pub every-off : p (get_or s i 0) ≡ false → every p (drop i s) ≡ false
-    every-off e = every_first ∙ rw e
-
   pub every-end : (s : List ℕ) (i : ℕ) → length s ≤ i → every p (drop i s) ≡ true
   unfolding every
   every-end s i h = rw (drop_of_length-le s h)
+
+-- the library's test of every element
+pub every_all : {A : Type 0} (p : A → Bool) (s : List A) → list_all p s ≡ every p s
+unfolding every
+every_all p [] = refl
+every_all p (x ∷ s) = ap (λ (r : Bool). p x && r) (every_all p s)
 
 -- each element
 pub every-nth : {A : Type 0} (p : A → Bool) (s : List A) (i : ℕ) (d : A) → every p s ≡ true → i < length s → p (get_or s i d) ≡ true
@@ -74,3 +75,6 @@ pub every_more : {A : Type 0} (p q : A → Bool) → ((x : A) → p x ≡ true �
 unfolding every
 every_more p q pq [] h = refl
 every_more p q pq (x ∷ xs) h = rw (pq x (and_left (p x) (every p xs) h)) (every_more p q pq xs (and_right (p x) (every p xs) h))
+
+-- what a loop needs that keeps whether all passed so far
+pub ruleset every_turns = (every-next, every-end, and-true)

@@ -10,7 +10,8 @@ use lib.ListN.{length, take, drop, get_or, length-drop}
 use lib.Seq.{drop-cons, get_or-drop, take_all, sets}
 use Rattle.std.specs.Int.{w64, byte_at, bytes_low_first, to_le_bytes}
 use Rattle.octets.specs.Le.{to_le, from_le, number_at, Bytes}
-use Rattle.octets.proofs.Stores.{sets-clip}
+use Rattle.octets.proofs.Parts.{part_length}
+use Rattle.octets.proofs.Stores.{sets-clip, sets-cons, sets-lent}
 
 pub length_to : (k n : ℕ) → length (to_le k n) ≡ k
 unfolding to_le
@@ -162,3 +163,7 @@ pub sets-to-clip : (l : List ℕ) (at k w n : ℕ) → length l ≤ at + k → k
 sets-to-clip l at k w n h le = rw (← take-to k w n le) (sets-clip (to_le w n) l at k h)
 
 pub ruleset number_stores = (sets-to-clip)
+
+pub ruleset read_turns = (number-turn, number-under, number-none)
+
+pub ruleset write_turns = (to-turn, to_none, length_to, part_length, sets-cons, sets-lent)

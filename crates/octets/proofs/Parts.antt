@@ -1,14 +1,11 @@
 -- Parts of a list: read back, joined, and their lengths.
 -- Assumes nothing.
-use mathlib.Core.Path.{◌≡◌, refl, sym}
-use mathlib.Core.List.{List, [], ◌++◌}
-use Prim.Native.Nat.{ℕ, ◌+◌, ◌-◌, ◌≤◌, ◌<◌}
-use mathlib.Core.Bool.{Bool, true, false}
+use mathlib.Core.Path.{◌≡◌, sym}
+use mathlib.Core.List.{List, ◌++◌}
+use Prim.Native.Nat.{ℕ, ◌+◌, ◌-◌, ◌≤◌}
 use native.Mathlib.Omega.{arith}
-use borrow.Author.Tests.{le-leb, lt-leb, leb-true, leb-false}
-use lib.Dec.{leb}
-use lib.ListN.{length, take, drop, length-drop, drop_of_length-le}
-use lib.Seq.{take-add, take_at, drop_at, drop-drop, length-take-le, take-nil, take_all}
+use lib.ListN.{length, take, drop, length-drop}
+use lib.Seq.{take-add, take_at, drop_at, drop-drop, length-take-le, take_all}
 
 -- a part is read back
 pub part-back : (s p q t : List ℕ) (at n : ℕ) → s ≡ p ++ (q ++ t) → length p ≡ at → length q ≡ n → take n (drop at s) ≡ q
@@ -22,18 +19,6 @@ join s at n m next e = rw (e, ← drop-drop n at s) (sym (take-add n m (drop at 
 pub part_length : (s : List ℕ) (at n : ℕ) → at + n ≤ length s → length (take n (drop at s)) ≡ n
 part_length s at n h = length-take-le n (drop at s) (rw (length-drop at s) (omega arith))
 
--- a part that begins past the end is empty
-pub part_out : (s : List ℕ) (at n : ℕ) → length s ≤ at → take n (drop at s) ≡ []
-part_out s at n h = rw (drop_of_length-le s h) (take-nil n)
-
 -- a part that runs past the end is the rest
 pub part-clip : (s : List ℕ) (at n : ℕ) → length s ≤ at + n → take n (drop at s) ≡ drop at s
 part-clip s at n h = let l : length (drop at s) ≡ length s - at = length-drop at s in take_all n (drop at s) (omega arith)
-
--- places within the rest of a length lie within the length
-leb-by : (n m a b : ℕ) (t : Bool) → leb n m ≡ t → ((n ≤ m) → (a ≤ b)) → ((m < n) → (b < a)) → t ≡ leb a b
-leb-by n m a b true e f g = sym (le-leb a b (f (leb-true n m e)))
-leb-by n m a b false e f g = sym (lt-leb a b (g (leb-false n m e)))
-
-pub leb-rest : (len at n : ℕ) → at ≤ len → leb n (len - at) ≡ leb (at + n) len
-leb-rest len at n h = leb-by n (len - at) (at + n) len (leb n (len - at)) refl (λ k. omega arith) (λ k. omega arith)

@@ -46,3 +46,5 @@ rising-member {least = least} {n = n} (x ∷ xs) r m =
 pub rising-less : {k l : ℕ} (ns : List ℕ) → k ≤ l → Rising l ns → Rising k ns
 rising-less [] h r = tt
 rising-less (x ∷ xs) h r = (omega (arith, r.0), r.1)
+
+pub ruleset rising_turns = (rising-turn, rising-end)

@@ -1,5 +1,5 @@
 // Reads of numbers and of parts.
-ghost use Rattle.std.specs.Prelude.{◌≡◌, ◌+◌, ◌-◌, ◌≤◌, leb, length, take, drop};
+ghost use Rattle.std.specs.Prelude.{◌≡◌, ◌+◌, ◌-◌, ◌^◌, ◌≤◌, ◌<◌, leb, length, take, drop};
 ghost use Rattle.octets.specs.Le.{number_at};
 
 // Whether `n` places from `at` on lie within a length.
@@ -10,6 +10,7 @@ pub fn fits(len: usize, at: usize, n: usize) -> bool
 }
 
 // The number in `width` bytes that the slice has, from the last one down.
+#[tactic(auto, using(crate::proofs::LeLaws::read_turns))]
 fn read_le(s: &[u8], at: usize, width: usize) -> u64
     requires { (width ≤ 8) × (width ≤ length s.now - at) }
     ensures { result ≡ number_at s.now at width }
@@ -24,7 +25,8 @@ fn read_le(s: &[u8], at: usize, width: usize) -> u64
 // The number in at most 8 bytes, of which the slice may lack some.
 fn read_present(s: &[u8], at: usize, width: usize) -> u64
     requires { width ≤ 8 }
-    ensures { result ≡ number_at s.now at width }
+    ensures value { result ≡ number_at s.now at width }
+    ensures upper_bound { result < 256 ^ width }
 {
     if s.len() <= at {
         return 0;

@@ -3,6 +3,7 @@ ghost use Rattle.std.specs.Prelude.{◌≡◌};
 ghost use Rattle.octets.specs.Lists.{is_rising};
 
 // Whether each number is above the one before it.
+#[tactic(auto, using(crate::proofs::RisingLaws::rising_turns))]
 pub fn is_rising(numbers: &[u16]) -> bool
     ensures { result ≡ is_rising 0 numbers.now }
 {

@@ -3,6 +3,7 @@ ghost use Rattle.std.specs.Prelude.{◌≡◌, ◌+◌, ◌≤◌, length};
 ghost use Rattle.std.proofs.lemmas.List.Edits.{sets};
 ghost use Rattle.octets.specs.Le.{to_le};
 
+#[tactic(auto, using(crate::proofs::LeLaws::write_turns))]
 fn write_le(out: &mut [u8], at: usize, width: usize, value: u64)
     requires { at + width ≤ length out.old }
     ensures { out.new ≡ sets out.old at (to_le width value) }

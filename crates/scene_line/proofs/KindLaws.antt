@@ -23,17 +23,6 @@ rank-small (Some Witness) = omega arith
 rank-small (Some Verdicts) = omega arith
 rank-small None = omega arith
 
--- a line has a field at least
-pub field-counted : (k : Option Kind) → eqb 0 (field_count k) ≡ false
-field-counted (Some Script) = refl
-field-counted (Some Tx) = refl
-field-counted (Some Input) = refl
-field-counted (Some Output) = refl
-field-counted (Some Dep) = refl
-field-counted (Some Witness) = refl
-field-counted (Some Verdicts) = refl
-field-counted None = refl
-
 -- a line's kind is one whose row 2 holds
 pub shape : (last : ℕ) (w : List ℕ) (fs : List (List ℕ)) → (rank (line_kind last (w ∷ fs)) ≡ 0 → ⊥)
     → (length fs ≡ field_count (line_kind last (w ∷ fs))) × (follows last (rank (line_kind last (w ∷ fs))) ≡ true)

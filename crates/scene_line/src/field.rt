@@ -39,7 +39,7 @@ pub(crate) fn bare_after(bare: bool, form: Form, field: &[u8]) -> bool
 }
 
 // How many bytes a field has.
-#[tactic(auto, unfolding(crate::specs::Line::field_bytes))]
+#[tactic(auto, unfolding(crate::specs::Line::field_bytes), using(text::proofs::HexLaws::hex_lengths))]
 pub(crate) fn field_size(form: Form, field: &[u8]) -> usize
     ensures value { result ≡ length (field_bytes form field.now) }
     ensures upper_bound { result ≤ length field.now }

@@ -79,13 +79,6 @@ entries-few : (k : Option Kind) (fs : List (List ℕ)) → length fs ≡ field_c
     → 1 + length (line_entries (first_form k) fs) ≤ takes (rank k)
 entries-few k fs n ok = omega (arith, rw n at (numbers-few true (first_form k) fs ok), most-takes k)
 
-pub seen_few : (last seen k : ℕ) → seen_with last seen k ≤ seen + 1
-seen_few last seen k = go (eqb k last)
-  where
-    go : (b : Bool) → cond b (seen + 1) 1 ≤ seen + 1
-    go true = omega arith
-    go false = omega arith
-
 -- what the order says of two ranks
 order : (last k : ℕ) → follows last k ≡ true → ((last < 2) × (k ≡ last + 1)) ⊎ ((2 ≤ last) × (3 ≤ k) × (last ≤ k) × (last ≡ 7 → ⊥))
 unfolding follows

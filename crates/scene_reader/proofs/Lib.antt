@@ -1,4 +1,3 @@
-pub mod NumberLaws
 pub mod Bounds
 pub mod LinesOutcome
 pub mod LinePasses

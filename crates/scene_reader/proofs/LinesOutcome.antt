@@ -1,5 +1,5 @@
 -- Laws of the reader's rows and of a run over the lines. Assumes nothing.
-use Rattle.std.specs.Prelude.{Option, Err, Ok, Result}
+use Rattle.std.specs.Prelude.{Option, Err, Ok}
 use Prim.Native.Nat.{ℕ, ◌≤◌}
 use mathlib.Core.Path.{◌≡◌, refl, ap, ◌∙◌}
 use mathlib.Core.List.{List, [], ◌∷◌, ◌++◌}
@@ -10,17 +10,12 @@ use Rattle.protocol.specs.Rows.{Row, decide, Check}
 use Rattle.protocol.specs.declared.error.ProtocolError.{ProtocolError}
 use Rattle.protocol.proofs.AllPass.{decide-append, decide-failed, passed-all-pass}
 use Rattle.protocol.specs.Limits.{scene_max_length, table_min_entries}
-use Rattle.scene_reader.specs.declared.state.State.{State}
 use Rattle.text.specs.Text.{pieces, before, line_end, comma}
 use Rattle.scene_line.specs.declared.kind.Kind.{Kind}
 use Rattle.scene_line.specs.Kind.{line_kind, line_fields}
 use Rattle.scene_reader.specs.Reader.{ReaderState, ReaderOutcome, reader_holds, reader_refuses, outcome_after, rows_of_line, line_put, lines_rows, lines_put, lines_outcome, reader_start, scene_limit_rows, scene_rows, read_of}
-use Rattle.scene_reader.specs.Room.{line_outcome_as, line_outcome, scene_end_outcome, ReadyAfter}
+use Rattle.scene_reader.specs.Room.{line_outcome_as, line_outcome, scene_end_outcome}
 use Rattle.text.proofs.Pieces.{before-none}
-
-pub kept_more : (s : State) (n m a b : ℕ) → n ≤ m → (r : Result State ProtocolError) → ReadyAfter s n a b r → ReadyAfter s m a b r
-kept_more s n m a b h (Ok t) k = (k.0, omega arith)
-kept_more s n m a b h (Err x) k = k
 
 pub starts : (n m : ℕ) (a b : List ℕ) → a ≡ replicate n 0 → b ≡ replicate m 0
     → reader_start n m ≡ record { last = 0; seen = 0; used = 0; filled = 8; store = a; table = b }

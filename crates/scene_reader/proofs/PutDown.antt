@@ -2,7 +2,7 @@
 use Rattle.std.specs.Prelude.{Option, Ok}
 use Prim.Native.Nat.{ℕ, ◌+◌, ◌≤◌, ◌<◌}
 use mathlib.Core.Bool.{true}
-use mathlib.Core.Path.{◌≡◌, sym, ap}
+use mathlib.Core.Path.{◌≡◌, ap}
 use mathlib.Core.List.{List}
 use native.Mathlib.Omega.{arith}
 use native.Mathlib.Numerals.{add-one}
@@ -14,8 +14,8 @@ use Rattle.scene_line.specs.Line.{line_bytes, line_entries}
 use Rattle.scene_line.specs.Kind.{rank, field_count, first_form, follows}
 use Rattle.scene_line.proofs.KindLaws.{rank-small}
 use Rattle.scene_reader.specs.declared.state.State.{State}
-use Rattle.scene_reader.specs.Reader.{ReaderState, reader_holds, seen_with, line_put_as}
-use Rattle.scene_reader.specs.Room.{state_holding, line_outcome_as, entries_limit, ReaderReady, ReadyAfter}
+use Rattle.scene_reader.specs.Reader.{ReaderState, seen_with, line_put_as}
+use Rattle.scene_reader.specs.Room.{state_holding, entries_limit, ReaderReady, ReadyAfter}
 use Rattle.scene_reader.proofs.Bounds.{fits, entries-limit-small}
 use Rattle.scene_reader.proofs.LinePasses.{Passes}
 
@@ -43,10 +43,6 @@ module _ (s : State) (st tb : List ℕ) (k : Option Kind) (fs : List (List ℕ))
         let least = ready.enough in
         let small = entries-limit-small (rank k) (seen_with (rank s.last) s.seen (rank k)) (rank-small k) z.few in
         (omega (arith, least, rank-small k), omega (arith, least, small, within))
-
-    -- what the line's step gives
-    pub stepped : (r : State) (st' tb' : List ℕ) → state_holding r st' tb' ≡ line_put_as (state_holding s st tb) k fs → reader_holds (state_holding r st' tb') ≡ line_outcome_as (state_holding s st tb) k fs
-    stepped r st' tb' e = rw e (sym z.put-down)
 
     -- the state after the line is ready
     pub kept : (r : State) (st' tb' : List ℕ) → length (line_bytes (first_form k) fs) ≤ n → state_holding r st' tb' ≡ line_put_as (state_holding s st tb) k fs

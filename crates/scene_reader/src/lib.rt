@@ -13,6 +13,7 @@ ghost use Rattle.scene_reader.specs.Room.{step_outcome};
 
 use crate::lines::read_lines;
 use crate::state::State;
+use octets::{zero_bytes, zero_words};
 use protocol::{ProtocolError, SCENE_MAX_LEN, TABLE_MIN_ENTRIES, require};
 
 // The limits, then the lines, into a store and a table that are all zero.
@@ -35,11 +36,11 @@ pub fn read_scene(scene: &[u8], store: &mut [u8], table: &mut [u32]) -> Result<(
     ensures store_after { store.new ≡ reader_store (length store.old) (read_into scene.now store.old table.old) }
     ensures table_after { table.new ≡ reader_table (length table.old) (read_into scene.now store.old table.old) }
 {
-    store.fill(0);
-    table.fill(0);
+    zero_bytes(store);
+    zero_words(table);
     if let Err(error) = read_checked(scene, store, table) {
-        store.fill(0);
-        table.fill(0);
+        zero_bytes(store);
+        zero_words(table);
         return Err(error);
     }
     Ok(())

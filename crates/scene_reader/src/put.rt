@@ -14,7 +14,7 @@ use scene_line::{Form, Kind};
 use text::{COMMA, decode};
 
 // Puts the bytes of a field into the store from at on, and says how many they are.
-#[tactic(auto, unfolding(scene_line::specs::Line::field_bytes))]
+#[tactic(auto, unfolding(scene_line::specs::Line::field_bytes), using(text::proofs::HexLaws::hex_lengths))]
 fn put_bytes(t: Form, f: &[u8], store: &mut [u8], at: usize) -> usize
     ensures value { result ≡ length (field_bytes t f.now) }
     ensures upper_bound { result ≤ length f.now }

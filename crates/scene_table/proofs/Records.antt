@@ -3,7 +3,7 @@
 use mathlib.Core.Path.{◌≡◌, refl, ap, ◌∙◌}
 use mathlib.Core.Bool.{Bool, true}
 use mathlib.Core.List.{List, [], ◌∷◌, map}
-use Prim.Native.Nat.{ℕ, zero, suc, ◌+◌, ◌-◌, ◌*◌, ◌≤◌, ◌<◌}
+use Prim.Native.Nat.{ℕ, zero, suc, ◌+◌, ◌*◌, ◌≤◌, ◌<◌}
 use native.Mathlib.Nat.{mul-suc, mul-zero, not-suc-le-zero, le_of_suc-le-suc}
 use native.Mathlib.Omega.{arith}
 use native.Mathlib.Numerals.{add-one}
@@ -66,11 +66,6 @@ module _ {A : Type 0} (read : ℕ → A) (w : ℕ) where
   record-past zero at i d h = refl
   record-past (suc n) at zero d h = absurd (not-suc-le-zero h)
   record-past (suc n) at (suc i) d h = record-past n (at + w) i d (le_of_suc-le-suc h)
-
-  -- after the last turn nothing is left
-  pub records-end : (n at i : ℕ) → n ≤ i → records_at read w (n - i) at ≡ []
-  unfolding records_at
-  records-end n at i h = let e : n - i ≡ 0 = omega arith in rw e
 
   -- the records as a list
   pub records-listed : (n at : ℕ) → Listed (records_at read w n at) n (λ i. read (at + w * i))

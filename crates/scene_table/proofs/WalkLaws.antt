@@ -1,7 +1,7 @@
 -- The walk's laws: its turns, and the turns of the loop over digits.
 -- Assumes nothing.
 use mathlib.Core.Path.{◌≡◌, refl, sym}
-use mathlib.Core.Bool.{Bool, true, false, cond, and-true}
+use mathlib.Core.Bool.{Bool, true, false, cond}
 use mathlib.Core.List.{List}
 use Prim.Native.Nat.{ℕ, zero, suc, ◌+◌, ◌-◌, ◌≤◌, ◌<◌}
 use native.Mathlib.Omega.{arith}
@@ -11,7 +11,6 @@ use Rattle.octets.specs.Lists.{every}
 use Rattle.scene_table.specs.Lent.{record_offset, records_at}
 use Rattle.scene_table.specs.RecordsWalk.{required, with_record, record_step, walk_records}
 use Rattle.std.specs.Prelude.{Option, None}
-use Rattle.octets.proofs.Every.{every-next, every-end}
 
 -- a test that passes changes nothing
 pub required-true : (k : Option ℕ) → required k true ≡ k
@@ -50,5 +49,3 @@ digits-from p read at (suc n) from at' e = rw (e, digits-from p read at n (from 
 
 pub digits_all : (p : ℕ → Bool) (read : ℕ → ℕ) (at n : ℕ) → list_all (λ i. p (read (at + i))) (range_with_len 0 n) ≡ every p (records_at read 1 n at)
 digits_all p read at n = digits-from p read at n 0 at (sym (add-zero at))
-
-pub ruleset zero_turns = (every-next, every-end, and-true)

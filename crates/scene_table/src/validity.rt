@@ -189,7 +189,7 @@ fn digits_valid(table: &[u32], first: usize, n: u32) -> bool
 }
 
 // Whether the entries from `first` on are 0. The loop is not left early, so that the compiler tests several at once.
-#[tactic(auto, using(crate::proofs::WalkLaws::zero_turns))]
+#[tactic(auto, using(octets::proofs::Every::every_turns))]
 fn zeros_from(table: &[u32], first: usize) -> bool
     ensures { result ≡ every (λ e. eqb e 0) (drop first table.now) }
 {

@@ -9,6 +9,7 @@ use text::{COMMA, find, head, read_decimal, tail};
 pub const NO_NUMBER: u64 = 18446744073709551615;
 
 // The first field.
+#[tactic(auto, unfolding(crate::specs::Fields::first_field), using(text::proofs::Pieces::first_piece))]
 pub fn field(fields: &[u8]) -> &[u8]
     ensures { result.now ≡ first_field fields.now }
 {
@@ -16,6 +17,7 @@ pub fn field(fields: &[u8]) -> &[u8]
 }
 
 // The fields after the first.
+#[tactic(auto, unfolding(crate::specs::Fields::fields_after, crate::specs::Fields::first_field), using(text::proofs::Pieces::first_piece))]
 pub fn fields_after(fields: &[u8]) -> &[u8]
     ensures { result.now ≡ fields_after fields.now }
 {

@@ -77,3 +77,5 @@ pub ruleset hex_sums = (hex-sum, hex-small)
 pub ruleset hex_turns = (hex-pair, hex-end)
 
 pub ruleset hex_takes = (hex-take)
+
+pub ruleset hex_lengths = (hex-length)

@@ -115,3 +115,5 @@ pieces_short c (x ∷ s) = go (eqb x c) (pieces_short c s)
     go : (b : Bool) → length (joined (pieces c s)) ≤ length s → length (joined (cond b ([] ∷ pieces c s) (before (x ∷ []) (pieces c s)))) ≤ suc (length s)
     go true h = omega arith
     go false h = omega (arith, joined-before x (pieces c s))
+
+pub ruleset first_piece = (cut-first, cut-place)

@@ -13,7 +13,7 @@ use native.Mathlib.Omega.{arith}
 use borrow.Author.Tests.{lt-ltb, le-ltb}
 use lib.ListN.{length, take, drop, get_or, set, drop_of_length-le}
 use lib.Seq.{sets, drop-cons, take-nil}
-use Rattle.octets.proofs.Stores.{sets-out}
+use Rattle.octets.proofs.Stores.{sets-out, sets-append}
 use Rattle.text.proofs.HexLaws.{hex-text-length}
 use Rattle.text.specs.Print.{digit_text, hex_text, decimal_text}
 
@@ -75,3 +75,5 @@ sets_from l text at = go (leb at (length l)) refl
 pub ruleset hex_text_turns = (sets-two, hex-turn, hex-text-end)
 
 pub ruleset hex_text_takes = (hex-text-take, hex-text-length)
+
+pub ruleset decimal_digits = (decimal-none, decimal-one, decimal-more, sets-append)

@@ -1,12 +1,11 @@
 -- Tests whether a byte lies in a range. Assumes nothing.
 use Prim.Native.Nat.{ℕ, ◌≤◌, ◌<◌}
-use mathlib.Core.Bool.{Bool, true, false, ◌&&◌, and-false, and-true}
-use mathlib.Core.Path.{◌≡◌, refl, ap}
-use mathlib.Core.List.{List, [], ◌∷◌}
-use Rattle.std.specs.List.{list_all}
+use mathlib.Core.Bool.{true, false}
+use mathlib.Core.Path.{◌≡◌}
+use mathlib.Core.List.{List}
 use lib.ListN.{length, get_or}
 use Rattle.octets.specs.Lists.{every}
-use Rattle.octets.proofs.Every.{every-next, every-end, every-nth}
+use Rattle.octets.proofs.Every.{every-nth}
 use borrow.Author.Tests.{leb-true, le-leb, lt-leb}
 use lib.Dec.{leb}
 use Rattle.octets.proofs.Truth.{and_left, and_right}
@@ -18,22 +17,11 @@ between-yes l h x a b = rw (le-leb l x a, le-leb x h b)
 pub between-under : (l h x : ℕ) → x < l → in_range l h x ≡ false
 between-under l h x a = rw (lt-leb l x a)
 
-pub between-over : (l h x : ℕ) → h < x → in_range l h x ≡ false
-between-over l h x b = rw (lt-leb x h b) (and-false (leb l x))
-
 pub between-low : (l h x : ℕ) → in_range l h x ≡ true → l ≤ x
 between-low l h x e = leb-true l x (and_left (leb l x) (leb x h) e)
 
 pub between-high : (l h x : ℕ) → in_range l h x ≡ true → x ≤ h
 between-high l h x e = leb-true x h (and_right (leb l x) (leb x h) e)
-
--- the library's test of every element
-pub every_all : (p : ℕ → Bool) (s : List ℕ) → list_all p s ≡ every p s
-unfolding every
-every_all p [] = refl
-every_all p (x ∷ s) = ap (λ (r : Bool). p x && r) (every_all p s)
-
-pub ruleset every_turns = (every-next, every-end, and-true)
 
 -- the bytes of a text that are all decimal digits
 pub digit_low : (s : List ℕ) (i : ℕ) → every (in_range 48 57) s ≡ true → i < length s → 48 ≤ get_or s i 0

@@ -29,7 +29,7 @@ pub fn hex_value(x: u8) -> u8
 }
 
 // Whether s has two digits for each byte.
-#[tactic(auto, unfolding(crate::specs::Text::hex_ok), using(crate::proofs::RangeLaws::every_turns))]
+#[tactic(auto, unfolding(crate::specs::Text::hex_ok), using(octets::proofs::Every::every_turns))]
 pub fn hex_ok(s: &[u8]) -> bool
     ensures { result ≡ hex_ok s.now }
 {

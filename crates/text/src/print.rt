@@ -19,6 +19,7 @@ pub fn put_byte(out: &mut [u8], at: usize, byte: u8)
 }
 
 // At most `most` digits of a value; how many it has.
+#[tactic(auto, using(crate::proofs::PrintLaws::decimal_digits))]
 fn put_digits(out: &mut [u8], at: usize, most: usize, value: u64) -> usize
     requires { (at ≤ length out.old) × (most ≤ 20) }
     ensures value { result ≡ length (decimal_text most value) }

@@ -3,7 +3,7 @@ use Rattle.std.proofs.Common.{◌∙◌, rules, tests}
 use Rattle.std.proofs.lemmas.Iterator.{YieldsList-from_slice}
 use Rattle.std.proofs.lemmas.Iterator.Search.{all_from_yields_List}
 use Rattle.text.specs.Text.{in_range}
-use Rattle.text.proofs.RangeLaws.{every_all}
+use Rattle.octets.proofs.Every.{every_all}
 use Rattle.text.proofs.decimal.all_between.Goals as goal
 
 pub returns : goal.returns

@@ -2,20 +2,8 @@
 use Rattle.std.proofs.Common.{◌≡◌, ◌+◌, ◌-◌, ◌/◌, ◌%◌, [], ◌∷◌, length, ℕ, ap, ◌∙◌, arith, length-append}
 use Rattle.octets.proofs.Stores.{sets-append}
 use Rattle.text.specs.Print.{decimal_text}
-use Rattle.text.proofs.PrintLaws.{decimal-none, decimal-one, decimal-more}
+use Rattle.text.proofs.PrintLaws.{decimal-more}
 use Rattle.text.proofs.print.+put_digits.Goals as goal
-
-pub returns-then-most-eq0 : goal.returns-then-most-eq0
-returns-then-most-eq0 t c =
-    let e = decimal-none c.args.most c.args.value c.if-most-eq0.true in
-    let n : length (decimal_text c.args.most c.args.value) ≡ 0 = ap length e in
-    record { value = omega arith; upper_bound = omega arith; out_after = rw e }
-
-pub returns-then-value-lt10 : goal.returns-then-value-lt10
-returns-then-value-lt10 t c =
-    let e = decimal-one c.args.most c.args.value c.if-most-eq0.false c.if-value-lt10.true in
-    let n : length (decimal_text c.args.most c.args.value) ≡ 1 = ap length e in
-    record { value = omega arith; upper_bound = omega arith; out_after = rw e c.put_byte.ensures }
 
 pub returns : goal.returns
 returns t c =
