@@ -2,7 +2,7 @@
 -- Assumes nothing.
 use Rattle.std.proofs.Common.{◌≡◌, ℕ, ◌+◌, ◌-◌, ◌*◌, ◌/◌, ◌%◌, ◌^◌, ◌<◌, ◌∙◌, mod-eq_of_lt, List, ◌++◌, length, get_or, set, replicate, append-nil, arith}
 use native.Mathlib.Nat.{mod-add-mod, mul-mod_left, mul-div_left, mul_comm, div-lt_iff_lt-mul, add-zero}
-use lib.Bits.{xor_lt, bit_xor, or_shifted_r, xor_shifted, xor_comm, xor_zero_r}
+use lib.Bits.{bit_xor, or_shifted_r, xor_shifted, xor_comm, xor_zero_r}
 use lib.Seq.{take_at, drop_at, set-get_or}
 use borrow.Rule.Slice.PartMut.{put_mid}
 use lib.Pow.{pow_pos, pow-add, mod-pow-add}
@@ -18,7 +18,7 @@ shifted : (x j k : ℕ) → x * 2 ^ k % 2 ^ (j + k) ≡ (x % 2 ^ j) * 2 ^ k
 shifted x j k = mod-pow-add (x * 2 ^ k) j k ∙ rw (mul-div_left x (pow_pos k), mul-mod_left, add-zero)
 
 -- a rotation: its two parts have no bit in common
-rotated : (x n : ℕ) → x < 2 ^ 64 → 0 < n → n < 64 → rotr x n ≡ rotate_right w64 x n
+pub rotated : (x n : ℕ) → x < 2 ^ 64 → 0 < n → n < 64 → rotr x n ≡ rotate_right w64 x n
 unfolding rotr
 rotated x n small pos less =
     let k : ℕ = 64 - n in
@@ -29,10 +29,6 @@ rotated x n small pos less =
     let room : x < 2 ^ k * 2 ^ n = rw (mul_comm (2 ^ k) (2 ^ n), ← pow-add 2 n k, e) small in
     let low : x / 2 ^ n < 2 ^ k = (div-lt_iff_lt-mul (pow_pos n)).1 room in
     rw (n₁, n₂, up, or_shifted_r (x % 2 ^ n) k (x / 2 ^ n) low, xor_comm (x / 2 ^ n) (x % 2 ^ n * 2 ^ k), xor_shifted (x % 2 ^ n) k (x / 2 ^ n) low)
-
--- of two words xored
-pub xor_rotated : (x y n : ℕ) → x < 2 ^ 64 → y < 2 ^ 64 → 0 < n → n < 64 → rotr (bit_xor x y) n ≡ rotate_right w64 (bit_xor x y) n
-xor_rotated x y n a b pos less = rotated (bit_xor x y) n (xor_lt 64 x y a b) pos less
 
 -- the work vector before its words are changed: the state, and the words w behind it
 pub two_halves : (h w : List ℕ) → length h ≡ 8 → length w ≡ 8 → put_mid 8 8 (h ++ replicate 8 0) w ≡ h ++ w

@@ -41,13 +41,22 @@ fn add_to(v: &mut [u64; 16], a: usize, b: usize, x: u64)
     v[a] = v[a].wrapping_add(v[b]).wrapping_add(x);
 }
 
+// x >>> n
+#[tactic(auto, using(crate::proofs::Words::rotated))]
+fn rotate(x: u64, n: u32) -> u64
+    requires { (0 < n) × (n < 64) }
+    ensures { result ≡ rotr x n }
+{
+    x.rotate_right(n)
+}
+
 // v[d] := (v[d] ^ v[a]) >>> n
-#[tactic(auto, using(crate::proofs::Words::xor_rotated), unfolding(crate::specs::Compression::turn))]
+#[tactic(auto, unfolding(crate::specs::Compression::turn))]
 fn xor_rotate(v: &mut [u64; 16], d: usize, a: usize, n: u32)
     requires { (d < 16) × ((a < 16) × ((0 < n) × (n < 64))) }
     ensures { v.new ≡ turn d a n v.old }
 {
-    v[d] = (v[d] ^ v[a]).rotate_right(n);
+    v[d] = rotate(v[d] ^ v[a], n);
 }
 
 // The mixing function G.
