@@ -2,8 +2,8 @@
 use Rattle.std.proofs.Common.{length}
 use Rattle.test_decide_scene.proofs.run_all.Given as goal
 
-abbrev pub invariant-loop-rest : goal.invariant-loop-rest
-invariant-loop-rest g l = Unit {0}
+abbrev pub invariant-loop-line : goal.invariant-loop-line
+invariant-loop-line g l = Unit {0}
 
-abbrev pub decreases-loop-rest : goal.decreases-loop-rest
-decreases-loop-rest g l = length l.rest
+abbrev pub decreases-loop-line : goal.decreases-loop-line
+decreases-loop-line g l = length l.rest
