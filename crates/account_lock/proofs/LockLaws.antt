@@ -1,6 +1,6 @@
 -- The lock's rows in the order in which the code goes through them, and what follows where they pass.
 -- Assumes nothing.
-use Rattle.std.specs.Prelude.{Err, Ok, Result}
+use Rattle.std.specs.Prelude.{Ok, Result}
 use mathlib.Core.Path.{◌≡◌, refl, sym, ap, ◌∙◌}
 use mathlib.Core.Bool.{Bool, true, false, cond}
 use mathlib.Core.List.{List, [], ◌++◌}
@@ -12,8 +12,8 @@ use lib.Seq.{length-take-le}
 use borrow.Author.Tests.{eqb-true}
 use Rattle.protocol.specs.Args.{args_rows, account_of}
 use Rattle.protocol.specs.Policy.{is_operation, operation_rows}
-use Rattle.protocol.specs.Rows.{AllPass, decide, ◌then◌, Check}
-use Rattle.protocol.proofs.AllPass.{decide-both, all-pass-split, passed-all-pass}
+use Rattle.protocol.specs.Rows.{AllPass, decide, ◌then◌}
+use Rattle.protocol.proofs.AllPass.{then-assoc, all-pass-split, passed-all-pass}
 use Rattle.protocol.proofs.Answers.{then-given}
 use Rattle.protocol.specs.declared.error.ProtocolError.{ProtocolError}
 use Rattle.molecule.specs.Bytes as molecule
@@ -22,7 +22,7 @@ use Rattle.octets.specs.Places.{bytes_at}
 use Rattle.octets.proofs.Arrays.{array_whole}
 use Rattle.scene_table.specs.Lent.{scene_in, script_place}
 use Rattle.scene_table.proofs.PlaceLaws.{lent-given}
-use Rattle.capacity.proofs.FeeLaws.{totals-found}
+use Rattle.capacity.proofs.FeeLaws.{totals-checked, totals-fee}
 use Rattle.group_sighash.proofs.FirstRows.{group-first}
 use Rattle.proof_walk.proofs.WalkLaws.{walk-known}
 use Rattle.account_witness.specs.Fields.{operation_of}
@@ -35,6 +35,7 @@ use Rattle.cell_search.specs.Search.{cells_of, cell_at}
 use Rattle.state_transition.specs.declared.resolve.ResolvedState.{ResolvedState}
 use Rattle.state_transition.specs.Resolve.{resolve_rows, state_index, state_source, current_at, current_state, successor_at, successor_state, since_at, state_since, resolved_of}
 use Rattle.account_lock.specs.Calls.{found_by}
+use Rattle.account_lock.proofs.Stages.{resolved-found, late-found, early-found}
 use Rattle.account_lock.specs.Lock.{args_in, account_in, script_rows, account, operation, current, successor, states_rows, late_rows, early_rows, witness_lock}
 
 -- the args of a script whose rows pass have the id's 32 bytes
@@ -89,13 +90,13 @@ module _ (s : Scene) (h : decide (Ok tt) (group_rows s) ≡ Ok tt) where
 module _ (s : Scene) where
   pub late_found : decide (Ok tt) (late_rows s)
       ≡ decide (Ok tt) (resolve_rows (operation s) (account s) s) then (decide (Ok tt) (states_rows s) then decide (Ok tt) (other_rows s))
-  unfolding late_rows
-  late_found = simp decide-both
+  late_found = sym (late-found s refl refl refl) ∙ then-assoc (decide (Ok tt) (resolve_rows (operation s) (account s) s)) (decide (Ok tt) (states_rows s)) (decide (Ok tt) (other_rows s))
 
   pub early_found : decide (Ok tt) (early_rows s)
       ≡ decide (Ok tt) (hash_rows s) then (decide (Ok tt) (script_rows s.script) then (decide (Ok tt) (group_rows s) then decide (Ok tt) (late_rows s)))
-  unfolding early_rows
-  early_found = simp decide-both
+  early_found =
+      early-found s refl refl refl ∙ then-assoc ((decide (Ok tt) (hash_rows s)) then (decide (Ok tt) (script_rows s.script))) (decide (Ok tt) (group_rows s)) (decide (Ok tt) (late_rows s))
+      ∙ then-assoc (decide (Ok tt) (hash_rows s)) (decide (Ok tt) (script_rows s.script)) ((decide (Ok tt) (group_rows s)) then (decide (Ok tt) (late_rows s)))
 
 -- for an operation from 1 to 3 the search for the state finds what the lock's rows find,
 module _ (s : Scene) (h : is_operation (operation s) ≡ true) where
@@ -104,13 +105,8 @@ module _ (s : Scene) (h : is_operation (operation s) ≡ true) where
   unfolding operation_rows decide
   found-rows v = rw h
 
-  found-back : (k : Check) (f : ResolvedState) → found_by (k then Ok f) ≡ k
-  found-back (Ok _) f = refl
-  found-back (Err e) f = refl
-
   pub resolved_found : decide (Ok tt) (resolve_rows (operation s) (account s) s) ≡ found_by (resolved_of (operation s) (account s) s)
-  unfolding resolved_of
-  resolved_found = sym (ap found_by (found-rows _) ∙ found-back (decide (Ok tt) (resolve_rows (operation s) (account s) s)) _)
+  resolved_found = sym (resolved-found (operation s) (account s) s h)
 
   -- and the indices that it gives are those of the current state and its successor
   module _ (f : ResolvedState) (r : resolved_of (operation s) (account s) s ≡ Ok f) where
@@ -148,4 +144,4 @@ pub ruleset finds = (late_found, operation_found, resolved_found, resolved_curre
 
 pub ruleset checks = (early_found, group-first, script_lent, account_found, account_long, lock_found, operation_known)
 
-pub ruleset walks = (walk-known, totals-found)
+pub ruleset walks = (walk-known, totals-checked, totals-fee)

@@ -9,7 +9,7 @@ use crate::answer::LockAnswer;
 use account_state::sequence_of;
 use account_witness::{operation_of, witness_sequence_of};
 use authorization::digest_of;
-use capacity::check_totals;
+use capacity::{check_totals, fee_where};
 use group_sighash::{check_others, sighash_with};
 use molecule::lock_of;
 use octets::array_32;
@@ -72,11 +72,11 @@ fn check_states(
 
 // The account's states and the other witnesses, and then what the proofs are walked with.
 #[tactic(auto, using(crate::proofs::LockLaws::finds))]
-pub(crate) fn find_account<'a>(
-    scene: &LentSlices<'a>,
+pub(crate) fn find_account<'s>(
+    scene: &LentSlices<'_, 's>,
     account_id: &[u8],
-    witness: &'a [u8],
-) -> Result<Account<'a>, ProtocolError>
+    witness: &'s [u8],
+) -> Result<Account<'s>, ProtocolError>
     requires { ScriptAndGroupPass account_id.now witness.now (scene_of scene.now) }
     ensures found { found_by result ≡ decide (Ok tt) (late_rows (scene_of scene.now)) }
     ensures inputs { IfOk result (λ a. WalkInputs a.lock.now a.current.now a.authorization (scene_of scene.now)) }
@@ -110,13 +110,14 @@ pub(crate) fn walk_account(scene: &LentSlices, account: Account, answer: &mut [u
     } = account;
     let digest = authorization.digest;
     let walked = walk_proofs(scene, current, lock, authorization, answer);
-    let fee = walked.found.and(check_totals(scene));
+    let totals = check_totals(scene);
+    let found = walked.found.and(totals.and(Ok(())));
     LockAnswer {
-        found: fee.and(Ok(())),
+        found,
         count: walked.count,
         length: walked.length,
         reached: true,
         digest,
-        fee: fee.unwrap_or(0),
+        fee: fee_where(found, totals.unwrap_or(0)),
     }
 }

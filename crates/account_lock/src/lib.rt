@@ -24,7 +24,7 @@ use scene_table::{LentSlices, script, table_valid};
 
 // Every check before the proofs, and then what the proofs are walked with.
 #[tactic(auto, using(crate::proofs::LockLaws::checks))]
-fn check_scene<'a>(scene: &LentSlices<'a>) -> Result<Account<'a>, ProtocolError>
+fn check_scene<'s>(scene: &LentSlices<'_, 's>) -> Result<Account<'s>, ProtocolError>
     ensures found { found_by result ≡ decide (Ok tt) (early_rows (scene_of scene.now)) }
     ensures inputs { IfOk result (λ a. WalkInputs a.lock.now a.current.now a.authorization (scene_of scene.now)) }
 {

@@ -53,3 +53,9 @@ canonical_fed hash s =
     let fields = fed-append (fed_all begun (take 20 (canonical_of s))) (field2 s) (field3 s) in
     let whole = fed-append begun (take 20 (canonical_of s)) (field2 s ++ field3 s) ∙ ap (fed_all begun) (canonical-whole s) in
     witness_fed hash (canonical_of s) ∙ (rw (← length-canonical s) (sym (fields ∙ whole)))
+
+-- the same, with the bytes of the length as the digest's definition has them
+pub parts-fed : (hash : Blake2b) (s : List ℕ)
+    → fed_all (fed_all (fed_all (fed_all hash (to_le 8 (20 + length (field2 s) + length (field3 s)))) (take 20 (canonical_of s))) (field2 s)) (field3 s)
+    ≡ fed_all hash (hashed_witness (canonical_of s))
+parts-fed hash s = rw (le_bytes_of_u64 (20 + length (field2 s) + length (field3 s))) (sym (canonical_fed hash s))

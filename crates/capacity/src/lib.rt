@@ -4,4 +4,4 @@
 mod total; // total.rt
 mod fee; // fee.rt
 
-pub use self::fee::check_totals;
+pub use self::fee::{check_totals, fee_where};

@@ -41,8 +41,8 @@ fn check_cell(store: &[u8], cell: CellPlaces) -> Result<(), ProtocolError>
 fn check_cells(scene: &LentSlices, source: Source) -> Result<(), ProtocolError>
     ensures { result ≡ decide (Ok tt) (cells_hash_rows (cells_of source (scene_of scene.now))) }
 {
-    for i in 0..cell_count(scene, source) {
-        check_cell(scene.store, cell_places(scene, source, i))?;
+    for i in 0..cell_count(scene.table, source) {
+        check_cell(scene.store, cell_places(scene.table, source, i))?;
     }
     Ok(())
 }

@@ -27,39 +27,39 @@ pub enum CellField {
 
 // How many cells a list has.
 #[tactic(auto, unfolding(crate::specs::Cells::cell_count))]
-pub fn cell_count(scene: &LentSlices, source: Source) -> u32
-    ensures { result ≡ cell_count source scene.now.table }
+pub fn cell_count(table: &[u32], source: Source) -> u32
+    ensures { result ≡ cell_count source table.now }
 {
     match source {
-        Source::Input => input_count(scene.table),
-        Source::Output => output_count(scene.table),
-        Source::CellDep => dep_count(scene.table),
+        Source::Input => input_count(table),
+        Source::Output => output_count(table),
+        Source::CellDep => dep_count(table),
     }
 }
 
 // The places of a cell's fields, by its record.
 #[tactic(auto, unfolding(crate::specs::Cells::source_places))]
-pub fn cell_places(scene: &LentSlices, source: Source, i: u32) -> CellPlaces
-    ensures { result ≡ source_places source scene.now.table i }
+pub fn cell_places(table: &[u32], source: Source, i: u32) -> CellPlaces
+    ensures { result ≡ source_places source table.now i }
 {
     match source {
-        Source::Input => input_cell(scene.table, i),
-        Source::Output => output_cell(scene.table, i),
-        Source::CellDep => dep_cell(scene.table, i),
+        Source::Input => input_cell(table, i),
+        Source::Output => output_cell(table, i),
+        Source::CellDep => dep_cell(table, i),
     }
 }
 
 // A hash of the cell whose record is there.
 #[tactic(auto, unfolding(crate::specs::Search::cell_hash, scene_table::specs::Lent::cell_from))]
-pub(crate) fn cell_hash<'a>(
-    scene: &LentSlices<'a>,
+pub(crate) fn cell_hash<'s>(
+    scene: &LentSlices<'_, 's>,
     source: Source,
     field: CellField,
     i: u32,
-) -> &'a [u8]
+) -> &'s [u8]
     ensures { result.now ≡ cell_hash field (places.cell_in scene.now.store (source_places source scene.now.table i)) }
 {
-    let places = cell_places(scene, source, i);
+    let places = cell_places(scene.table, source, i);
     match field {
         CellField::TypeHash => part_at(scene.store, places.type_hash),
         CellField::DataHash => part_at(scene.store, places.data_hash),
@@ -68,11 +68,11 @@ pub(crate) fn cell_hash<'a>(
 
 // The places of a cell's fields, empty ones where the list has no such cell.
 #[tactic(auto, unfolding(crate::specs::Cells::places_within, crate::specs::Cells::no_places))]
-fn places_within(scene: &LentSlices, source: Source, i: u32) -> CellPlaces
-    ensures { result ≡ places_within source scene.now.table i }
+fn places_within(table: &[u32], source: Source, i: u32) -> CellPlaces
+    ensures { result ≡ places_within source table.now i }
 {
-    if i < cell_count(scene, source) {
-        return cell_places(scene, source, i);
+    if i < cell_count(table, source) {
+        return cell_places(table, source, i);
     }
     let none = Place { start: 0, len: 0 };
     CellPlaces {
@@ -85,18 +85,18 @@ fn places_within(scene: &LentSlices, source: Source, i: u32) -> CellPlaces
 
 // The data of a cell, nothing where the list has no such cell.
 #[tactic(auto, using(crate::proofs::CellLaws::content_within))]
-pub fn cell_content<'a>(scene: &LentSlices<'a>, source: Source, i: u32) -> &'a [u8]
+pub fn cell_content<'s>(scene: &LentSlices<'_, 's>, source: Source, i: u32) -> &'s [u8]
     ensures { result.now ≡ (cell_at (cells_of source (scene_of scene.now)) i).content }
 {
-    let places = places_within(scene, source, i);
+    let places = places_within(scene.table, source, i);
     part_at(scene.store, places.content)
 }
 
 // The type script of a cell, nothing where it has none or the list has no such cell.
 #[tactic(auto, using(crate::proofs::CellLaws::type_script_within))]
-pub fn cell_type_script<'a>(scene: &LentSlices<'a>, source: Source, i: u32) -> &'a [u8]
+pub fn cell_type_script<'s>(scene: &LentSlices<'_, 's>, source: Source, i: u32) -> &'s [u8]
     ensures { result.now ≡ (cell_at (cells_of source (scene_of scene.now)) i).type_script }
 {
-    let places = places_within(scene, source, i);
+    let places = places_within(scene.table, source, i);
     part_at(scene.store, places.type_script)
 }

@@ -21,7 +21,7 @@ pub fn search_cells(scene: &LentSlices, source: Source, field: CellField, hash: 
     ensures { result ≡ cell_search field hash.now (cells_of source (scene_of scene.now)) }
 {
     let mut found = Search::Missing;
-    for i in 0..cell_count(scene, source) {
+    for i in 0..cell_count(scene.table, source) {
         if same_bytes(cell_hash(scene, source, field, i), hash) {
             found = match found {
                 Search::Missing => Search::One(i),

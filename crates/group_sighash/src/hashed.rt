@@ -39,7 +39,7 @@ pub(crate) fn first_other(scene: &LentSlices) -> u32
 
 // The bytes of the witness whose record is there.
 #[tactic(auto, unfolding(crate::specs::Hashed::witness_at))]
-pub(crate) fn witness_at<'a>(scene: &LentSlices<'a>, i: u32) -> &'a [u8]
+pub(crate) fn witness_at<'s>(scene: &LentSlices<'_, 's>, i: u32) -> &'s [u8]
     ensures { result.now ≡ witness_at scene.now.table scene.now.store i }
 {
     part_at(scene.store, witness(scene.table, i))

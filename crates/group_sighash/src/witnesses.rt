@@ -14,7 +14,7 @@ use scene_table::{LentSlices, witness_count};
 const MAX_WITNESS: usize = 132096;
 
 // The witness of the group's first input, nothing where it is missing.
-pub fn first_witness<'a>(scene: &LentSlices<'a>) -> &'a [u8]
+pub fn first_witness<'s>(scene: &LentSlices<'_, 's>) -> &'s [u8]
     ensures { result.now ≡ first_witness (scene_of scene.now) }
 {
     match group_begin(scene) {

@@ -51,4 +51,5 @@ proof-limits =
       last = refl;
       totals = refl;
       fee = refl;
+      shown = refl;
     }

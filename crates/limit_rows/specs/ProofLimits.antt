@@ -14,7 +14,7 @@ use Rattle.group_sighash.specs.Witnesses.{first_witness, other_witnesses, first_
 use Rattle.quorum.specs.Operation.{threshold_of}
 use Rattle.decision.specs.Proofs.{Context, request_limit_rows, authenticator_rows, proof_rows, request_of}
 use Rattle.decision.specs.Walk.{last_rows, walk_from}
-use Rattle.capacity.specs.Capacity.{total_rows, fee_for}
+use Rattle.capacity.specs.Capacity.{total_rows, fee_where, fee_for}
 use Rattle.limit_rows.specs.StateLimits.{head_places}
 use Rattle.limit_rows.specs.WitnessLimits.{witness_front}
 use Rattle.limit_rows.specs.MoleculeLimits.{table_with}
@@ -86,6 +86,10 @@ walk_number digits threshold = check_number (walk_from (walked_context digits th
 abbrev totals_number : ℕ → ℕ → ℕ
 totals_number inputs outputs = check_number (decide (Ok tt) (total_rows inputs outputs))
 
+-- the fee that an answer shows
+abbrev fee_shown : ℕ → ℕ → ℕ
+fee_shown inputs outputs = fee_where (decide (Ok tt) (total_rows inputs outputs)) (inputs - outputs)
+
 pub record ProofLimits : Type 0 where
   -- "first group witness .. above 132,096", 22; "another hashed witness above 132,096", 22
   pub witness-132096 : (rest : List ℕ) → length rest ≡ 132060 → first_number 132096 rest ≡ 0
@@ -125,3 +129,5 @@ pub record ProofLimits : Type 0 where
   -- 02, change 9: "39 where a total passes 2^64−1, inputs first, then 48 where outputs exceed inputs"
   pub totals : totals_number (2 ^ 64 - 1) (2 ^ 64 - 1) ∷ totals_number (2 ^ 64) 0 ∷ totals_number 0 (2 ^ 64) ∷ totals_number 5 6 ∷ [] ≡ 0 ∷ 39 ∷ 39 ∷ 48 ∷ []
   pub fee : fee_for (2 ^ 64 - 1) 5 ∷ fee_for 5 5 ∷ fee_for 5 6 ∷ [] ≡ Ok (2 ^ 64 - 6) ∷ Ok 0 ∷ Err OutputsExceedInputs ∷ []
+  -- "On refusal that field is empty"
+  pub shown : fee_shown (2 ^ 64 - 1) 5 ∷ fee_shown 5 5 ∷ fee_shown 5 6 ∷ [] ≡ (2 ^ 64 - 6) ∷ 0 ∷ 0 ∷ []

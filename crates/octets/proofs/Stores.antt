@@ -2,11 +2,12 @@
 -- Assumes nothing.
 use mathlib.Core.Path.{◌≡◌, refl, sym, ◌∙◌}
 use mathlib.Core.List.{List, [], ◌∷◌, ◌++◌, append-nil, append_assoc}
-use Prim.Native.Nat.{ℕ, zero, suc, ◌+◌, ◌≤◌}
+use Prim.Native.Nat.{ℕ, zero, suc, ◌+◌, ◌≤◌, ◌<◌}
 use native.Mathlib.Nat.{zero-add, add-zero}
+use native.Mathlib.Numerals.{add-one}
 use native.Mathlib.Omega.{arith}
-use lib.ListN.{length, take, drop, set, length-set, drop_of_length-le}
-use lib.Seq.{sets, sets-eq, set_out, take_all, drop-drop, length-take-le}
+use lib.ListN.{length, take, drop, get_or, set, length-set, drop_of_length-le}
+use lib.Seq.{sets, sets-eq, set_out, take_all, drop-cons, drop-drop, length-take-le}
 use borrow.Rule.Slice.PartMut.{mid_of, put_mid}
 use Rattle.octets.proofs.Parts.{part_length}
 
@@ -44,6 +45,16 @@ sets_over l bs h =
     sym (sets-clip bs l 0 (length l) (omega arith))
     ∙ (sets-front l (take (length l) bs) (omega arith) ∙ rw (drop_of_length-le l m, append-nil))
 
+-- a turn of the loop that stores a run: its next place, and then the rest; and nothing behind the last
+pub run-turn : (out run : List ℕ) (at i : ℕ) → i < length run
+    → sets out (at + i) (drop i run) ≡ sets (set out (at + i) (get_or run i 0)) (at + (i + 1)) (drop (i + 1) run)
+run-turn out run at i h =
+    let e : drop i run ≡ get_or run i 0 ∷ drop (i + 1) run = rw add-one (drop-cons run i 0 h) in
+    sym (sets-cons out (at + i) (get_or run i 0) (drop (i + 1) run) (at + (i + 1)) (drop i run) (omega arith) e)
+
+pub run-none : (out run : List ℕ) (at i : ℕ) → length run ≤ i → sets out at (drop i run) ≡ out
+run-none out run at i h = rw (drop_of_length-le run h)
+
 -- a part of a list was lent, and came back as a run that fills it
 pub lent_run : (l bs : List ℕ) (at n : ℕ) → length bs ≡ n → at + n ≤ length l → put_mid at n l bs ≡ sets l at bs
 lent_run l bs at n e h = rw (sets-eq bs l at (omega arith), e, drop-drop n at l, append_assoc)
@@ -57,3 +68,5 @@ sets-lent l bs ys at n e h k =
 
 -- what a store past the end, or past it in part, leaves
 pub ruleset store_laws = (sets-out, sets-clip)
+
+pub ruleset run_turns = (run-turn, run-none)

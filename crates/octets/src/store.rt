@@ -30,17 +30,28 @@ pub fn store_number(out: &mut [u8], at: usize, width: usize, value: u64)
     }
 }
 
+// A loop, and not `copy_from_slice`, which calls memmove: the archives for C need no name from outside for it.
+#[tactic(auto, using(crate::proofs::Stores::run_turns))]
+fn write_bytes(out: &mut [u8], at: usize, run: &[u8])
+    requires { at + length run.now ≤ length out.old }
+    ensures { out.new ≡ sets out.old at run.now }
+{
+    for (i, &byte) in run.iter().enumerate() {
+        out[at + i] = byte;
+    }
+}
+
 // Stores the bytes of `run` from `at` on.
-#[tactic(auto, using(crate::proofs::Stores::store_laws, crate::proofs::Stores::lent_run))]
+#[tactic(auto, using(crate::proofs::Stores::store_laws))]
 pub fn store_bytes(out: &mut [u8], at: usize, run: &[u8])
     ensures { out.new ≡ sets out.old at run.now }
 {
     if at < out.len() {
         let room = out.len() - at;
         if run.len() <= room {
-            out[at..at + run.len()].copy_from_slice(run);
+            write_bytes(out, at, run);
         } else {
-            out[at..].copy_from_slice(&run[..room]);
+            write_bytes(out, at, &run[..room]);
         }
     }
 }

@@ -1,6 +1,6 @@
 -- The rows and the request of one proof: by the entry that was found, and how long the request is.
 -- Assumes nothing.
-use Rattle.std.specs.Prelude.{Ok, is_some}
+use Rattle.std.specs.Prelude.{Ok, Option, is_some}
 use mathlib.Core.Path.{◌≡◌, refl, sym, ap, ◌∙◌}
 use mathlib.Core.Bool.{Bool}
 use mathlib.Core.List.{List, [], ◌∷◌}
@@ -115,5 +115,12 @@ module _ (table store state : List ℕ) (operation : ℕ) (digest : List ℕ) (r
         → request_stored (request_content operation digest (entry_of (entry_in state (entry_place slot state))) (proof_with slot bytes)) out
         ≡ answered out (request_of (walk_context table store state operation digest room) (proof_with slot bytes))
     request_stands out r = rw request_found (made-stored _ operation digest _ _ (proof_with slot bytes) room d found-pass out r)
+
+-- the rows by an entry that was found already
+pub found_rows_lem : (table store state : List ℕ) (operation : ℕ) (digest : List ℕ) (room slot : ℕ) (bytes : List ℕ) (place : Option ℕ)
+    → place ≡ entry_place slot state
+    → found_rows (is_some place) operation (scene_deps table store) (entry_of (entry_in state place)) (length bytes) room
+    ≡ proof_rows (walk_context table store state operation digest room) 0 (proof_with slot bytes)
+found_rows_lem table store state operation digest room slot bytes place f = rw f (sym (rows_found table store state operation digest room slot bytes))
 
 pub ruleset requests = (rows_found, weight_found, request_writes, request_stands)

@@ -109,14 +109,14 @@ fn state_source(operation: u8) -> Source
 }
 
 // The data of the cell at an index that holds the current state.
-pub fn current_state<'a>(scene: &LentSlices<'a>, operation: u8, index: u32) -> &'a [u8]
+pub fn current_state<'s>(scene: &LentSlices<'_, 's>, operation: u8, index: u32) -> &'s [u8]
     ensures { result.now ≡ current_at operation index (scene_of scene.now) }
 {
     cell_content(scene, state_source(operation), index)
 }
 
 // The data of the output at an index, nothing where the state is spent from and has no successor.
-pub fn successor_state<'a>(scene: &LentSlices<'a>, operation: u8, index: u32) -> &'a [u8]
+pub fn successor_state<'s>(scene: &LentSlices<'_, 's>, operation: u8, index: u32) -> &'s [u8]
     ensures { result.now ≡ successor_at operation index (scene_of scene.now) }
 {
     if operation == OP_SPEND {

@@ -1,4 +1,4 @@
-// Runs the request that holds its bytes, through the functions with plain parameters above it.
+// Runs the request that holds its bytes, through its functions.
 #![tactic(auto)]
 
 use held_request::{VerifierRequest, is_for};

@@ -5,11 +5,11 @@ use mathlib.Core.Path.{◌≡◌, refl, sym, ap, ◌∙◌}
 use mathlib.Core.List.{List, [], ◌∷◌, ◌++◌, append_assoc}
 use mathlib.Core.Logic.{⊎_elim}
 use native.Mathlib.Numerals.{add-one}
-use native.Mathlib.Nat.{le_refl, eq-or-lt_of_le}
+use native.Mathlib.Nat.{eq-or-lt_of_le}
 use native.Mathlib.Omega.{arith}
 use borrow.Author.Tests.{ltb-false}
-use lib.ListN.{length, take, drop, get_or}
-use lib.Seq.{take_all, length-take-le}
+use lib.ListN.{length, take, drop, get_or, drop_of_length-le}
+use lib.Seq.{drop-cons, length-take-le}
 use lib.Dec.{eqb, ltb}
 use Rattle.std.specs.Prelude.{Option, None, Some, position, unwrap_or}
 use Rattle.std.specs.List.{count_by, position_or_len}
@@ -63,19 +63,6 @@ cut_found c s o e = rw e (go (ltb n (length s)) refl)
         let last : n ≡ length s = omega (arith, k.within, ltb-false n (length s) h) in
         rw last at k
 
--- where it finds none, the text is the one piece
-pub cut_none : (c : ℕ) (s : List ℕ) (o : Option ℕ) → o ≡ position (λ y. eqb y c) s → o ≡ None → pieces c s ≡ s ∷ []
-cut_none c s o e n =
-    let k : Cut c s (length s) = rw n at (cut_found c s o e) in
-    k.whole refl ∙ rw (take_all (length s) s (le_refl (length s)))
-
--- where it finds one, the piece before it and those behind it
-pub cut_some : (c : ℕ) (s : List ℕ) (o : Option ℕ) (n : ℕ) → o ≡ position (λ y. eqb y c) s → o ≡ Some n → n < length s
-    → pieces c s ≡ take n s ∷ pieces c (drop (n + 1) s)
-cut_some c s o n e is h =
-    let k : Cut c s n = rw is at (cut_found c s o e) in
-    k.cut h
-
 -- whichever way a text is cut, its first piece is what stands before the cut
 pub cut-first : (c : ℕ) (s : List ℕ) (n : ℕ) → Cut c s n → (ps : List (List ℕ)) × (pieces c s ≡ take n s ∷ ps)
 cut-first c s n k = ⊎_elim (λ e. ([], k.whole e)) (λ h. (pieces c (drop (n + 1) s), k.cut h)) (eq-or-lt_of_le k.within)
@@ -100,6 +87,27 @@ pieces_count c (x ∷ s) = rw (sum_by-cons (λ y. cond (eqb y c) 1 0) x s) (go (
         → cond b 1 0 + count_by (λ y. eqb y c) s + 1 ≡ length (cond b ([] ∷ pieces c s) (before (x ∷ []) (pieces c s)))
     go true e = omega arith
     go false e = omega (arith, length_before (x ∷ []) (pieces c s) (before-none c s))
+
+-- a turn of the loop that counts the separators, and what it comes to
+pub count-turn : (c : ℕ) (s : List ℕ) (i : ℕ) → i < length s
+    → count_by (λ y. eqb y c) (drop i s) ≡ cond (eqb (get_or s i 0) c) 1 0 + count_by (λ y. eqb y c) (drop (i + 1) s)
+count-turn c s i h = rw (add-one, drop-cons s i 0 h) (sum_by-cons (λ y. cond (eqb y c) 1 0) (get_or s i 0) (drop (suc i) s))
+
+pub count-none : (c : ℕ) (s : List ℕ) (i : ℕ) → length s ≤ i → count_by (λ y. eqb y c) (drop i s) ≡ 0
+count-none c s i h = rw (drop_of_length-le s h)
+
+pub count-start : (c : ℕ) (s : List ℕ) → 1 + count_by (λ y. eqb y c) s ≡ length (pieces c s)
+count-start c s = omega (arith, pieces_count c s)
+
+pub ruleset count_turns = (count-start, count-turn, count-none)
+
+-- a text is cut in two in one way alone: behind its first piece, and only where it has another
+pub split-place : (c : ℕ) (s a b : List ℕ) → pieces c s ≡ a ∷ pieces c b → b ≡ drop (length a + 1) s
+    → (a ≡ get_or (pieces c s) 0 []) × (b ≡ drop (length (get_or (pieces c s) 0 []) + 1) s)
+split-place c s a b e d = rw e (refl, d)
+
+pub split-one : (c : ℕ) (s a b : List ℕ) → pieces c s ≡ s ∷ [] → pieces c s ≡ a ∷ pieces c b → ⊥
+split-one c s a b w e = omega (arith, ap length (sym w ∙ e), pieces_count c b)
 
 -- they have no more bytes than the text
 joined-before : (x : ℕ) (ps : List (List ℕ)) → length (joined (before (x ∷ []) ps)) ≡ suc (length (joined ps))

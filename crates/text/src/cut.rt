@@ -36,16 +36,25 @@ pub fn tail(s: &[u8], e: usize) -> &[u8]
 pub fn split_once(s: &[u8], c: u8) -> Option<(&[u8], &[u8])>
     ensures none { IfNone result (pieces c s.now ≡ s.now ∷ []) }
     ensures some { IfSome result (λ cut. pieces c s.now ≡ cut.0.now ∷ pieces c cut.1.now) }
+    ensures some_place { IfSome result (λ cut.
+        (cut.0.now ≡ take (length cut.0.now) s.now) × (cut.1.now ≡ drop (length cut.0.now + 1) s.now)) }
     ensures some_len { IfSome result (λ cut. length cut.0.now + 1 + length cut.1.now ≡ length s.now) }
 {
-    let end = s.iter().position(|&byte| byte == c)?;
-    Some((&s[..end], &s[end + 1..]))
+    let end = find(s, c);
+    if end == s.len() {
+        return None;
+    }
+    Some((head(s, end), tail(s, end)))
 }
 
-// How many pieces c cuts s into.
-#[tactic(auto, using(crate::proofs::Pieces::pieces_count))]
+// How many pieces c cuts s into. A sum, and not `filter` and `count`, so that the compiler tests several bytes at once.
+#[tactic(auto, using(crate::proofs::Pieces::count_turns))]
 pub fn count(s: &[u8], c: u8) -> usize
     ensures { result ≡ length (pieces c s.now) }
 {
-    s.iter().filter(|&&byte| byte == c).count() + 1
+    let mut found = 1;
+    for &byte in s {
+        found += usize::from(byte == c);
+    }
+    found
 }

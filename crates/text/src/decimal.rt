@@ -3,11 +3,22 @@ ghost use Rattle.std.specs.Prelude.{◌≡◌, true};
 ghost use Rattle.octets.specs.Lists.{every};
 ghost use Rattle.text.specs.Text.{in_range, number_of, decimal_of};
 
-// Whether each byte of s is from low to high.
+fn is_between(byte: u8, low: u8, high: u8) -> bool
+    ensures { result ≡ in_range low high byte }
+{
+    low <= byte && byte <= high
+}
+
+// Whether each byte of s is from low to high. The loop is not left early, so that the compiler tests several at once.
+#[tactic(auto, using(octets::proofs::Every::every_turns))]
 pub fn all_between(s: &[u8], low: u8, high: u8) -> bool
     ensures { result ≡ every (in_range low high) s.now }
 {
-    s.iter().all(|byte| (low..=high).contains(byte))
+    let mut ok = true;
+    for &byte in s {
+        ok &= is_between(byte, low, high);
+    }
+    ok
 }
 
 // The number that the digits s stand for.
